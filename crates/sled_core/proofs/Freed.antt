@@ -12,5 +12,6 @@ pub mod NoHarm
 pub mod OutdatedGoes
 pub mod PassedOver
 pub mod ReadLess
+pub mod ReadsAlike
 pub mod ReadsAs
 pub mod ShownReads

@@ -1,5 +1,5 @@
 -- A log file at rest in which nothing is foreign reads as what is shown of it, but for segments that are gone.
-use Rattle.std.proofs.Common.{◌≡◌, ◌⊎◌, ◌∙◌, ◌+◌, ◌*◌, ◌/◌, ◌%◌, ◌≤◌, ℕ, ℤ, pos, List, [], ◌∷◌, length, drop, length-take, sym, ap, subst, arith, inl, inr}
+use Rattle.std.proofs.Common.{◌≡◌, ◌⊎◌, ◌∙◌, ◌+◌, ◌*◌, ◌/◌, ◌≤◌, ℕ, ℤ, pos, List, [], ◌∷◌, drop, length-take, refl, sym, ap, subst, arith, inl, inr}
 use Rattle.std.proofs.Math.Nat.{mul-mod_left}
 use Rattle.sled_codec.specs.declared.serialization.message.MessageHeader.{MessageHeader}
 use Rattle.sled_codec.specs.History.{History}
@@ -9,25 +9,24 @@ use Rattle.sled_store.specs.Device.{State}
 use Rattle.sled_store.specs.Foreign.{HeaderWasPlaced, RecordWasPlaced}
 use Rattle.sled_store.specs.Readers.{at_start}
 use Rattle.sled_store.specs.SegmentStates.{Machine}
-use Rattle.sled_core.specs.declared.iterator.Segment.{Segment}
 use Rattle.sled_core.specs.declared.iterator.scan.ScannedRecord.{ScannedRecord}
 use Rattle.sled_core.specs.declared.iterator.scan.ScanEnd.{ScanEnd}
 use Rattle.sled_core.specs.declared.iterator.scan.ScanEnd.TheVariants.{Full, Capped, Broken}
 use Rattle.sled_core.specs.Begun.{SegmentView}
 use Rattle.sled_core.specs.Reading.{StandsAt}
 use Rattle.sled_core.specs.Scan.{EndsThere, IsEnd, IsMet, IsPath, IsScan}
-use Rattle.sled_core.specs.inside.Cleared.{cleared, is_stale}
+use Rattle.sled_core.specs.inside.Cleared.{cleared}
 use Rattle.sled_core.specs.inside.Hides.{Hides, IsGoneSegment, IsOwnHeader, ReadsOwnIn, ReadsShown}
 use Rattle.sled_core.specs.inside.OwnLog.{ReadsOwn, ReadsPlaced}
-use Rattle.sled_core.specs.inside.Scan.{IsFoundSegment}
-use Rattle.sled_core.proofs.Cleared.Offsets.{zeroed_long}
+use Rattle.sled_core.specs.inside.Slots.{marked_at}
 use Rattle.sled_core.proofs.Freed.Gone.{ReadsAs}
+use Rattle.sled_core.proofs.Freed.Hides.{gone_in}
+use Rattle.sled_core.proofs.Freed.ReadsAlike.{ReadsAlike, ReadsSame, reads_as, same_along}
 use Rattle.sled_core.proofs.OwnLog.Kept.{part_in}
 use Rattle.sled_core.proofs.Tail.LogFileLemmas.{record_moved}
-use Rattle.sled_core.proofs.Torn.AlikeSlots.{slot_found}
-use Rattle.sled_core.proofs.Torn.TornRecords.{record_read, says_plain}
-use Rattle.sled_core.proofs.Torn.WrittenBeside.{found_moved}
-use Rattle.sled_core.proofs.Torn.WrittenParts.{ComesTo, all_there, comes_behind, in_segment}
+use Rattle.sled_core.proofs.Torn.AlikeSlots.{SameIn}
+use Rattle.sled_core.proofs.Torn.TornRecords.{long_enough, record_read, says_plain}
+use Rattle.sled_core.proofs.Torn.WrittenParts.{ComesTo, all_there, comes_behind, in_segment, in_this_file}
 use Rattle.sled_core.proofs.Torn.WrittenRecords.{AlikeAlong}
 
 -- where a reader of a segment comes in one file, a record of it that stands there stands in another one too
@@ -66,6 +65,23 @@ module _ (sum : List ℕ → ℕ) (size : ℕ) (old new : List ℕ) (slot place 
   unfolding IsScan
   scan_read met stop why (path, end) = scan_from 20 at_start at_start met stop why path end
 
+-- So it is where each record that a reader of either comes to has the same bytes in the other.
+stands_of : (sum : List ℕ → ℕ) (size : ℕ) (a b : List ℕ) (slot place : ℕ) → ReadsSame sum size a b slot place → StandsRead sum size a b slot place
+stands_of sum size a b slot place same from comes room h body len stands =
+    let lid : ℕ = slot * size + from in
+    let alike = same from room comes h body len stands in
+    let eight = long_enough sum size a lid (place / size) h body len stands in
+    let whole = all_there sum size a lid (place / size) h body len stands in
+    record_moved sum size a b lid (place / size) h body len alike (in_this_file sum size b a lid len (omega (arith, eight)) whole alike) stands
+
+pub both_alike : (sum : List ℕ → ℕ) (size : ℕ) (a b : List ℕ) (slot place : ℕ) → part b (slot * size) 20 ≡ part a (slot * size) 20
+    → ReadsSame sum size a b slot place → ReadsSame sum size b a slot place → ReadsAlike sum size a b slot place
+both_alike sum size a b slot place header on back = record {
+  header = header;
+  scans = scan_read sum size a b slot place (stands_of sum size a b slot place on) (stands_of sum size b a slot place back);
+  bytes = λ ms next path. same_along sum size a b slot place on 20 at_start ms next path;
+}
+
 -- A file in which a reader reads nothing but what is own: each header that stands there is own, and so is each record of its number that is read.
 module _ (sum : List ℕ → ℕ) (size : ℕ) (s : State) (log : List ℕ)
     (own : (slot : ℕ) → ReadsOwn sum size (HeaderWasPlaced s.placed) (RecordWasPlaced sum size s.placed) log slot) where
@@ -83,8 +99,32 @@ module _ (sum : List ℕ → ℕ) (size : ℕ) (s : State) (log : List ℕ)
         placed = (own k).records place mark at len header r;
       }
 
+-- A record that a reader of a segment comes to in what is shown stands in each file that has the bytes of its slot.
+module _ (sum : List ℕ → ℕ) (size : ℕ) (m : Machine) (shown log : List ℕ) (reads : ReadsShown sum size m shown log) (k place : ℕ) (mark : ℤ)
+    (header : IsHeader sum (part shown (k * size) 20) (pos place) mark) where
+  pub shown_kept : (left : List ℕ) → SameIn size log left k → ReadsSame sum size shown left k place
+  shown_kept left same from room comes h body len stands =
+      let lid : ℕ = k * size + from in
+      let in_log = reads.records k place mark from len header
+      (record_read sum size shown (record { place = place; slot = k * size }) (mul-mod_left k size) (place / size) 20 from h body len room stands comes) in
+      let eight = long_enough sum size shown lid (place / size) h body len stands in
+      let whole = all_there sum size shown lid (place / size) h body len stands in
+      let fits = in_segment sum size shown (k * size) (mul-mod_left k size) from (place / size) h body len (omega (arith, room)) stands in
+      let there = in_this_file sum size log shown lid len (omega (arith, eight)) whole in_log in
+      same lid len (omega arith) (omega (arith, whole, fits)) there ∙ in_log
+
+  -- So it does in the log file.
+  in_itself : SameIn size log log k
+  in_itself lid len low high there = refl
+
+  pub shown_there : ReadsSame sum size shown log k place
+  shown_there = shown_kept log in_itself
+
+  pub alike_there : (ms : List ScannedRecord) (next : ℕ) → IsPath sum size shown (k * size) place 20 ms next → AlikeAlong shown log (k * size) 20 ms
+  alike_there ms next path = same_along sum size shown log k place shown_there 20 at_start ms next path
+
 module _ (sum : List ℕ → ℕ) (size : ℕ) (s : State) (m : Machine) (line : List SegmentView) (least base : ℕ) (H : History)
-    (hides : Hides sum size s m line least base H) (own : ReadsPlaced sum size s) where
+    (hides : Hides sum size s m line least base H) where
   abbrev log : List ℕ
   log = s.log.bytes
 
@@ -92,117 +132,38 @@ module _ (sum : List ℕ → ℕ) (size : ℕ) (s : State) (m : Machine) (line :
   shown = cleared size m line log
 
   module _ (reads : ReadsShown sum size m shown log) where
-    long : length shown ≡ length log
-    long = zeroed_long (is_stale size m line) log
+    -- Where all that a reader reads in a file of the segment of a header that is shown is own, it is shown.
+    pub own_same : (k place : ℕ) (mark : ℤ) → IsHeader sum (part shown (k * size) 20) (pos place) mark → (left : List ℕ)
+        → ReadsOwnIn sum size s k (place / size) left → ReadsSame sum size left shown k place
+    own_same k place mark header left own from room comes h body len stands =
+        let lid : ℕ = k * size + from in
+        let text : List ℕ = part left lid len in
+        let whole = all_there sum size left lid (place / size) h body len stands in
+        let fits = in_segment sum size left (k * size) (mul-mod_left k size) from (place / size) h body len (omega (arith, room)) stands in
+        let its = reads.slots k place mark header in
+        let owned = own from len
+        (record_read sum size left (record { place = place; slot = k * size }) (mul-mod_left k size) (place / size) 20 from h body len room stands comes) in
+        ap (part shown lid) (sym whole)
+        ∙ (hides.taken k (place / size) lid text its.0 (omega arith, omega (arith, whole, fits)) owned).1 (ap (λ n. n / size) (sym its.1))
 
-    -- The segment of a header that is shown.
-    module _ (k place : ℕ) (mark : ℤ) (header : IsHeader sum (part shown (k * size) 20) (pos place) mark) where
-      aligned : k * size % size ≡ 0
-      aligned = mul-mod_left k size
+    -- Nothing is foreign in the file.
+    module _ (own : ReadsPlaced sum size s) where
+      -- Each segment that is shown is read in it as it is shown,
+      pub rest_alike : (k place : ℕ) (mark : ℤ) → IsHeader sum (part shown (k * size) 20) (pos place) mark → ReadsAlike sum size shown log k place
+      rest_alike k place mark header =
+          let there = reads.headers k place mark header in
+          both_alike sum size shown log k place there (shown_there sum size m shown log reads k place mark header)
+          (own_same k place mark header log
+          (own_record sum size s log own k place mark (subst (λ (l : List ℕ). IsHeader sum l (pos place) mark) (sym there) header)))
 
-      pub header_there : IsHeader sum (part log (k * size) 20) (pos place) mark
-      header_there = subst (λ (l : List ℕ). IsHeader sum l (pos place) mark) (sym (reads.headers k place mark header)) header
+      -- and one that is found in it from the snapshot's on is shown, or gone.
+      shown_or_gone : (k place : ℕ) (mark : ℤ) → least ≤ place → IsHeader sum (part log (k * size) 20) (pos place) mark
+          → IsHeader sum (part shown (k * size) 20) (pos place) mark ⊎ IsGoneSegment sum size log H base (marked_at (k * size) place mark)
+      shown_or_gone k place mark low header = elim (hides.headers k place mark low (own_header sum size s log own k place mark header)) [
+        | inl is ↦ inl is
+        | inr gone ↦ inr (gone_in sum size s m base H k place mark gone log (own_record sum size s log own k place mark header))
+      ]
 
-      -- A record of it that is read in what is shown stands in the file,
-      pub same_there : (from : ℕ) → ComesTo sum size shown (k * size) place from → from + 32 ≤ size → (h : MessageHeader) (body : List ℕ) (len : ℕ)
-          → StandsAt sum size shown (k * size + from) (place / size) h body len → part log (k * size + from) len ≡ part shown (k * size + from) len
-      same_there from comes room h body len stands =
-          reads.records k place mark from len header
-          (record_read sum size shown (record { place = place; slot = k * size }) aligned (place / size) 20 from h body len room stands comes)
-
-      pub stands_there : StandsRead sum size shown log k place
-      stands_there from comes room h body len stands =
-          let there = stands.in_file in
-          record_moved sum size shown log (k * size + from) (place / size) h body len (same_there from comes room h body len stands) (omega (arith, there, long)) stands
-
-      -- and one that is read in the file is own, so shown.
-      pub stands_shown : StandsRead sum size log shown k place
-      stands_shown from comes room h body len stands =
-          let there = stands.in_file in
-          let lid : ℕ = k * size + from in
-          let text : List ℕ = part log lid len in
-          let whole = all_there sum size log lid (place / size) h body len stands in
-          let fits = in_segment sum size log (k * size) aligned from (place / size) h body len (omega (arith, room)) stands in
-          let its = reads.slots k place mark header in
-          let owned = own_record sum size s log own k place mark header_there from len
-          (record_read sum size log (record { place = place; slot = k * size }) aligned (place / size) 20 from h body len room stands comes) in
-          let same = (hides.taken k (place / size) lid text its.0 (omega arith, omega (arith, whole, fits)) owned).1 (ap (λ n. n / size) (sym its.1)) in
-          record_moved sum size log shown lid (place / size) h body len (ap (part shown lid) (sym whole) ∙ same) (omega (arith, there, long)) stands
-
-      -- So all is met in the file as in what is shown,
-      pub scan_there : (met : List ScannedRecord) (stop : ℕ) (why : ScanEnd) → IsScan sum size shown (k * size) place met stop why
-          → IsScan sum size log (k * size) place met stop why
-      scan_there = scan_read sum size shown log k place stands_there stands_shown
-
-      -- with the same bytes.
-      alike_from : (from : ℕ) → ComesTo sum size shown (k * size) place from → (ms : List ScannedRecord) (next : ℕ)
-          → IsPath sum size shown (k * size) place from ms next → AlikeAlong shown log (k * size) from ms
-      unfolding IsMet
-      alike_from from comes [] next path = tt
-      alike_from from comes (x ∷ xs) next (room, at_place, (h, body, stands, says), path) =
-          let there = stands.in_file in (
-            same_there from comes room h body x.len stands,
-            omega (arith, there, long),
-            alike_from (from + x.len)
-                (comes_behind sum size shown (k * size) aligned place from h body x.len room (says_plain h body (k * size + from) x.what says) stands comes)
-                xs next path,
-          )
-
-      pub alike_there : (ms : List ScannedRecord) (next : ℕ) → IsPath sum size shown (k * size) place 20 ms next → AlikeAlong shown log (k * size) 20 ms
-      alike_there = alike_from 20 at_start
-
-    -- A segment that is shown.
-    module _ (t : Segment) (found : IsFoundSegment sum size shown 0 t) where
-      abbrev slot : ℕ
-      slot = t.slot / size
-
-      here : t.slot ≡ slot * size
-      here = slot_found sum size shown 0 t found
-
-      shown_header : IsHeader sum (part shown (slot * size) 20) (pos t.place) t.mark
-      shown_header = subst (λ n. IsHeader sum (part shown n 20) (pos t.place) t.mark) here found.header
-
-      pub found_too : IsFoundSegment sum size log 0 t
-      found_too = found_moved sum size shown log 0 t
-          (subst (λ n. part log n 20 ≡ part shown n 20) (sym here) (reads.headers slot t.place t.mark shown_header)) found
-
-      pub read_too : (met : List ScannedRecord) (stop : ℕ) (why : ScanEnd) → IsScan sum size shown t.slot t.place met stop why
-          → IsScan sum size log t.slot t.place met stop why
-      read_too met stop why =
-          subst (λ n. IsScan sum size shown n t.place met stop why → IsScan sum size log n t.place met stop why) (sym here)
-          (scan_there slot t.place t.mark shown_header met stop why)
-
-      pub alike_too : (ms : List ScannedRecord) (next : ℕ) → IsPath sum size shown t.slot t.place 20 ms next → AlikeAlong shown log t.slot 20 ms
-      alike_too ms next =
-          subst (λ n. IsPath sum size shown n t.place 20 ms next → AlikeAlong shown log n 20 ms) (sym here)
-          (alike_there slot t.place t.mark shown_header ms next)
-
-    -- One that is found in the file from there on is shown, or gone.
-    pub shown_or_gone : (t : Segment) → IsFoundSegment sum size log least t → IsFoundSegment sum size shown least t ⊎ IsGoneSegment sum size log H base t
-    shown_or_gone t found =
-        let k : ℕ = t.slot / size in
-        let here = slot_found sum size log least t found in
-        let header = subst (λ n. IsHeader sum (part log n 20) (pos t.place) t.mark) here found.header in
-        elim (hides.headers k t.place t.mark found.not_below (own_header sum size s log own k t.place t.mark header)) [
-          | inl is ↦ inl (record {
-            slot = found.slot;
-            header = subst (λ n. IsHeader sum (part shown n 20) (pos t.place) t.mark) (sym here) is;
-            not_below = found.not_below;
-          })
-          | inr gone ↦ inr (
-              subst (λ n. IsGoneSegment sum size log H base (record { place = t.place; slot = n; mark = t.mark })) (sym here)
-              (record {
-                below = gone.below;
-                is_mark = gone.is_mark;
-                reading = gone.reading log (own_record sum size s log own k t.place t.mark header);
-              }))
-        ]
-
-    -- So the file reads as what is shown of it, but for segments that are gone.
-    pub reads_as_shown : ReadsAs sum size least H base shown log
-    reads_as_shown = record {
-      kept = found_too;
-      scans = λ t found. read_too t.segment found t.met t.stop t.why;
-      bytes = λ t found ms next. alike_too t found ms next;
-      others = shown_or_gone;
-    }
+      -- So the file reads as what is shown of it, but for segments that are gone.
+      pub reads_as_shown : ReadsAs sum size least H base shown log
+      reads_as_shown = reads_as sum size least H base shown log rest_alike shown_or_gone

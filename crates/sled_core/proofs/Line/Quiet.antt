@@ -89,7 +89,8 @@ module _ (sum : List ℕ → ℕ) (none : NoHeaderOfZeros sum) (size : ℕ) (som
   rises : LineRises size line
   rises = line_rises size place line are
 
-  waits : (n : ℕ) (u : SegmentView) → slice_get line n ≡ Some u → HeadWaits size u
+  -- the header of each is in its first buffer
+  pub waits : (n : ℕ) (u : SegmentView) → slice_get line n ≡ Some u → HeadWaits size u
   waits n u at fresh i low high =
       let s = nth_segment size place line are n u at in
       head_unwritten u.parts.site.slot u.parts.written_len u.parts.reserved u.parts.sealed size (omega (arith, some)) s.fresh s.are fresh i low high
@@ -135,7 +136,8 @@ module _ (sum : List ℕ → ℕ) (none : NoHeaderOfZeros sum) (size : ℕ) (som
       abbrev Stands : SegmentView → ℕ → Type 0
       Stands u = StandsIn sum size (cleared size m line s.log.bytes) (least_place size first) among.stands.scanned u.parts.site u.parts.written_len
 
-      stands_each : (n : ℕ) (u : SegmentView) → slice_get line n ≡ Some u → (records : ℕ) × Stands u records
+      -- each of them stands there as far as it is written
+      pub stands_each : (n : ℕ) (u : SegmentView) → slice_get line n ≡ Some u → (records : ℕ) × Stands u records
       stands_each zero u at = let same : v ≡ u = cc in (0, subst (λ (y : SegmentView). Stands y 0) same among.here)
       stands_each (suc n) u at = (records_to u.parts.filled size, among.behind (begun_segment u.parts) (begun_there vs n u at))
 
@@ -147,12 +149,12 @@ module _ (sum : List ℕ → ℕ) (none : NoHeaderOfZeros sum) (size : ℕ) (som
       module _ (base : ℕ) (hides : Hides sum size s m line (least_place size first) base H) (placed : ReadsPlaced sum size s) where
         -- It reads as what is shown of it, but for segments that are gone.
         pub quiet_reads : ReadsAs sum size (least_place size first) H base (cleared size m line s.log.bytes) s.log.bytes
-        quiet_reads = reads_as_shown sum size s m line (least_place size first) base H hides placed quiet_shown
+        quiet_reads = reads_as_shown sum size s m line (least_place size first) base H hides quiet_shown placed
 
         -- So it can be recovered where that can, with the same cut.
         pub quiet_recoverable : (A : ℕ) (cut : ℕ × Option ℕ) (is : IsRecoverableLog sum size (cleared size m line s.log.bytes) H A first cut)
             → base ≤ tail_begins size (least_place size first) is.ordering → IsRecoverableLog sum size s.log.bytes H A first cut
         quiet_recoverable A cut is low =
             gone_do_no_harm sum size some (cleared size m line s.log.bytes) s.log.bytes H A first cut is base quiet_reads low
-            (λ t found gone. found_alone sum size s m line (least_place size first) base H hides quiet_shown (line_end size line) own s.log.bytes
-            (own_header sum size s s.log.bytes placed) t found)
+            (λ t found gone. found_alone sum size (omega (arith, some)) s m line (least_place size first) base H hides quiet_shown (line_end size line) own
+            s.log.bytes (λ k p mark header. inl (own_header sum size s s.log.bytes placed k p mark header)) t found gone.below)

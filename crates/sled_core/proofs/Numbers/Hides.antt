@@ -7,7 +7,8 @@ use Rattle.sled_store.specs.Device.{Crashed, Left, State, Synced, log_left, step
 use Rattle.sled_store.specs.SegmentStates.{Machine, is_free, slot_at}
 use Rattle.sled_core.specs.Begun.{SegmentView}
 use Rattle.sled_core.specs.inside.Cleared.{cleared}
-use Rattle.sled_core.specs.inside.Hides.{HasSegment, Hides, IsGone, IsOwnHeader, IsOwnRecord, LiesInSlot}
+use Rattle.sled_core.specs.inside.Hides.{HasSegment, Hides, IsGone, IsGoneSegment, IsOwnHeader, IsOwnRecord, LiesInSlot, ReadsOwnIn}
+use Rattle.sled_core.specs.inside.Slots.{marked_at}
 use Rattle.sled_core.proofs.Numbers.OwnLess.{OwnLess, less_crashed, less_synced}
 
 module _ (sum : List ℕ → ℕ) (size : ℕ) where
@@ -31,6 +32,11 @@ module _ (sum : List ℕ → ℕ) (size : ℕ) where
     is_mark = gone.is_mark;
     reading = λ log own. gone.reading log (λ at len r. less (k * size + at) (part log (k * size + at) len) (own at len r));
   }
+
+  -- In a file in which a reader reads nothing of it but what is own it is gone.
+  pub gone_in : (s : State) (m : Machine) (base : ℕ) (H : History) (k place : ℕ) (mark : ℤ) → IsGone sum size s m base H k place mark → (log : List ℕ)
+      → ReadsOwnIn sum size s k (place / size) log → IsGoneSegment sum size log H base (marked_at (k * size) place mark)
+  gone_in s m base H k place mark gone log own = record { below = gone.below; is_mark = gone.is_mark; reading = gone.reading log own }
 
   module _ (s : State) (m : Machine) (line : List SegmentView) (least base : ℕ) (H : History) (hides : Hides sum size s m line least base H) where
     -- Less is own, and what is shown stays.

@@ -142,6 +142,16 @@ pub path_whole : (sum : List ℕ → ℕ) (size : ℕ) (old : List ℕ) (at : �
     → IsPath sum size old slot place from ms next → IsPath sum size (overwritten old at asked) slot place from ms next
 path_whole sum size old at asked = path_kept sum size old (overwritten old at asked) at (length asked) (file_grows sum size old at asked) (part_kept sum size old at asked)
 
+-- what a write covers is read where all of it was written
+pub covered_laid : (sum : List ℕ → ℕ) (size : ℕ) (old : List ℕ) (at : ℕ) (asked left : List ℕ) (lid len : ℕ) → length (part left lid len) ≡ len → Covers (at, asked) lid (part left lid len)
+    → part (overwritten old at asked) lid len ≡ part left lid len
+covered_laid sum size old at asked left lid len whole by =
+    let new : List ℕ = overwritten old at asked in
+    let begins = by.begins in
+    let ends = by.ends in
+    let there : at + (lid - at) ≡ lid = omega (arith, begins) in
+    ap (λ n. part new n len) (sym there) ∙ part_laid sum size old at asked (lid - at) len (omega (arith, begins, ends, whole)) ∙ ap (part asked (lid - at)) (sym whole) ∙ by.same
+
 module _ (sum : List ℕ → ℕ) (size : ℕ) (old : List ℕ) (at : ℕ) (asked now left : List ℕ) (no_more : length now ≤ length asked) (leaves : LeavesLog (after_write old at asked now) left) where
   -- A record that the write doesn't touch stands.
   pub record_stays : (lid number : ℕ) (h : MessageHeader) (body : List ℕ) (len : ℕ) → (lid + len ≤ at) ⊎ (at + length asked ≤ lid) → StandsAt sum size old lid number h body len → StandsAt sum size left lid number h body len
@@ -150,15 +160,6 @@ module _ (sum : List ℕ → ℕ) (size : ℕ) (old : List ℕ) (at : ℕ) (aske
   -- What was met before the write, or in another slot, still is.
   pub path_stays : (slot place : ℕ) → slot % size ≡ 0 → (from : ℕ) (ms : List ScannedRecord) (next : ℕ) → (slot + min next size ≤ at) ⊎ (at + length asked ≤ slot) → IsPath sum size old slot place from ms next → IsPath sum size left slot place from ms next
   path_stays = path_kept sum size old left at (length asked) (left_grows old at asked now left no_more leaves) (part_left old at asked now left no_more leaves)
-
-  -- what the write covers is read where all of it was written
-  pub covered_new : (lid len : ℕ) → length (part left lid len) ≡ len → Covers (at, asked) lid (part left lid len) → part (overwritten old at asked) lid len ≡ part left lid len
-  covered_new lid len whole by =
-      let new : List ℕ = overwritten old at asked in
-      let begins = by.begins in
-      let ends = by.ends in
-      let there : at + (lid - at) ≡ lid = omega (arith, begins) in
-      ap (λ n. part new n len) (sym there) ∙ part_laid sum size old at asked (lid - at) len (omega (arith, begins, ends, whole)) ∙ ap (part asked (lid - at)) (sym whole) ∙ by.same
 
   module _ {placed : List Placement} (only_own : NoForeignLog sum size (after_write old at asked now) placed left) where
     -- what stands whole stood there before, or is a part of the write
