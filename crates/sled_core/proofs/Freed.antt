@@ -5,11 +5,15 @@ pub mod CutEnds
 pub mod CutHides
 pub mod FreedHides
 pub mod FreedSlots
+pub mod FrontWritten
 pub mod Gone
 pub mod GoneAlone
 pub mod KeptHides
+pub mod LeftOwn
+pub mod LineHides
 pub mod NoHarm
 pub mod OutdatedGoes
+pub mod OwnAlike
 pub mod PassedOver
 pub mod ReadLess
 pub mod ReadsAlike

@@ -48,7 +48,7 @@ module _ (sum : List ℕ → ℕ) (size : ℕ) (log : List ℕ) (slot : ℕ) (al
   inside_slot to fits = omega (arith, fits, length-take size (drop slot log))
 
   module _ (number first at len : ℕ) (above : 0 < at) (r : Reads sum size number text first at len) where
-    abbrev header_read : MessageHeader
+    abbrev pub header_read : MessageHeader
     header_read = record {
       crc32 = flipped (sum (r.body ++ drop 4 r.is.header));
       kind = r.kind;

@@ -19,6 +19,11 @@ use Rattle.sled_core.proofs.OwnLog.SlotEnds.{EndsAt, ends_full, longer, more, ow
 use Rattle.sled_core.proofs.Read.ScanLemmas.{aligned_offset}
 use Rattle.sled_core.proofs.Torn.TornRecords.{record_of_stands}
 
+-- What a reader comes to lies in the text.
+pub reads_inside : (sum : List ℕ → ℕ) (size number first at : ℕ) (text : List ℕ) → ReadsTo sum size number text first at → first ≤ length text → at ≤ length text
+reads_inside sum size number first at text at_start low = low
+reads_inside sum size number first at text (reads_past mid len k page body comes room plain fits is) low = fits
+
 module _ (sum : List ℕ → ℕ) (size : ℕ) (Header : ℕ → List ℕ → Type 0) (Own : ℕ → ℕ → List ℕ → Type 0) (log : List ℕ) (slot place : ℕ) (some : 0 < size) where
   pub scan_reads : (ms : List ScannedRecord) (stop : ℕ) (why : ScanEnd) → IsScan sum size log (slot * size) place ms stop why → ReadsTo sum size (place / size) (part log (slot * size) size) 20 stop
   unfolding IsScan
@@ -51,10 +56,6 @@ module _ (sum : List ℕ → ℕ) (size : ℕ) (Header : ℕ → List ℕ → Ty
       )
 
   -- So the slot is own of a segment that is read to its end, where what is read of it in the file is.
-  pub reads_inside : (number first at : ℕ) (text : List ℕ) → ReadsTo sum size number text first at → first ≤ length text → at ≤ length text
-  reads_inside number first at text at_start low = low
-  reads_inside number first at text (reads_past mid len k page body comes room plain fits is) low = fits
-
   pub slot_read_to_end : (mark : ℤ) → IsHeader sum (part log (slot * size) 20) (pos place) mark → 20 ≤ size → (ms : List ScannedRecord) (stop : ℕ) (why : ScanEnd) → why ≢ Broken → IsScan sum size log (slot * size) place ms stop why
       → ReadsOwn sum size Header Own log slot → HasOwnSlot sum size Header Own log slot
   slot_read_to_end mark header big ms stop why goes scan own =
@@ -67,4 +68,4 @@ module _ (sum : List ℕ → ℕ) (size : ℕ) (Header : ℕ → List ℕ → Ty
       let inside = r.inside in
       let fits : at + len ≤ size = omega (arith, inside, length-take size (drop (slot * size) log)) in
       subst (Own (place / size) (slot * size + at)) (sym (part_in size log (slot * size) at len fits)) (own.records place mark at len header r))
-      (reads_inside (place / size) 20 stop text comes long) comes (scan_ends ms stop why goes scan))
+      (reads_inside sum size (place / size) 20 stop text comes long) comes (scan_ends ms stop why goes scan))

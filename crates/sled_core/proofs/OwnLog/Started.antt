@@ -135,7 +135,7 @@ module _ (sum : List ℕ → ℕ) (size : ℕ) (Header : ℕ → List ℕ → Ty
       let comes = scan_reads sum size Header Own new slot place some ms from why scan in
       let twenty_long : length (part new (slot * size) 20) ≡ 20 = ap length header.is ∙ length-short_header sum (pos place) mark in
       let begun : 20 ≤ length text = omega (arith, twenty_long, long, length-take 20 (drop (slot * size) new), length-take size (drop (slot * size) new)) in
-      range_before sum size Header Own (omega (arith, long)) new slot place from ((own slot).header (pos place) mark header) low (reads_inside sum size Header Own new slot place some (place / size) 20 from text comes begun) comes (λ at len r.
+      range_before sum size Header Own (omega (arith, long)) new slot place from ((own slot).header (pos place) mark header) low (reads_inside sum size (place / size) 20 from text comes begun) comes (λ at len r.
       let inside = r.inside in
       let short : at + len ≤ size = omega (arith, inside, length-take size (drop (slot * size) new)) in
       subst (Own (place / size) (slot * size + at)) (sym (part_in size new (slot * size) at len short)) ((own slot).records place mark at len header r))
