@@ -19,3 +19,5 @@ pub mod ReadLess
 pub mod ReadsAlike
 pub mod ReadsAs
 pub mod ShownReads
+pub mod TornUnread
+pub mod WrittenHides
