@@ -19,5 +19,6 @@ pub mod ReadLess
 pub mod ReadsAlike
 pub mod ReadsAs
 pub mod ShownReads
+pub mod TornFront
 pub mod TornUnread
 pub mod WrittenHides
