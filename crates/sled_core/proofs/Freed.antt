@@ -21,4 +21,5 @@ pub mod ReadsAs
 pub mod ShownReads
 pub mod TornFront
 pub mod TornUnread
+pub mod WriteSlots
 pub mod WrittenHides
