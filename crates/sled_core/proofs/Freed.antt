@@ -10,6 +10,7 @@ pub mod Gone
 pub mod GoneAlone
 pub mod KeptHides
 pub mod LeftOwn
+pub mod LeftRecovers
 pub mod LineHides
 pub mod NoHarm
 pub mod OutdatedGoes
