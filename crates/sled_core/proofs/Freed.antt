@@ -1,5 +1,9 @@
 pub mod AlikeRecords
 pub mod AnyOrdering
+pub mod BesideReads
+pub mod Cleared
+pub mod ClearedCalls
+pub mod ClearedMoves
 pub mod ClearedShows
 pub mod CutEnds
 pub mod CutHides
@@ -21,6 +25,7 @@ pub mod ReadsAlike
 pub mod ReadsAs
 pub mod ShownReads
 pub mod TornFront
+pub mod TornReads
 pub mod TornUnread
 pub mod WriteSlots
 pub mod WrittenHides
