@@ -7,6 +7,9 @@ pub mod ClearedMoves
 pub mod ClearedShows
 pub mod CutEnds
 pub mod CutHides
+pub mod CutReads
+pub mod CutRecovers
+pub mod Emptied
 pub mod FreedHides
 pub mod FreedSlots
 pub mod FrontWritten

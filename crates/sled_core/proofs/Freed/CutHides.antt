@@ -2,7 +2,7 @@
 use Rattle.std.proofs.Common.{◌≡◌, ◌∙◌, ◌+◌, ◌*◌, ◌%◌, ◌≤◌, ◌<◌, ℕ, zero, suc, ℤ, pos, nat_lt, Bool, true, false, if◌then◌else◌, List, [], ◌∷◌, length, take, drop, get_or, refl, sym, ap, subst, arith, inl, inr, length-take, length-drop}
 use Rattle.std.proofs.Math.Nat.{mul-mod_left}
 use Rattle.std.proofs.lemmas.Bool.{and_parts, cases_eq, cases_lt}
-use Rattle.std.proofs.lemmas.List.{ext_get_or, get_or-drop, get_or-set_other, get_or-take}
+use Rattle.std.proofs.lemmas.List.{ext_get_or, get_or-drop, get_or-set_other, get_or-take, take_all}
 use Rattle.sled_codec.specs.History.{History}
 use Rattle.sled_codec.specs.Places.{part}
 use Rattle.sled_codec.specs.Record.{IsHeader}
@@ -22,8 +22,8 @@ use Rattle.sled_core.proofs.Numbers.OwnLess.{OwnLess, less_cut, less_synced}
 use Rattle.sled_core.proofs.OwnLog.WrittenOwn.{header_synced}
 use Rattle.sled_core.proofs.Tail.Multiples.{apart}
 
--- A file with zeros where a test says so keeps its parts in front of a cut.
-zeroed_part : (test : ℕ → Bool) (log : List ℕ) (to at len : ℕ) → at + len ≤ to → part (zeroed test (take to log)) at len ≡ part (zeroed test log) at len
+-- A file with zeros where a test says so keeps its parts in front of a cut,
+pub zeroed_part : (test : ℕ → Bool) (log : List ℕ) (to at len : ℕ) → at + len ≤ to → part (zeroed test (take to log)) at len ≡ part (zeroed test log) at len
 zeroed_part test log to at len below =
     ext_get_or 0 (part short at len) (part (zeroed test log) at len) long (λ i lt. each i (omega (arith, lt, length-take len (drop at short)))) where
       short : List ℕ
@@ -50,6 +50,12 @@ zeroed_part test log to at len below =
       each i within =
           get_or-take len (drop at short) i 0 within ∙ get_or-drop at short i 0 ∙ byte (at + i) (omega (arith, within, below))
           ∙ sym (get_or-drop at (zeroed test log) i 0) ∙ sym (get_or-take len (drop at (zeroed test log)) i 0 within)
+
+-- so it is what is in front of the cut.
+pub zeroed_taken : (test : ℕ → Bool) (log : List ℕ) (to : ℕ) → zeroed test (take to log) ≡ take to (zeroed test log)
+zeroed_taken test log to =
+    sym (take_all to (zeroed test (take to log)) (omega (arith, zeroed_long test (take to log), length-take to log)))
+    ∙ zeroed_part test log to 0 to (omega arith)
 
 module _ (sum : List ℕ → ℕ) (size : ℕ) (some : 0 < size) (s : State) (m : Machine) (line : List SegmentView) (least base : ℕ) (H : History)
     (hides : Hides sum size s m line least base H) (to : ℕ) (whole : to % size ≡ 0) (free : (k : ℕ) → to ≤ k * size → is_free (slot_at m k).state ≡ true) where
