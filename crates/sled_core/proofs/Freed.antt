@@ -28,7 +28,9 @@ pub mod ReadsAlike
 pub mod ReadsAs
 pub mod ShownReads
 pub mod TornFront
+pub mod TornLine
 pub mod TornReads
 pub mod TornUnread
+pub mod WriteLies
 pub mod WriteSlots
 pub mod WrittenHides
