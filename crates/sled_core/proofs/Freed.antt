@@ -1,15 +1,11 @@
 pub mod AlikeRecords
 pub mod AnyOrdering
 pub mod BesideReads
-pub mod Cleared
-pub mod ClearedCalls
-pub mod ClearedMoves
 pub mod ClearedShows
 pub mod CutEnds
 pub mod CutHides
 pub mod CutReads
 pub mod CutRecovers
-pub mod Emptied
 pub mod FreedHides
 pub mod FreedSlots
 pub mod FrontWritten
@@ -18,7 +14,6 @@ pub mod GoneAlone
 pub mod KeptHides
 pub mod LeftOwn
 pub mod LeftRecovers
-pub mod LineHides
 pub mod NoHarm
 pub mod OutdatedGoes
 pub mod OwnAlike
@@ -28,9 +23,7 @@ pub mod ReadsAlike
 pub mod ReadsAs
 pub mod ShownReads
 pub mod TornFront
-pub mod TornLine
 pub mod TornReads
 pub mod TornUnread
 pub mod WriteLies
 pub mod WriteSlots
-pub mod WrittenHides

@@ -89,6 +89,7 @@ pub mod Slots
 pub mod Spans
 pub mod Targets
 pub mod TicketEnds
+pub mod TornLine
 pub mod Turns
 pub mod Unchanged
 pub mod WholeBuffers

@@ -21,8 +21,8 @@ use Rattle.sled_core.specs.inside.Cleared.{cleared, is_stale}
 use Rattle.sled_core.specs.inside.Hides.{Hides, IsGoneSegment, ReadsShown}
 use Rattle.sled_core.specs.inside.OwnLog.{HasOwnSlot}
 use Rattle.sled_core.specs.inside.Slots.{marked_at}
-use Rattle.sled_core.proofs.Freed.Cleared.{cleared_zeros, zeroed_long}
-use Rattle.sled_core.proofs.Freed.Hides.{gone_in}
+use Rattle.sled_core.proofs.Cleared.Offsets.{cleared_zeros, zeroed_long}
+use Rattle.sled_core.proofs.Numbers.Hides.{gone_in}
 use Rattle.sled_core.proofs.Freed.LeftRecovers.{ReadsBy}
 use Rattle.sled_core.proofs.Freed.OwnAlike.{part_alike}
 use Rattle.sled_core.proofs.Freed.ReadsAlike.{ReadsAlike, alike_joined, reads_as}

@@ -16,8 +16,8 @@ use Rattle.sled_core.specs.Reading.{StandsAt}
 use Rattle.sled_core.specs.inside.Cleared.{cleared}
 use Rattle.sled_core.specs.inside.Hides.{Hides, IsGone, IsGoneSegment, IsOwnHeader, IsOwnRecord}
 use Rattle.sled_core.specs.inside.Slots.{marked_at}
-use Rattle.sled_core.proofs.Freed.Cleared.{in_own}
-use Rattle.sled_core.proofs.Freed.Hides.{gone_in}
+use Rattle.sled_core.proofs.Cleared.Offsets.{in_own}
+use Rattle.sled_core.proofs.Numbers.Hides.{gone_in}
 use Rattle.sled_core.proofs.Freed.ReadsAs.{own_record}
 use Rattle.sled_core.proofs.OwnLog.NoneForeign.{WasPlaced, was_placed}
 use Rattle.sled_core.proofs.OwnLog.Placed.{asked_now}

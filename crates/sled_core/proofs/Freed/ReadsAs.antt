@@ -20,7 +20,7 @@ use Rattle.sled_core.specs.inside.Hides.{Hides, IsGoneSegment, IsOwnHeader, Read
 use Rattle.sled_core.specs.inside.OwnLog.{ReadsOwn, ReadsPlaced}
 use Rattle.sled_core.specs.inside.Slots.{marked_at}
 use Rattle.sled_core.proofs.Freed.Gone.{ReadsAs}
-use Rattle.sled_core.proofs.Freed.Hides.{gone_in}
+use Rattle.sled_core.proofs.Numbers.Hides.{gone_in}
 use Rattle.sled_core.proofs.Freed.ReadsAlike.{ReadsAlike, ReadsSame, reads_as, same_along}
 use Rattle.sled_core.proofs.OwnLog.Kept.{part_in}
 use Rattle.sled_core.proofs.Tail.LogFileLemmas.{record_moved}

@@ -37,13 +37,14 @@ use Rattle.sled_core.specs.inside.Slots.{AreWhole}
 use Rattle.sled_core.specs.inside.Tail.{least_place, tail_begins}
 use Rattle.sled_core.specs.inside.Turned.{promoted, written_now}
 use Rattle.sled_core.proofs.Freed.BesideReads.{header_beside}
-use Rattle.sled_core.proofs.Freed.Cleared.{LineRises, OthersBeside, between_is, zeroed_there}
-use Rattle.sled_core.proofs.Freed.ClearedCalls.{cleared_write}
+use Rattle.sled_core.proofs.Cleared.Offsets.{LineRises, OthersBeside, between_is, zeroed_there}
+use Rattle.sled_core.proofs.Cleared.Calls.{cleared_write}
 use Rattle.sled_core.proofs.Freed.ClearedShows.{laid_shown, stale_in}
 use Rattle.sled_core.proofs.Freed.FrontWritten.{front_leaves}
 use Rattle.sled_core.proofs.Freed.LeftOwn.{PlacesNumber}
 use Rattle.sled_core.proofs.Freed.LeftRecovers.{KeepsHeaders, ReadsBy, leaves_as_shown, rest_recovers, shown_device}
-use Rattle.sled_core.proofs.Freed.Quiet.{line_rises, others_beside, quiet_shown, stands_each, waits}
+use Rattle.sled_core.proofs.Line.Quiet.{quiet_shown, stands_each, waits}
+use Rattle.sled_core.proofs.Line.Shown.{line_rises, others_beside}
 use Rattle.sled_core.proofs.Freed.TornReads.{LeftReads, torn_reads}
 use Rattle.sled_core.proofs.Freed.WriteLies.{lies_behind, lies_next}
 use Rattle.sled_core.proofs.Freed.WriteSlots.{LiesIn, ReadsFrom}
