@@ -36,6 +36,7 @@ pub mod Heads
 pub mod KeptCalls
 pub mod KeptReads
 pub mod Last
+pub mod LeftShown
 pub mod LineEnds
 pub mod LineHides
 pub mod LogReserves

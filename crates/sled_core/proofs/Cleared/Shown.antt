@@ -33,6 +33,12 @@ module _ (size : ℕ) where
   shown_bytes None m line s none = refl
   shown_bytes (Some e) m line s none = cc
 
+  -- It shows it at rest.
+  pub shown_rests : (fault : Option IoError) (m : Machine) (line : List SegmentView) (s : State) → fault ≡ None
+      → (shown size fault m line s).log ≡ at_rest (cleared size m line s.log.bytes)
+  shown_rests None m line s none = refl
+  shown_rests (Some e) m line s none = cc
+
   -- A log that keeps a failure shows its device as it is.
   pub shown_faulty : (e : IoError) (now : Option IoError) → now ≡ Some e → (m : Machine) (line : List SegmentView) (s : State) → shown size now m line s ≡ s
   shown_faulty e now is m line s = ap (λ (o : Option IoError). shown size o m line s) is

@@ -14,6 +14,7 @@ use Rattle.sled_core.specs.OpenBatches.{not_whole}
 use Rattle.sled_core.specs.invariants.Running.{Fits}
 use Rattle.sled_core.specs.inside.Running.{FitsShown}
 use Rattle.sled_core.specs.inside.Turned.{ChangesDevice}
+use Rattle.sled_core.proofs.Line.LeftShown.{log_leaves}
 use Rattle.sled_core.proofs.Line.Faulty.{fits_with_kept, fits_with_same, holds_with_kept, holds_with_same}
 use Rattle.sled_core.proofs.Line.LineEnds.{kept_same, noted_later, noted_same}
 use Rattle.sled_core.proofs.Line.LogWrites.{same_line}
@@ -55,4 +56,4 @@ module _ {D C : Type 0} (old new : Log D C) (rest : ChangesDevice old new) where
     unfolding Fits
     device_fits H A f U then =
         fits_with_same sum _ _ _ _ _ _ _ _ _ _ _ _ H A f U batches_same refl refl refl refl
-        (fits_with_kept sum (noted_in old) _ _ after after _ _ _ _ _ _ _ _ H A f U size_same line_same slots_same rest.pins refl kept then)
+        (fits_with_kept sum (noted_in old) _ _ after after _ _ _ _ _ _ _ _ H A f U size_same line_same slots_same rest.pins refl kept then (log_leaves sum old H A f U after then))

@@ -121,17 +121,16 @@ line_leaves sum size device fault [] reach pins H A f U fits = absurd fits
 line_leaves sum size device fault (v ∷ vs) reach pins H A f U fits = fits.left
 
 pub fits_with_kept : (sum : List ℕ → ℕ) (noted : List Batch) (size size' : ℕ) (device new : State) (fault now : Option IoError) (line line' : List SegmentView) (m m' : Machine) (pins pins' : ℕ) (H : History) (A f : ℕ) (U : List Message) → size' ≡ size → line' ≡ line → m' ≡ m → pins' ≡ pins → new ≡ device
-    → (now ≡ fault) ⊎ ((e : IoError) × (now ≡ Some e)) → FitsShown sum noted size device fault line m pins H A f U → FitsShown sum noted size' new now line' m' pins' H A f U
-fits_with_kept sum noted size size' device new fault now line line' m m' pins pins' H A f U s l a p d kept fits = fits_with_same sum noted noted size size' new now line line' m m' pins pins' H A f U refl s l a p (elim kept [
+    → (now ≡ fault) ⊎ ((e : IoError) × (now ≡ Some e)) → (fits : FitsShown sum noted size device fault line m pins H A f U)
+    → LeavesRecovering sum size H (stable_below fits.shows.reach H.batches) f device → FitsShown sum noted size' new now line' m' pins' H A f U
+fits_with_kept sum noted size size' device new fault now line line' m m' pins pins' H A f U s l a p d kept fits left = fits_with_same sum noted noted size size' new now line line' m m' pins pins' H A f U refl s l a p (elim kept [
   | inl still ↦ fits_with_device sum noted size device new fault now line m pins H A f U d still fits
   | inr (e, is) ↦ (
       let sees : State = shown size fault m line device in
       let stable : ℕ = stable_below fits.shows.reach H.batches in
-      -- as yet what a crash leaves of the device is what it leaves of what is shown
       fits_shown_faulty sum noted size sees new fault now line m pins H A f U fits.shows e is (ap (λ (x : State). x.blobs) d)
       (ap (λ (x : State). x.snapshots) d)
-      (subst (LeavesRecovering sum size H stable f) (shown_is size fault m line device fits.file ∙ sym d)
-      (line_leaves sum size sees fault line fits.shows.reach pins H A f U fits.shows.parts))
+      (subst (LeavesRecovering sum size H stable f) (sym d) left)
       (λ zeros. numbers_placed sum size sees new m (line_end size line) (ap (λ (x : State). x.placed) d) (fits.shows.numbers zeros)))
 ])
 

@@ -21,7 +21,8 @@ use Rattle.sled_core.specs.inside.Shown.{shown_of}
 use Rattle.sled_core.specs.invariants.Running.{Fits}
 use Rattle.sled_core.proofs.Cleared.Shown.{shown_is}
 use Rattle.sled_core.proofs.Holds.ReachLemmas.{fits_apart}
-use Rattle.sled_core.proofs.Line.Faulty.{line_leaves, numbers_placed}
+use Rattle.sled_core.proofs.Line.Faulty.{numbers_placed}
+use Rattle.sled_core.proofs.Line.LeftShown.{log_leaves}
 use Rattle.sled_core.proofs.Line.Writes.{passes_line}
 use Rattle.sled_core.proofs.Numbers.Lasting.{lasting_leaves}
 use Rattle.sled_core.proofs.Numbers.Stay.{numbers_stay}
@@ -61,9 +62,7 @@ module _ {D C : Type 0} (trace : D → Trace) (sum : List ℕ → ℕ) (log : Lo
         stable = stable;
         passes = passes_line sum size sees (fault_of log) (line_of log) fits.shows.reach (pins_of log) H A f U fits.shows.parts;
         lasts = record {
-          -- as yet what a crash leaves of the device is what it leaves of what is shown
-          can = subst (LeavesRecovering sum size H stable f) (shown_is size (fault_of log) (machine_at log) (line_of log) device fits.file)
-              (line_leaves sum size sees (fault_of log) (line_of log) fits.shows.reach (pins_of log) H A f U fits.shows.parts);
+          can = log_leaves sum log H A f U device fits;
           numbers = fits_numbers fits;
         };
       }

@@ -34,12 +34,10 @@ its_number (x ∷ xs) v there = elim (in_cases x v xs there) [ inl is ↦ (zero,
 rests : (l : LogState) (bytes : List ℕ) → l ≡ at_rest bytes → l ≡ at_rest l.bytes
 rests l bytes is = is ∙ ap at_rest (sym (ap (λ (x : LogState). x.bytes) is))
 
-module _ {D C : Type 0} (trace : D → Trace) (sum : List ℕ → ℕ) (log : Log D C) (H : History) (A f : ℕ) (U : List Message) where
+-- A state of the device that a log fits.
+module _ {D C : Type 0} (sum : List ℕ → ℕ) (log : Log D C) (H : History) (A f : ℕ) (U : List Message) (state : State) where
   abbrev size : ℕ
   size = log.config.config.segment_size
-
-  abbrev state : State
-  state = state_of (trace log.config.device)
 
   abbrev line : List SegmentView
   line = line_of log
@@ -68,7 +66,7 @@ module _ {D C : Type 0} (trace : D → Trace) (sum : List ℕ → ℕ) (log : Lo
     every_slot : (slot : ℕ) → HasOwnSlot sum size Header Own state.log.bytes slot
     every_slot = all_slots sum size Header Own state.log.bytes line (fits.own none zeros) (λ v among slot lies. let at = its_number line v among in slot_at_nth at.0 v at.1 slot lies)
 
-    reads_placed : ReadsPlaced sum size state
+    pub reads_placed : ReadsPlaced sum size state
     reads_placed slot = record {
       header = header_own sum size Header Own state.log.bytes slot (every_slot slot);
       records = record_own sum size Header Own state.log.bytes slot (every_slot slot);
@@ -81,11 +79,15 @@ module _ {D C : Type 0} (trace : D → Trace) (sum : List ℕ → ℕ) (log : Lo
     none_in_log : NoForeignLog sum size state.log state.placed state.log.bytes
     none_in_log = subst (λ (l : LogState). NoForeignLog sum size l state.placed state.log.bytes) (sym settled) (none_foreign sum size state.placed state.log.bytes reads_placed)
 
-    reads_own : ReadsOnlyOwn sum size state
+    pub reads_own : ReadsOnlyOwn sum size state
     reads_own = record { log = none_in_log; names = fits.parts.named.own_names none; zeros = zeros }
 
-  pub fits_reads_own : Fits trace sum log H A f U → fault_of log ≡ None → NoHeaderOfZeros sum → ReadsOnlyOwn sum (segment_size_of log) (state_of (trace (device_of log)))
-  unfolding Fits
-  fits_reads_own fits none zeros =
-      -- as yet what is shown is the device itself
-      reads_own (fits_real sum (noted_in log) size state log.fault.kept (machine_at log) line log.pins H A f U fits) none zeros
+-- So it is of the device of one that keeps no failure.
+pub fits_reads_own : {D C : Type 0} (trace : D → Trace) (sum : List ℕ → ℕ) (log : Log D C) (H : History) (A f : ℕ) (U : List Message)
+    → Fits trace sum log H A f U → fault_of log ≡ None → NoHeaderOfZeros sum → ReadsOnlyOwn sum (segment_size_of log) (state_of (trace (device_of log)))
+unfolding Fits
+fits_reads_own trace sum log H A f U fits none zeros =
+    let device : State = state_of (trace (device_of log)) in
+    -- as yet what is shown is the device itself
+    reads_own sum log H A f U device
+    (fits_real sum (noted_in log) (segment_size_of log) device log.fault.kept (machine_at log) (line_of log) log.pins H A f U fits) none zeros

@@ -139,7 +139,7 @@ module _ (sum : List ℕ → ℕ) (none : NoHeaderOfZeros sum) (size : ℕ) (som
   rise_line = line_rises size v.parts.site.place line are
 
   apart : OthersBeside size line n u
-  apart = others_beside sum none size some m v vs are taken own n u at_n
+  apart = others_beside size positive m v.parts.site.place line are taken n u at_n
 
   facts : IsSegment size u.parts.site.place u
   facts = nth_segment size v.parts.site.place line are n u at_n

@@ -9,6 +9,7 @@ use Rattle.sled_core.specs.Positions.{position_in}
 use Rattle.sled_core.specs.invariants.Running.{Fits}
 use Rattle.sled_core.proofs.Line.KeptCalls.{goes_on_quietly}
 use Rattle.sled_core.proofs.Iterates.Failures.{first_kept, first_none}
+use Rattle.sled_core.proofs.Line.LeftShown.{log_leaves}
 use Rattle.sled_core.proofs.Line.Faulty.{fits_with_kept, holds_with_kept}
 use Rattle.sled_core.proofs.Line.LineEnds.{noted_still}
 use Rattle.sled_core.proofs.logger.Log.next_of.Goals as goal
@@ -25,7 +26,8 @@ returns-clause-log g c =
         keeps = record {
           goes_on = goes_on_quietly g.D.Device.trace g.C.Checksum.sum_of old _ (record { config = reads.config; checksum = reads.checksum }) reads.unwritten (omega arith) (first_none old.fault.kept c.next-item.result _ c.note_item.ensures);
           history = λ H holds. holds_with_kept g.C.Checksum.sum_of _ _ _ _ _ _ _ _ _ _ _ (logged H) size refl refl (ap state_of reads.unwritten) kept holds;
-          fits = λ H A f U fits. fits_with_kept g.C.Checksum.sum_of _ _ _ _ _ _ _ _ _ _ _ _ _ H A f U size refl refl refl (ap state_of reads.unwritten) kept fits;
+          fits = λ H A f U fits. fits_with_kept g.C.Checksum.sum_of _ _ _ _ _ _ _ _ _ _ _ _ _ H A f U size refl refl refl (ap state_of reads.unwritten) kept fits
+              (log_leaves g.C.Checksum.sum_of old H A f U _ fits);
           noted = noted_still old;
           kept = omega arith;
         };
