@@ -9,6 +9,7 @@ pub mod KeptStands
 pub mod LeftBeside
 pub mod LongerStands
 pub mod Marks
+pub mod MarkWritten
 pub mod MarksRaise
 pub mod MetWritten
 pub mod NextSegment
