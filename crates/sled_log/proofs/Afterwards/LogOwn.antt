@@ -133,7 +133,7 @@ module _ (sum : List ℕ → ℕ) (size : ℕ) (none : NoHeaderOfZeros sum) (big
           let twenty : length (part log slot 20) ≡ 20 = ap length its.header.is ∙ length-short_header sum (pos its.place) its.mark in
           let begun : 20 ≤ length (part log slot size) = omega (arith, twenty, big, length-take 20 (drop slot log), length-take size (drop slot log)) in
           let there : slot ≤ length log = omega (arith, twenty, length-take 20 (drop slot log), length-drop slot log) in
-          let short : to ≤ length (part log slot size) = reads_inside sum size (λ i l. Unit {0}) (λ k i l. Unit {0}) log 0 its.place (omega (arith, big)) (its.place / size) 20 to (part log slot size) its.comes begun in
+          let short : to ≤ length (part log slot size) = reads_inside sum size (its.place / size) 20 to (part log slot size) its.comes begun in
           let all = rest_filled sum size none big s (slot / size) to (size - to) (omega (arith, inside)) (omega (arith, inside)) (omega (arith, begins, there)) its.place its.mark
           (subst (λ k. IsHeader sum (part log k 20) (pos its.place) its.mark) begins its.header) its.low (subst (λ k. to ≤ length (part log k size)) begins short)
           (subst (λ k. ReadsTo sum size (its.place / size) (part log k size) 20 to) begins its.comes) placed.own in
