@@ -284,12 +284,12 @@ module _ (sum : List ℕ → ℕ) (size : ℕ) where
           (ap (λ (x : SlotState). x.lsn) (handed_there m (next_within m slots) place)) (handed_other m (next_within m slots) place) (same d.log.bytes)
           ends_there (begins_multiple has) next_end
 
-      numbers_next : HasSlots size (v ∷ vs) device.log.bytes fault m → HasNumbers sum size device m (line_end size (v ∷ vs))
-          → HasNumbers sum size device (handed_out place m) (line_end size next)
+      numbers_next : HasSlots size (v ∷ vs) device.log.bytes fault m → HasNumbers sum size 0 device m (line_end size (v ∷ vs))
+          → HasNumbers sum size 0 device (handed_out place m) (line_end size next)
       numbers_next has_slots has =
           numbers_handed sum size (omega (arith, big)) m (next_within m slots) (next_free m slots) place device (line_end size next)
           (let aligned = begins_multiple has_slots in omega (arith, mod-add-div' place size, aligned))
-          (let same = ends_there in let up = next_end in omega (arith, same, up)) (subst (HasNumbers sum size device m) (sym ends_there) has)
+          (let same = ends_there in let up = next_end in omega (arith, same, up)) (subst (HasNumbers sum size 0 device m) (sym ends_there) has)
 
       low : stable ≤ written_to (closed (v ∷ vs))
       low = let is = stable_low (written_to (v ∷ vs)) noted in omega (arith, is, closed_written v vs)

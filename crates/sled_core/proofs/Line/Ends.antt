@@ -218,7 +218,7 @@ module _ (sum : List ℕ → ℕ) (size : ℕ) (device : State) (fault : Option 
     whole = λ none zeros. subst (λ p. AreWhole sum size device.log.bytes (logged H) p machine) (sym (first_set line n v (ended_now i r (canceling sum v.parts.bytes r) Canceled v) there refl)) (fits.whole none zeros);
     own = λ none zeros. own_ended sum size (HeaderWasPlaced device.placed) (RecordWasPlaced sum size device.placed) device.log.bytes line n v i r (canceling sum v.parts.bytes r) Canceled there (fits.own none zeros);
     account = fits.account;
-    numbers = λ zeros. subst (HasNumbers sum size device machine) (sym (end_set size line n v (ended_now i r (canceling sum v.parts.bytes r) Canceled v) there refl)) (fits.numbers zeros);
+    numbers = λ zeros. subst (HasNumbers sum size 0 device machine) (sym (end_set size line n v (ended_now i r (canceling sum v.parts.bytes r) Canceled v) there refl)) (fits.numbers zeros);
     in_slots = fits.in_slots;
   }
 
@@ -270,7 +270,7 @@ module _ (sum : List ℕ → ℕ) (size : ℕ) (device : State) (fault : Option 
           account = account_completed sum size device.snapshots.file H U machine fits.account done.0 x done.1 fresh
               (lies_active sum size device fault line fits.reach pins H A f U fits.parts machine fits.account (omega (arith, least)) v (first_below size place line (from_each size place line facts) n v there)
               (at_there (HasSlot size machine) line n v there fits.slots.taken) x v.parts.bytes r its_message (inside_segment (facts n v there) i r at));
-          numbers = λ zeros. subst (HasNumbers sum size device machine) (sym (end_set size line n v (ended_now i r (completing r) Completed v) there refl)) (fits.numbers zeros);
+          numbers = λ zeros. subst (HasNumbers sum size 0 device machine) (sym (end_set size line n v (ended_now i r (completing r) Completed v) there refl)) (fits.numbers zeros);
           in_slots = slots_completed H fits.reach x its_message held fits.slots done.0 done.1 fits.in_slots;
         },
       )

@@ -167,7 +167,7 @@ module _ (sum : List ℕ → ℕ) (size : ℕ) (device : State) (fault : Option 
             (first_before sum size device fault line n v there place facts i r at is_open machine noted) (fits.whole none zeros));
         own = λ none zeros. own_ended sum size (HeaderWasPlaced device.placed) (RecordWasPlaced sum size device.placed) device.log.bytes line n v i r (marking sum v.parts.bytes r peg) Manifest there (fits.own none zeros);
         account = account_noted sum size device.snapshots.file H U machine fits.account (noted_history H b) refl;
-        numbers = λ zeros. subst (HasNumbers sum size device machine) (sym (end_set size line n v (ended_now i r (marking sum v.parts.bytes r peg) Manifest v) there refl)) (fits.numbers zeros);
+        numbers = λ zeros. subst (HasNumbers sum size 0 device machine) (sym (end_set size line n v (ended_now i r (marking sum v.parts.bytes r peg) Manifest v) there refl)) (fits.numbers zeros);
         in_slots = λ first begins. slots_noted (stable_place first.stable) (stable_below fits.reach H.batches) H (fits.in_slots first begins) (stable_below fits.reach (noted_history H b).batches)
             (λ zeros. newest_stable sum size device fault ok (set line n (ended_now i r (marking sum v.parts.bytes r peg) Manifest v)) fits.reach pins (noted_history H b) A f U fitted zeros first begins);
       }

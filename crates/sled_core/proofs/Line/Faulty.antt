@@ -58,7 +58,7 @@ pub fits_shown_faulty : (sum : List ℕ → ℕ) (noted : List Batch) (size : �
     (m : Machine) (pins : ℕ) (H : History) (A f : ℕ) (U : List Message) (fits : FitsWith sum noted size device fault line m pins H A f U)
     → (e : IoError) → now ≡ Some e → new.blobs ≡ device.blobs → new.snapshots ≡ device.snapshots
     → LeavesRecovering sum size H (stable_below fits.reach H.batches) f new
-    → (NoHeaderOfZeros sum → HasNumbers sum size new m (line_end size line)) → FitsShown sum noted size new now line m pins H A f U
+    → (NoHeaderOfZeros sum → HasNumbers sum size 0 new m (line_end size line)) → FitsShown sum noted size new now line m pins H A f U
 fits_shown_faulty sum noted size device new fault now line m pins H A f U fits e is blobs names left numbers =
     let sees : State = shown size now m line new in
     let same : sees ≡ new = shown_faulty size e now is m line new in
@@ -72,7 +72,7 @@ fits_shown_faulty sum noted size device new fault now line m pins H A f U fits e
         whole = λ none zeros. cc;
         own = λ none zeros. cc;
         account = subst (λ (s : NamesState). HasAccount sum size s.file H U m) (sym names) fits.account;
-        numbers = λ zeros. subst (λ (s : State). HasNumbers sum size s m (line_end size line)) (sym same) (numbers zeros);
+        numbers = λ zeros. subst (λ (s : State). HasNumbers sum size 0 s m (line_end size line)) (sym same) (numbers zeros);
         in_slots = subst (λ (s : NamesState). HaveSlotsFrom sum size s.file H (stable_below fits.reach H.batches) m) (sym names) fits.in_slots;
       };
       file = as_shown_faulty size e now is m line new.log;
@@ -111,8 +111,8 @@ holds_with_kept sum noted size size' device new fault now line line' m m' H s l 
 ])
 
 -- where the same was placed the same numbers are the log's own
-pub numbers_placed : (sum : List ℕ → ℕ) (size : ℕ) (s t : State) (m : Machine) (end : ℕ) → t.placed ≡ s.placed → HasNumbers sum size s m end
-    → HasNumbers sum size t m end
+pub numbers_placed : (sum : List ℕ → ℕ) (size : ℕ) (s t : State) (m : Machine) (end : ℕ) → t.placed ≡ s.placed → HasNumbers sum size 0 s m end
+    → HasNumbers sum size 0 t m end
 numbers_placed sum size s t m end same has = numbers_less sum size t s (less_same sum size t s same) m end has
 
 -- what a log fits a crash leaves

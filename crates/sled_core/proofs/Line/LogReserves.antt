@@ -239,7 +239,7 @@ module _ {D C : Type 0} (trace : D → Trace) (sum : List ℕ → ℕ) (old new 
           whole = λ none zeros. subst (λ p. AreWhole sum its_size (shown_of trace old).log.bytes (logged H) p (machine_at old)) (sym (first_at_last (reserved_now more r) (λ _. refl) (line_of old))) (its.shows.whole none zeros);
           own = λ none zeros. own_reserved sum its_size (HeaderWasPlaced (shown_of trace old).placed) (RecordWasPlaced sum its_size (shown_of trace old).placed) (shown_of trace old).log.bytes more r (line_of old) (its.shows.own none zeros);
           account = its.shows.account;
-          numbers = λ zeros. subst (HasNumbers sum its_size (shown_of trace old) (machine_at old)) (sym (end_at_last its_size (reserved_now more r) (λ _. refl) (line_of old))) (its.shows.numbers zeros);
+          numbers = λ zeros. subst (HasNumbers sum its_size 0 (shown_of trace old) (machine_at old)) (sym (end_at_last its_size (reserved_now more r) (λ _. refl) (line_of old))) (its.shows.numbers zeros);
           in_slots = its.shows.in_slots;
         });
     noted = noted_later old new rest.noted (let same = reserves_synced in omega (arith, same));

@@ -207,7 +207,7 @@ module _ {D C : Type 0} (log : Log D C) (n k : ℕ) (r : IsReadyIn (line_of log)
 
     -- Made or not, in the slots nothing that is the log's own has a greater number.
     abbrev Numbered : State → Type 0
-    Numbered s = HasNumbers sum size s slots (line_end size line)
+    Numbered s = HasNumbers sum size 0 s slots (line_end size line)
 
     module _ (H : History) (A f : ℕ) (U : List Message) (fits : FitsShown sum (noted_in log) size device log.fault.kept line slots log.pins H A f U)
         (zeros : NoHeaderOfZeros sum) where
@@ -337,8 +337,8 @@ module _ {D C : Type 0} (log : Log D C) (n k : ℕ) (r : IsReadyIn (line_of log)
                 (held H A f U fits zeros) zeros (fits.shows.own whole zeros));
             account = fits.shows.account;
             numbers = λ zeros.
-                subst (λ (s : State). HasNumbers sum size s slots (line_end size line_left)) (sym settled)
-                (subst (HasNumbers sum size sees_behind slots) (sym end_stays)
+                subst (λ (s : State). HasNumbers sum size 0 s slots (line_end size line_left)) (sym settled)
+                (subst (HasNumbers sum size 0 sees_behind slots) (sym end_stays)
                 (numbers_behind sum size log.config.config.least sees log.fault.kept whole v k r.buffer r.there r.ready log.segments.first.site.place line
                 (line_segments log) n r.among slots has (logged H) (held H A f U fits zeros) zeros (fits.shows.own whole zeros) (fits.shows.numbers zeros)));
             in_slots = λ first begins. slots_at sum size (stable_place first.stable) (stable_below fits.shows.reach H.batches) H slots

@@ -30,11 +30,11 @@ use Rattle.sled_core.proofs.Numbers.Stay.{numbers_stay}
 -- So it is of each state of the device in which no slot has a greater number.
 pub stays_in : (sum : List ℕ → ℕ) (noted : List Batch) (size : ℕ) → 0 < size → (device : State) (fault : Option IoError) (line : List SegmentView) (m : Machine)
     (pins : ℕ) (H : History) (A f : ℕ) (U : List Message) → (fits : FitsWith sum noted size device fault line m pins H A f U) → Ascends H.messages
-    → NoHeaderOfZeros sum → (s : State) → HasNumbers sum size s m (line_end size line) → NumbersStay sum size s H (stable_below fits.reach H.batches)
+    → NoHeaderOfZeros sum → (s : State) → HasNumbers sum size 0 s m (line_end size line) → NumbersStay sum size s H (stable_below fits.reach H.batches)
 stays_in sum noted size some device fault line m pins H A f U fits order zeros s has =
     let slots = fits.in_slots fits.account.first fits.account.begins in
     numbers_stay sum size some s m (line_end size line) has H order (stable_place fits.account.first.stable) (stable_below fits.reach H.batches) slots
-    (slots.not_above zeros)
+    (slots.not_above zeros) (omega arith)
 
 -- A log that fits a history: so it is now.
 module _ {D C : Type 0} (trace : D → Trace) (sum : List ℕ → ℕ) (log : Log D C) (H : History) (A f : ℕ) (U : List Message) where

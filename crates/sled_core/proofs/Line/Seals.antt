@@ -202,7 +202,7 @@ module _ {D C : Type 0} (trace : D → Trace) (sum : List ℕ → ℕ) (old new 
           whole = λ none zeros. subst (λ p. AreWhole sum size (shown_of trace old).log.bytes (logged H) p (machine_at old)) (sym (first_at_last sealed_now (λ _. refl) (line_of old))) (fits.shows.whole none zeros);
           own = λ none zeros. own_sealed sum size (HeaderWasPlaced (shown_of trace old).placed) (RecordWasPlaced sum size (shown_of trace old).placed) (shown_of trace old).log.bytes (line_of old) (fits.shows.own none zeros);
           account = fits.shows.account;
-          numbers = λ zeros. subst (HasNumbers sum size (shown_of trace old) (machine_at old)) (sym (end_at_last size sealed_now (λ _. refl) (line_of old))) (fits.shows.numbers zeros);
+          numbers = λ zeros. subst (HasNumbers sum size 0 (shown_of trace old) (machine_at old)) (sym (end_at_last size sealed_now (λ _. refl) (line_of old))) (fits.shows.numbers zeros);
           in_slots = fits.shows.in_slots;
         });
     noted = noted_later old new rest.noted (let same = sealed_synced in omega (arith, same));

@@ -1,6 +1,6 @@
 -- The slots of a log have the numbers of their segments: so it is where less is own and where slots are marked, and so the slots that tables need keep their
 -- numbers.
-use Rattle.std.proofs.Common.{◌≡◌, ◌∙◌, ◌/◌, ◌<◌, ◌≤◌, ℕ, List, sym, ap, subst, arith, inl, inr}
+use Rattle.std.proofs.Common.{◌≡◌, ◌∙◌, ◌*◌, ◌/◌, ◌<◌, ◌≤◌, ℕ, List, sym, ap, subst, arith, inl, inr}
 use Rattle.std.specs.List.{Contains}
 use Rattle.std.proofs.Math.Nat.{mul-div_cancel}
 use Rattle.std.proofs.lemmas.Bool.{cases_lt}
@@ -26,11 +26,11 @@ module _ (sum : List ℕ → ℕ) (size : ℕ) where
       only = λ j at text inside own. has.only j at text inside (less.records number at text own);
     }
 
-    pub numbers_less : (m : Machine) (end : ℕ) → HasNumbers sum size s m end → HasNumbers sum size t m end
+    pub numbers_less : {base : ℕ} (m : Machine) (end : ℕ) → HasNumbers sum size base s m end → HasNumbers sum size base t m end
     numbers_less m end has = record {
       to_come = λ number at text own. has.to_come number at text (less.records number at text own);
       taken = λ k used. number_less k ((slot_at m k).lsn / size) (has.taken k used);
-      headers = λ k place mark own. has.headers k place mark (less.headers k place mark own);
+      headers = λ k place mark low own. has.headers k place mark low (less.headers k place mark own);
       lie = λ number at text own. has.lie number at text (less.records number at text own);
     }
 
@@ -50,7 +50,7 @@ module _ (sum : List ℕ → ℕ) (size : ℕ) where
   }
 
   -- The segments end higher.
-  pub numbers_higher : (s : State) (m : Machine) (end higher : ℕ) → end ≤ higher → HasNumbers sum size s m end → HasNumbers sum size s m higher
+  pub numbers_higher : {base : ℕ} (s : State) (m : Machine) (end higher : ℕ) → end ≤ higher → HasNumbers sum size base s m end → HasNumbers sum size base s m higher
   numbers_higher s m end higher up has = record {
     to_come = λ number at text own. let low = has.to_come number at text own in omega (arith, low, up);
     taken = has.taken;
@@ -60,11 +60,11 @@ module _ (sum : List ℕ → ℕ) (size : ℕ) where
 
   -- Slots are marked.
   module _ (m n : Machine) (same : SameSegments m.slots n.slots) where
-    pub numbers_marked : (s : State) (end : ℕ) → HasNumbers sum size s m end → HasNumbers sum size s n end
+    pub numbers_marked : {base : ℕ} (s : State) (end : ℕ) → HasNumbers sum size base s m end → HasNumbers sum size base s n end
     numbers_marked s end has = record {
       to_come = has.to_come;
       taken = λ k used. subst (λ p. HasNumber sum size s k (p / size)) (sym (same k).lsn) (has.taken k (sym (same k).free ∙ used));
-      headers = λ k place mark own. let is = has.headers k place mark own in ((same k).free ∙ is.0, (same k).lsn ∙ is.1);
+      headers = λ k place mark low own. let is = has.headers k place mark low own in ((same k).free ∙ is.0, (same k).lsn ∙ is.1);
       lie = has.lie;
     }
 
@@ -80,8 +80,8 @@ module _ (sum : List ℕ → ℕ) (size : ℕ) where
     }
 
   -- So the slots that tables need from a place on have their numbers.
-  module _ (some : 0 < size) (s : State) (m : Machine) (end : ℕ) (has : HasNumbers sum size s m end) (H : History) (order : Ascends H.messages) (base A : ℕ)
-      (slots : HaveSlots sum size base H A m) (low : base ≤ A) where
+  module _ {from : ℕ} (some : 0 < size) (s : State) (m : Machine) (end : ℕ) (has : HasNumbers sum size from s m end) (H : History) (order : Ascends H.messages) (base A : ℕ)
+      (slots : HaveSlots sum size base H A m) (low : base ≤ A) (passes : from ≤ A / size * size) where
     -- an entry is in the slot of its segment
     entry_in_slot : (cut page : ℕ) (e : Message) → A ≤ cut → Contains (table H cut page) e → IsInSlot size m e
     entry_in_slot cut page e up entry = elim (cases_lt e.place base) [
@@ -98,6 +98,6 @@ module _ (sum : List ℕ → ℕ) (size : ℕ) where
     numbers_stay = record {
       entries = λ cut page e up entry. its_number e (entry_in_slot cut page e up entry);
       later = λ k place mark own up.
-          let is = has.headers k place mark own in subst (λ p. HasNumber sum size s k (p / size)) is.1 (has.taken k is.0);
+          let is = has.headers k place mark (omega (arith, passes, up)) own in subst (λ p. HasNumber sum size s k (p / size)) is.1 (has.taken k is.0);
       lie = has.lie;
     }

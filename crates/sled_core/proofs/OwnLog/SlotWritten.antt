@@ -23,7 +23,7 @@ one_slot size j k at text some here there = elim (cases_order j k) [
   | inr (inr higher) ↦ absurd (let far = slot_before size k j higher in omega (arith, far, there.1, here.0, some))
 ]
 
-module _ (sum : List ℕ → ℕ) (size : ℕ) (s : State) (m : Machine) (end : ℕ) (has : HasNumbers sum size s m end) (slots : HaveOwn size end m) (some : 0 < size)
+module _ {base : ℕ} (sum : List ℕ → ℕ) (size : ℕ) (s : State) (m : Machine) (end : ℕ) (has : HasNumbers sum size base s m end) (slots : HaveOwn size end m) (some : 0 < size)
     (at : ℕ) (asked now : List ℕ)
     (k place : ℕ) (used : is_free (slot_at m k).state ≡ false) (lsn : (slot_at m k).lsn ≡ place) (below : place < end) (begins : place / size * size ≡ place)
     (low : k * size ≤ at) (high : at + length asked ≤ k * size + size) where
@@ -54,7 +54,7 @@ module _ (sum : List ℕ → ℕ) (size : ℕ) (s : State) (m : Machine) (end : 
   pub numbers_written : ((number lid : ℕ) (text : List ℕ) → RecordWasPlaced sum size (its ∷ []) number lid text
       → (kind : MessageKind) (page : ℕ) (body : List ℕ) → IsRecord sum text kind page number body → number ≡ place / size)
       → ((j p : ℕ) (mark : ℤ) (text : List ℕ) → IsHeader sum text (pos p) mark → HeaderWasPlaced (its ∷ []) (j * size) text → (j ≡ k) × (p ≡ place))
-      → HasNumbers sum size (step (Wrote at asked now) s) m end
+      → HasNumbers sum size base (step (Wrote at asked now) s) m end
   numbers_written records headers = record {
     to_come = λ number lid text own. elim (record_or_written sum size s at asked now number lid text own) [
       | inl had ↦ has.to_come number lid text had
@@ -76,8 +76,8 @@ module _ (sum : List ℕ → ℕ) (size : ℕ) (s : State) (m : Machine) (end : 
             ∙ one_number j taken (records number lid text laid own.kind own.page own.body own.is)
       ];
     };
-    headers = λ j p mark own. elim (header_or_written sum size s at asked now j p mark own) [
-      | inl had ↦ has.headers j p mark had
+    headers = λ j p mark above own. elim (header_or_written sum size s at asked now j p mark own) [
+      | inl had ↦ has.headers j p mark above had
       | inr laid ↦ (
           let is = headers j p mark own.text own.is laid in
           (ap (λ i. is_free (slot_at m i).state) is.0 ∙ used, ap (λ i. (slot_at m i).lsn) is.0 ∙ lsn ∙ sym is.1))

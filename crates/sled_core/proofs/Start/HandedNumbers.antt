@@ -39,15 +39,15 @@ module _ (sum : List ℕ → ℕ) (size : ℕ) where
     stays_taken : (k : ℕ) → is_free (slot_at m k).state ≡ false → slot_at (handed_out place m) k ≡ slot_at m k
     stays_taken k used = handed_other m within place k (other_slot k used)
 
-    pub numbers_handed : (s : State) (end : ℕ) → place / size * size ≡ place → place ≤ end → HasNumbers sum size s m place → HasNumbers sum size s (handed_out place m) end
+    pub numbers_handed : {base : ℕ} (s : State) (end : ℕ) → place / size * size ≡ place → place ≤ end → HasNumbers sum size base s m place → HasNumbers sum size base s (handed_out place m) end
     numbers_handed s end begins up has = record {
       to_come = λ number at text own. let low = has.to_come number at text own in omega (arith, low, up);
       taken = λ k used. elim (taken_cases m within place k used) [
         | inl new ↦ subst (λ p. HasNumber sum size s k (p / size)) (sym new.0) (number_new s k begins has.to_come)
         | inr old ↦ subst (λ p. HasNumber sum size s k (p / size)) (sym old.0) (has.taken k old.1)
       ];
-      headers = λ k at mark own.
-          let is = has.headers k at mark own in
+      headers = λ k at mark low own.
+          let is = has.headers k at mark low own in
           let stays = stays_taken k is.0 in (ap (λ (x : SlotState). is_free x.state) stays ∙ is.0, ap (λ (x : SlotState). x.lsn) stays ∙ is.1);
       lie = has.lie;
     }

@@ -278,7 +278,7 @@ module _ (sum : List ℕ → ℕ) (size : ℕ) (long : 256 ≤ size) (zeros : No
   lie : (number at : ℕ) (text : List ℕ) → IsOwnRecord sum size now number at text → (k : ℕ) × LiesInSlot size k at text
   lie number at text own = was.lie number at text (less.records number at text own)
 
-  numbers_started : (end : ℕ) → HaveOwn size end start → HasNumbers sum size now start end
+  numbers_started : (end : ℕ) → HaveOwn size end start → HasNumbers sum size 0 now start end
   numbers_started end has = record {
     to_come = λ number at text own.
         let inside = lie number at text own in
@@ -289,18 +289,18 @@ module _ (sum : List ℕ → ℕ) (size : ℕ) (long : 256 ≤ size) (zeros : No
         let rows = mul-le-mul_right size low in
         omega (arith, rows, div-mul-le_self (slot_at start k).lsn size, under, long));
     taken = λ k taken. (keeps k taken).bound;
-    headers = λ k place mark own. by_state k (λ free. no_header k place mark free own)
+    headers = λ k place mark low own. by_state k (λ free. no_header k place mark free own)
         (λ taken. (taken, (keeps k taken).head place mark (own_header_stands sum size old log rests k place mark (less.headers k place mark own))));
     lie = lie;
   }
 
   -- So it is once the log has begun its segment.
-  numbers_begun : HasNumbers sum size now (begun_machine size (length log) s) (place_at size stable s.active + size)
+  numbers_begun : HasNumbers sum size 0 now (begun_machine size (length log) s) (place_at size stable s.active + size)
   numbers_begun = by s.active refl where
     Ends : Option ℕ → Entry → Type 0
     Ends o e = Contains (active_entry stable o ++ entries_of s.pages) e
 
-    by : (o : Option ℕ) → s.active ≡ o → HasNumbers sum size now (with_current (place_at size stable o) o start) (place_at size stable o + size)
+    by : (o : Option ℕ) → s.active ≡ o → HasNumbers sum size 0 now (with_current (place_at size stable o) o start) (place_at size stable o + size)
     by (Some a) active =
         numbers_started (stable / size * size + size) (own_started size (length log) some s startable (stable / size * size + size)
         (λ e there. low_active size (length log) some s startable a e (subst (λ (o : Option ℕ). Ends o e) active there)))
@@ -311,11 +311,11 @@ module _ (sum : List ℕ → ℕ) (size : ℕ) (long : 256 ≤ size) (zeros : No
         (λ e there. low_raised size (length log) some s startable e (subst (λ (o : Option ℕ). Ends o e) none there))))
 
   pub start_numbers : {size' : ℕ} → size' ≡ size → {m : Machine} → m ≡ begun_machine size (length log) s → (v : SegmentView)
-      → v.parts.site ≡ site_from size (length log) s → HasNumbers sum size' now m (line_end size' (v ∷ []))
+      → v.parts.site ≡ site_from size (length log) s → HasNumbers sum size' 0 now m (line_end size' (v ∷ []))
   start_numbers same {m} machine v site =
       let place : v.parts.site.place ≡ place_at size stable s.active =
       ap (λ (p : SegmentPosition). p.place) site ∙ begins_place size (slots_of size (length log)) stable
       (unused size (slots_of size (length log)) s) s.active in
-      subst (λ n. HasNumbers sum n now m (line_end n (v ∷ []))) (sym same)
-      (subst (λ (x : Machine). HasNumbers sum size now x (line_end size (v ∷ []))) (sym machine)
-      (subst (HasNumbers sum size now (begun_machine size (length log) s)) (omega (arith, place)) numbers_begun))
+      subst (λ n. HasNumbers sum n 0 now m (line_end n (v ∷ []))) (sym same)
+      (subst (λ (x : Machine). HasNumbers sum size 0 now x (line_end size (v ∷ []))) (sym machine)
+      (subst (HasNumbers sum size 0 now (begun_machine size (length log) s)) (omega (arith, place)) numbers_begun))

@@ -28,11 +28,11 @@ pub record NumbersStay (sum : List ℕ → ℕ) (size : ℕ) (s : State) (H : Hi
 
 -- While a log runs with these slots, and its segments end at a place: nothing own is of a number that is still to come, and the slot of a segment has its
 -- number.
-pub record HasNumbers (sum : List ℕ → ℕ) (size : ℕ) (s : State) (m : Machine) (end : ℕ) : Type 0 where
+pub record HasNumbers (sum : List ℕ → ℕ) (size base : ℕ) (s : State) (m : Machine) (end : ℕ) : Type 0 where
   pub to_come : (number at : ℕ) (text : List ℕ) → IsOwnRecord sum size s number at text → number * size < end
   pub taken : (k : ℕ) → is_free (slot_at m k).state ≡ false → HasNumber sum size s k ((slot_at m k).lsn / size)
-  -- as yet each header that is own is that of the segment that its slot has
-  pub headers : (k place : ℕ) (mark : ℤ) → IsOwnHeader sum size s k place mark → (is_free (slot_at m k).state ≡ false) × ((slot_at m k).lsn ≡ place)
+  -- each header that is own, of a segment from a place on, is that of the segment that its slot has
+  pub headers : (k place : ℕ) (mark : ℤ) → base ≤ place → IsOwnHeader sum size s k place mark → (is_free (slot_at m k).state ≡ false) × ((slot_at m k).lsn ≡ place)
   pub lie : LieInSlots sum size s
 
 -- the slot of a message has its segment

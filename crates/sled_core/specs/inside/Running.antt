@@ -111,7 +111,7 @@ pub record FitsWith (sum : List ℕ → ℕ) (noted : List Batch) (size : ℕ) (
   pub own : fault ≡ None → NoHeaderOfZeros sum → HasPlacedFile sum size device line
   pub account : HasAccount sum size device.snapshots.file H U m
   -- nothing that is the log's own is of a number that is still to come, nor, in the slot of a segment, of a greater one
-  pub numbers : NoHeaderOfZeros sum → HasNumbers sum size device m (line_end size line)
+  pub numbers : NoHeaderOfZeros sum → HasNumbers sum size 0 device m (line_end size line)
   -- what a table from the stable place on may need is in the slots
   pub in_slots : HaveSlotsFrom sum size device.snapshots.file H (stable_below reach H.batches) m
 

@@ -248,7 +248,7 @@ returns-in-Ok-clause-fits g c = λ H A f ready.
           (started_own g.C.Checksum.sum_of size c.args.config.config.least zeros (state_of old) now s H A f ready c.in-Ok.ensures.answers.0 (ap (λ (l : LogState). l.bytes) log_now) behind (view_at site c.in-Ok.buffer)
           (ap (λ (x : Beginning). record { place = x.place; slot = x.slot }) c.in-Ok.ensures.beginning) (first.from ∙ offset) first.sealed)));
       account = start_account g.C.Checksum.sum_of size some (state_of old) s H A f ready c.in-Ok.ensures.answers.0 same now.snapshots.file names c.in-Ok.ensures.machine;
-      numbers = λ zeros. subst (λ (ss : List SegmentBuffer). HasNumbers g.C.Checksum.sum_of c.begin.new.config.config.segment_size now (machine_of c.in-Ok.accountant)
+      numbers = λ zeros. subst (λ (ss : List SegmentBuffer). HasNumbers g.C.Checksum.sum_of c.begin.new.config.config.segment_size 0 now (machine_of c.in-Ok.accountant)
           (line_end c.begin.new.config.config.segment_size (line_at site c.in-Ok.buffer ss))) (sym c.no_segments.ensures)
           (start_numbers g.C.Checksum.sum_of size c.args.config.config.least zeros old (g.D.Device.trace c.begin.new.config.device) s H A f ready c.in-Ok.ensures.answers.0 c.begin.ensures.calls
           log_now same c.in-Ok.ensures.machine (view_at site c.in-Ok.buffer) (ap (λ (x : Beginning). record { place = x.place; slot = x.slot }) c.in-Ok.ensures.beginning));
