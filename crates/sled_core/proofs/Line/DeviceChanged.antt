@@ -56,4 +56,5 @@ module _ {D C : Type 0} (old new : Log D C) (rest : ChangesDevice old new) where
     unfolding Fits
     device_fits H A f U then =
         fits_with_same sum _ _ _ _ _ _ _ _ _ _ _ _ H A f U batches_same refl refl refl refl
-        (fits_with_kept sum (noted_in old) _ _ after after _ _ _ _ _ _ _ _ H A f U size_same line_same slots_same rest.pins refl kept then (log_leaves sum old H A f U after then))
+        (fits_with_kept sum (noted_in old) _ _ after after _ _ _ _ _ _ _ _ H A f U size_same line_same slots_same rest.pins refl kept then
+        (log_leaves sum old H A f U after then))

@@ -19,7 +19,7 @@ use Rattle.sled_core.specs.inside.Begun.{line_end}
 use Rattle.sled_core.specs.inside.Numbers.{HasNumbers, HaveSlotsFrom}
 use Rattle.sled_core.specs.inside.Shown.{shown}
 use Rattle.sled_core.specs.inside.Slots.{HasAccount}
-use Rattle.sled_core.proofs.Cleared.Shown.{as_shown_faulty, shown_faulty, shown_is}
+use Rattle.sled_core.proofs.Cleared.Shown.{as_shown_faulty, shown_faulty}
 use Rattle.sled_core.proofs.Flush.FlushLemmas.{fault_or_none, holds-faulty}
 use Rattle.sled_core.proofs.Flush.SameFits.{fits_faulty}
 use Rattle.sled_core.proofs.Numbers.OwnLess.{less_same}

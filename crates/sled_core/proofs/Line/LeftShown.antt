@@ -1,7 +1,7 @@
 -- What a crash leaves of the device of a log that fits a history can be recovered where what it leaves of what is shown can: no call on the log file is under
 -- way, and what the file has besides what is shown is of segments that are gone.
 use Rattle.std.specs.declared.io.Error.{Error as IoError}
-use Rattle.std.proofs.Common.{◌≡◌, ◌≤◌, ℕ, List, [], ◌∷◌, map, Option, Some, None, refl, sym, ap, subst, arith, inl, inr}
+use Rattle.std.proofs.Common.{◌≡◌, ◌≤◌, ℕ, List, [], ◌∷◌, map, Option, None, refl, sym, subst, arith, inl, inr}
 use Rattle.sled_codec.specs.History.{Batch, History, Message}
 use Rattle.sled_codec.specs.Snapshots.{SnapshotModel}
 use Rattle.sled_store.specs.Device.{State}
@@ -23,7 +23,6 @@ use Rattle.sled_core.specs.inside.Reached.{StandsAmong}
 use Rattle.sled_core.specs.inside.Running.{FitsShown}
 use Rattle.sled_core.specs.inside.Shown.{shown}
 use Rattle.sled_core.specs.inside.Slots.{AreWhole}
-use Rattle.sled_core.specs.inside.Tail.{least_place}
 use Rattle.sled_core.proofs.Cleared.Shown.{shown_bytes, shown_faulty, shown_rests}
 use Rattle.sled_core.proofs.Flush.FlushLemmas.{fault_or_none}
 use Rattle.sled_core.proofs.Freed.LeftRecovers.{rest_recovers}
@@ -54,11 +53,11 @@ module _ (sum : List ℕ → ℕ) (noted : List Batch) (size : ℕ) (big : 256 �
       let here : AreSegments size v.parts.site.place line = subst (λ p. AreSegments size p line) (sym are.0.at) are in
       let among : StandsAmong sum size file v.parts.site v.parts.written_len (map begun_segment (map parts_in vs)) fits.shows.reach (logged H) first =
       subst (λ (l : List ℕ). StandsAmong sum size l v.parts.site v.parts.written_len (map begun_segment (map parts_in vs)) fits.shows.reach (logged H) first)
-          bytes (its.among whole zeros) in
+      bytes (its.among whole zeros) in
       let reads : ReadsShown sum size m file device.log.bytes =
       quiet_shown sum zeros size big m v vs here (λ j w at_j. at_there (HasSlot size m) line j w at_j fits.shows.slots.taken) fits.shows.slots.own device
-          (logged H) first fits.shows.reach
-          (subst (λ (l : List ℕ). AreWhole sum size l (logged H) v.parts.site.place m) bytes (fits.shows.whole whole zeros)) among in
+      (logged H) first fits.shows.reach
+      (subst (λ (l : List ℕ). AreWhole sum size l (logged H) v.parts.site.place m) bytes (fits.shows.whole whole zeros)) among in
       rest_recovers sum size big device m line first 0 (logged H) (fits.hides whole zeros first its.holds.begun.begins) reads (line_end size line)
       fits.shows.slots.own file among.stands.ordering among.stands.numbers among.stands.marks (omega arith) H (logged_twice H) (fits.file.rests whole)
       (λ k p mark header. refl) sees (shown_rests size fault m line device whole) refl refl

@@ -30,7 +30,8 @@ module _ (sum : List ℕ → ℕ) (size : ℕ) (s : State) (least base : ℕ) (H
   pub hides_left : (m : Machine) (line : List SegmentView) (place : ℕ) → AreSegments size place line → Hides sum size s m line least base H
       → Hides sum size s m (promoted size line) least base H
   hides_left m line place are =
-      hides_as sum size s least base H m m line (promoted size line) (λ k. refl) (λ k. refl) (cleared_promoted size m line s.log.bytes (line_rises size place line are))
+      hides_as sum size s least base H m m line (promoted size line) (λ k. refl) (λ k. refl)
+      (cleared_promoted size m line s.log.bytes (line_rises size place line are))
       (omega (arith, end_left size place line are))
 
   -- So it is where a log begins a further segment, in the slot that is handed out next (which is free, as `AreSlots` says). It begins where the others end,

@@ -1,7 +1,7 @@
 -- A log that fits a history keeps its numbers: in the slots that tables need from the stable place on nothing that is the log's own has a greater number. So
 -- what a crash leaves of its device can be recovered, and lasts.
 use Rattle.std.specs.declared.io.Error.{Error as IoError}
-use Rattle.std.proofs.Common.{◌<◌, ℕ, List, Option, arith, refl, subst}
+use Rattle.std.proofs.Common.{◌<◌, ℕ, List, Option, arith, refl}
 use Rattle.sled_codec.specs.History.{Batch, History, Message}
 use Rattle.sled_codec.specs.Snapshots.{stable_place}
 use Rattle.sled_store.specs.Device.{State, Trace, state_of}
@@ -14,12 +14,11 @@ use Rattle.sled_core.specs.NoForeign.{NoHeaderOfZeros}
 use Rattle.sled_core.specs.OpenBatches.{stable_below}
 use Rattle.sled_core.specs.inside.Begun.{line_end}
 use Rattle.sled_core.specs.Recoverable.{LeavesRecoverable}
-use Rattle.sled_core.specs.inside.Lasting.{IsLasting, LeavesRecovering}
+use Rattle.sled_core.specs.inside.Lasting.{IsLasting}
 use Rattle.sled_core.specs.inside.Numbers.{HasNumbers, NumbersStay}
 use Rattle.sled_core.specs.inside.Running.{FitsShown, FitsWith}
 use Rattle.sled_core.specs.inside.Shown.{shown_of}
 use Rattle.sled_core.specs.invariants.Running.{Fits}
-use Rattle.sled_core.proofs.Cleared.Shown.{shown_is}
 use Rattle.sled_core.proofs.Holds.ReachLemmas.{fits_apart}
 use Rattle.sled_core.proofs.Line.Faulty.{numbers_placed}
 use Rattle.sled_core.proofs.Line.LeftShown.{log_leaves}

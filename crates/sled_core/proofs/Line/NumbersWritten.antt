@@ -150,7 +150,8 @@ module _ (sum : List ℕ → ℕ) (size : ℕ) (big : 256 ≤ size) (device : St
         let lies_there = has_slot.lies in
         let place_is = has_slot.is in
         let last = slots.own.below has_slot.number has_slot.taken in
-        numbers_written sum size device m (line_end size line) numbers slots.own (omega (arith, big)) (slot + begin) asked now has_slot.number v.parts.site.place has_slot.taken has_slot.is
+        numbers_written sum size device m (line_end size line) numbers slots.own (omega (arith, big))
+        (slot + begin) asked now has_slot.number v.parts.site.place has_slot.taken has_slot.is
         (omega (arith, place_is, last, big)) aligned (omega (arith, lies_there)) (omega (arith, lies_there, end, l.2))
         (λ number lid text laid kind page body rec.
         (buffer_places sum size v.parts.site

@@ -121,7 +121,8 @@ module _ (sum : List ℕ → ℕ) (size : ℕ) (some : 0 < size) (t : Trace) (m 
           shows = subst (λ (d : State). FitsWith sum noted size d None line m pins H A f U) (sym (shown_is size None m line device file)) fits;
           file = file;
           hides = λ none zeros first begins.
-              hides_at_rest sum size t m line (file.same refl) (file.rests refl) (fits.numbers zeros) fits.slots.own (least_place size first) 0 (logged H) (omega arith);
+              hides_at_rest sum size t m line (file.same refl) (file.rests refl) (fits.numbers zeros) fits.slots.own
+              (least_place size first) 0 (logged H) (omega arith);
         }
 
 -- Of segments of which there is one: another count of pins fits, where one is out while there are messages that aren't marked,

@@ -50,7 +50,8 @@ module _ (sum : List ℕ → ℕ) (size : ℕ) where
   }
 
   -- The segments end higher.
-  pub numbers_higher : {base : ℕ} (s : State) (m : Machine) (end higher : ℕ) → end ≤ higher → HasNumbers sum size base s m end → HasNumbers sum size base s m higher
+  pub numbers_higher : {base : ℕ} (s : State) (m : Machine) (end higher : ℕ) → end ≤ higher → HasNumbers sum size base s m end
+      → HasNumbers sum size base s m higher
   numbers_higher s m end higher up has = record {
     to_come = λ number at text own. let low = has.to_come number at text own in omega (arith, low, up);
     taken = has.taken;
@@ -80,7 +81,8 @@ module _ (sum : List ℕ → ℕ) (size : ℕ) where
     }
 
   -- So the slots that tables need from a place on have their numbers.
-  module _ {from : ℕ} (some : 0 < size) (s : State) (m : Machine) (end : ℕ) (has : HasNumbers sum size from s m end) (H : History) (order : Ascends H.messages) (base A : ℕ)
+  module _ {from : ℕ} (some : 0 < size) (s : State) (m : Machine) (end : ℕ) (has : HasNumbers sum size from s m end)
+      (H : History) (order : Ascends H.messages) (base A : ℕ)
       (slots : HaveSlots sum size base H A m) (low : base ≤ A) (passes : from ≤ A / size * size) where
     -- an entry is in the slot of its segment
     entry_in_slot : (cut page : ℕ) (e : Message) → A ≤ cut → Contains (table H cut page) e → IsInSlot size m e

@@ -23,7 +23,8 @@ one_slot size j k at text some here there = elim (cases_order j k) [
   | inr (inr higher) ↦ absurd (let far = slot_before size k j higher in omega (arith, far, there.1, here.0, some))
 ]
 
-module _ {base : ℕ} (sum : List ℕ → ℕ) (size : ℕ) (s : State) (m : Machine) (end : ℕ) (has : HasNumbers sum size base s m end) (slots : HaveOwn size end m) (some : 0 < size)
+module _ {base : ℕ} (sum : List ℕ → ℕ) (size : ℕ) (s : State) (m : Machine) (end : ℕ)
+    (has : HasNumbers sum size base s m end) (slots : HaveOwn size end m) (some : 0 < size)
     (at : ℕ) (asked now : List ℕ)
     (k place : ℕ) (used : is_free (slot_at m k).state ≡ false) (lsn : (slot_at m k).lsn ≡ place) (below : place < end) (begins : place / size * size ≡ place)
     (low : k * size ≤ at) (high : at + length asked ≤ k * size + size) where

@@ -39,7 +39,8 @@ module _ (sum : List ℕ → ℕ) (size : ℕ) where
     stays_taken : (k : ℕ) → is_free (slot_at m k).state ≡ false → slot_at (handed_out place m) k ≡ slot_at m k
     stays_taken k used = handed_other m within place k (other_slot k used)
 
-    pub numbers_handed : {base : ℕ} (s : State) (end : ℕ) → place / size * size ≡ place → place ≤ end → HasNumbers sum size base s m place → HasNumbers sum size base s (handed_out place m) end
+    pub numbers_handed : {base : ℕ} (s : State) (end : ℕ) → place / size * size ≡ place → place ≤ end
+        → HasNumbers sum size base s m place → HasNumbers sum size base s (handed_out place m) end
     numbers_handed s end begins up has = record {
       to_come = λ number at text own. let low = has.to_come number at text own in omega (arith, low, up);
       taken = λ k used. elim (taken_cases m within place k used) [

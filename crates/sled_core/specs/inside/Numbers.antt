@@ -32,7 +32,8 @@ pub record HasNumbers (sum : List ℕ → ℕ) (size base : ℕ) (s : State) (m 
   pub to_come : (number at : ℕ) (text : List ℕ) → IsOwnRecord sum size s number at text → number * size < end
   pub taken : (k : ℕ) → is_free (slot_at m k).state ≡ false → HasNumber sum size s k ((slot_at m k).lsn / size)
   -- each header that is own, of a segment from a place on, is that of the segment that its slot has
-  pub headers : (k place : ℕ) (mark : ℤ) → base ≤ place → IsOwnHeader sum size s k place mark → (is_free (slot_at m k).state ≡ false) × ((slot_at m k).lsn ≡ place)
+  pub headers : (k place : ℕ) (mark : ℤ) → base ≤ place → IsOwnHeader sum size s k place mark
+      → (is_free (slot_at m k).state ≡ false) × ((slot_at m k).lsn ≡ place)
   pub lie : LieInSlots sum size s
 
 -- the slot of a message has its segment
