@@ -1,6 +1,7 @@
 -- What ends the manifest of a batch: which pegs it may have, and what comes of it.
 use Rattle.std.specs.Prelude.{◌≡◌, ◌+◌, ◌*◌, ◌≤◌, ◌≤ℤ◌, ◌<ℤ◌, ◌⊎◌, ℕ, ℤ, pos, int_lt, unsigned_abs, if◌then◌else◌, List, Contains, Some, length, slice_get}
 use Rattle.sled_codec.specs.History.{Batch, Batched, History, Step}
+use Rattle.sled_core.specs.Account.{account_of}
 use Rattle.sled_core.specs.Begun.{SegmentView, records_to}
 use Rattle.sled_core.specs.declared.logger.Log.{Log}
 use Rattle.sled_core.specs.declared.reservation.Reservation.{Reservation}
@@ -43,4 +44,5 @@ pub record NotesBatchOf {D C : Type 0} (ticket : Reservation) (peg : ℤ) (old n
   pub stable : stable_end new ≡ stable_end old
   pub fault : fault_of new ≡ fault_of old
   pub pins : pins_of new ≡ pins_of old
+  pub account : account_of new ≡ account_of old
   pub few : place_of ticket <ℤ peg → kept_batches new ≤ 2 * length (noted_in new)

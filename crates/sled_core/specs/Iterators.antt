@@ -7,6 +7,7 @@ use Rattle.sled_store.specs.declared.config.RunningConfig.{RunningConfig}
 use Rattle.sled_codec.specs.declared.result.Error.{Error}
 use Rattle.sled_codec.specs.declared.result.Error.TheVariants.{Io, OutOfMemory}
 use Rattle.sled_store.specs.Device.{Trace, state_of}
+use Rattle.sled_core.specs.Account.{account_of}
 use Rattle.sled_core.specs.Among.{AreAmong}
 use Rattle.sled_core.specs.declared.iterator.Segment.{Segment}
 use Rattle.sled_core.specs.declared.iterator.log_iter.LogIter.{LogIter}
@@ -63,6 +64,7 @@ pub record IsOnlyRead {D C : Type 0} (trace : D → Trace) (sum : List ℕ → �
   pub heads : AreAmong (heads_of new) (heads_of old)
   pub fillings : AreAmong (fillings_of new) (fillings_of old)
   pub machine : machine_at new ≡ machine_at old
+  pub account : account_of new ≡ account_of old
 
 -- So it was for an item, and it keeps a failure of its device.
 pub record IsReadFor {D C : Type 0} (trace : D → Trace) (sum : List ℕ → ℕ) (item : Option (Result Item Error)) (old new : Log D C) : Type 0 where

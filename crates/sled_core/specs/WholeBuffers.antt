@@ -9,6 +9,7 @@ use Rattle.sled_core.specs.Canceled.{IsBodyOf}
 use Rattle.sled_core.specs.Fillings.{FillingAt}
 use Rattle.sled_core.specs.Heads.{HeadAt}
 use Rattle.sled_core.specs.invariants.Caps.{segment_rest}
+use Rattle.sled_core.specs.Manifests.{manifest_page}
 use Rattle.sled_core.specs.Waiting.{BufferAt}
 
 -- A record by what is in it, but for its segment's number.
@@ -26,9 +27,12 @@ records_text sum number (r ∷ rs) = short_record sum r.kind r.page number r.bod
 abbrev pub IsOfOne : List Message → ℕ → RecordParts → Type 0
 IsOfOne messages place r = (m : Message) × Contains messages m × (m.place ≡ place) × (m.page ≡ r.page) × IsBodyOf m r.body
 
--- A record at a place is none that ends its segment, and of a kind that a reader knows; and where every reader passes over it, it is of one of these messages.
+-- A record at a place is none that ends its segment, and of a kind that a reader knows; a manifest is of the page of manifests; and one that every reader
+-- passes over is of one of these messages.
 abbrev pub IsRecordAmong : List Message → ℕ → RecordParts → Type 0
-IsRecordAmong given_up place r = (r.kind ≢ kind.Cap) × (r.kind ≢ kind.Corrupted) × (r.kind ≡ kind.Canceled → IsOfOne given_up place r)
+IsRecordAmong given_up place r =
+    (r.kind ≢ kind.Cap) × (r.kind ≢ kind.Corrupted) × (r.kind ≡ kind.BatchManifest → r.page ≡ manifest_page)
+    × (r.kind ≡ kind.Canceled → IsOfOne given_up place r)
 
 -- So is each one of several, where the first of them stands at a place.
 abbrev pub AreRecordsAmong : (List ℕ → ℕ) → ℕ → List Message → ℕ → List RecordParts → Type 0
@@ -52,8 +56,8 @@ IsFilling sum size fillings number place from rest =
     × Contains fillings (record { next = place + length rest; from = place }))
 
 -- The bytes of a buffer that begins at a place, and so at an offset of a segment of a number: no record is written in parts, and none without its sum, nor one
--- of no kind; one that every reader passes over is of one of these messages, those that were given up; no record ends the segment but in what fills it; and
--- the header is one of these, and so is what fills the segment, those that aren't on the device.
+-- of no kind, nor a manifest of another page; one that every reader passes over is of one of these messages, those that were given up; no record ends the
+-- segment but in what fills it; and the header is one of these, and so is what fills the segment, those that aren't on the device.
 pub record IsWholeText (sum : List ℕ → ℕ) (size : ℕ) (given_up : List Message) (heads : List HeadAt) (fillings : List FillingAt) (number place from : ℕ)
     (bytes : List ℕ) : Type 0 where
   pub head : List ℕ

@@ -30,6 +30,7 @@ module _ {D C : Type 0} (trace : D → Trace) (sum : List ℕ → ℕ) where
     heads = λ h there. there;
     fillings = λ f there. there;
     machine = refl;
+    account = refl;
   }
 
   -- it was read again
@@ -51,6 +52,7 @@ module _ {D C : Type 0} (trace : D → Trace) (sum : List ℕ → ℕ) where
     heads = λ h there. first.heads h (so.heads h there);
     fillings = λ f there. first.fillings f (so.fillings f there);
     machine = so.machine ∙ first.machine;
+    account = so.account ∙ first.account;
   }
 
   -- An iterator begins over a log,

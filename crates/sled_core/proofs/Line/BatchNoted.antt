@@ -31,6 +31,7 @@ use Rattle.sled_core.specs.Waiting.{last_of, spans, start_in, unwritten}
 use Rattle.sled_core.proofs.Behind.FirstHoldsMarked.{noted_adds, noted_history}
 use Rattle.sled_core.proofs.Cleared.Calls.{cleared_ended}
 use Rattle.sled_core.proofs.Cleared.Shown.{ShowsSame}
+use Rattle.sled_core.proofs.Line.AccountBehind.{account_same}
 use Rattle.sled_core.proofs.Line.KeptCalls.{goes_on_quietly, position_further}
 use Rattle.sled_core.proofs.Line.EndedKeeps.{keeps_ended, position_ended}
 use Rattle.sled_core.proofs.Line.EndedLine.{marking_short}
@@ -168,6 +169,7 @@ module _ {D C : Type 0} (trace : D → Trace) (sum : List ℕ → ℕ) (old mid 
       stable = (λ j. stable_below (now_synced j) (now_noted j)) ∙ stable_with_batch (synced_end old) (noted_in old) (record { low = v.parts.site.place + r.from; peg = peg }) low_unwritten;
       fault = rest.fault ∙ ended.fault;
       pins = rest.pins ∙ ended.pins;
+      account = account_same old new (rest.marks ∙ ended.marks) (rest.pins ∙ ended.pins);
       few = λ later. few;
     }
 

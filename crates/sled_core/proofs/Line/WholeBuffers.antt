@@ -53,7 +53,7 @@ use Rattle.sled_core.proofs.Line.Shows.{number_small}
 use Rattle.sled_core.proofs.Read.ScanLemmas.{aligned_number, aligned_offset}
 use Rattle.sled_core.proofs.Holds.Filled.{filled_stand}
 use Rattle.sled_core.proofs.Reserve.Ranges.{chain_grows}
-use Rattle.sled_core.proofs.Reserve.ReserveLemmas.{kind_valid}
+use Rattle.sled_core.proofs.Reserve.ReserveLemmas.{kind_valid, manifest_there}
 
 -- What fills a segment goes by the same places.
 filled_at : (sum : List ℕ → ℕ) (size : ℕ) (fillings : List FillingAt) (number : ℕ) (rest : List ℕ) {place at from to : ℕ} → place ≡ at → from ≡ to → IsFilling sum size fillings number place from rest → IsFilling sum size fillings number at to rest
@@ -137,7 +137,7 @@ module _ (sum : List ℕ → ℕ) (size number : ℕ) (site : SegmentPosition) (
   of_message : (r : Reserved) (place : ℕ) → kind_for r.log_kind r.page (is_some r.blob) (length (body_in bytes r)) ≡ Some r.kind → IsRecordAmong messages place (record_as r r.kind)
   of_message r place known =
       let own = kind_valid r.log_kind r.page (is_some r.blob) (length (body_in bytes r)) r.kind known in
-      (own.2, own.0, λ bad. absurd (own.1 bad))
+      (own.2, own.0, manifest_there r.log_kind r.page (is_some r.blob) (length (body_in bytes r)) r.kind known, λ bad. absurd (own.1 bad))
 
   -- An entry that has ended.
   entry : (r : Reserved) (end : ℕ) → r.from + r.len ≤ end → end ≤ size → end ≤ length bytes → (s : ReservationState) → r.state ≡ s → open_state s ≡ false → StandsBy s sum size number bytes r
@@ -147,7 +147,7 @@ module _ (sum : List ℕ → ℕ) (size number : ℕ) (site : SegmentPosition) (
       one_more r end r.kind within inside (stands.text.is ∙ ap (text_as sum r.kind r.page number (body_in bytes r)) is) (of_message r (site.place + r.from) stands.text.known) more
   entry r end within short inside state.Canceled is ended stands given fills more =
       one_more r end kind.Canceled within inside (stands.text.is ∙ ap (text_as sum r.kind r.page number (body_in bytes r)) is)
-      (λ bad. cc, λ bad. cc, λ same. (message_in site bytes r, given is, refl, refl, own_body r.blob (site.slot + r.from) (body_in bytes r) stands.text.names)) more
+      (λ bad. cc, λ bad. cc, λ bad. absurd (let never : kind.Canceled ≡ kind.BatchManifest = bad in cc), λ same. (message_in site bytes r, given is, refl, refl, own_body r.blob (site.slot + r.from) (body_in bytes r) stands.text.names)) more
   entry r end within short inside state.Manifest is ended stands given fills more =
       one_more r end r.kind within inside (stands.text.is ∙ ap (text_as sum r.kind r.page number (body_in bytes r)) is) (of_message r (site.place + r.from) stands.text.known) more
   entry r end within short inside state.Padding is ended stands given fills more = filling r end stands.to_end stands.is within short inside (fills is)

@@ -1,6 +1,7 @@
 -- What is laid out for a reservation is the placeholder of its record, and the message that it is for is the one that was asked for.
 use Rattle.std.proofs.Common.{◌≡◌, ◌≢◌, ◌≤◌, ◌<◌, ◌+◌, ◌-◌, ◌^◌, ℕ, zero, suc, List, [], ◌∷◌, ◌++◌, length, take, drop, sym, ◌∙◌, ap, arith, refl, subst, append_assoc, length-append, length-drop, true, false, Bool, if◌then◌else◌, ◌==◌, replicate, None, Some, not, is_some, ◌&&◌}
 use Rattle.std.specs.List.{slice_get}
+use Rattle.std.proofs.lemmas.Bool.Decides.{nat_tests}
 use Rattle.std.proofs.lemmas.List.{drop_at, take_all, drop-drop}
 use Rattle.sled_codec.specs.declared.serialization.message.LogKind.{LogKind}
 use Rattle.sled_codec.specs.declared.serialization.message.LogKind.TheVariants as does
@@ -15,7 +16,7 @@ use Rattle.sled_codec.specs.History.{Message}
 use Rattle.sled_core.specs.declared.iobuf.Reserved.{Reserved}
 use Rattle.sled_core.specs.declared.iobuf.Purpose.{Purpose}
 use Rattle.sled_core.specs.declared.iobuf.SegmentPosition.{SegmentPosition}
-use Rattle.sled_core.specs.Manifests.{is_manifest, kind_for}
+use Rattle.sled_core.specs.Manifests.{is_manifest, kind_for, manifest_page}
 use Rattle.sled_core.specs.inside.Buffers.{SpellsBlob, text_in, placeholder, placeholder_head, reserved_for, HasText, StandsAs}
 use Rattle.sled_core.specs.Buffers.{body_in, item_as, pointer_as, message_in, record_size}
 use Rattle.sled_core.proofs.Reserve.Heads.{length-short_header_tail}
@@ -24,20 +25,25 @@ use Rattle.sled_core.proofs.Reserve.Heads.{length-short_header_tail}
 abbrev IsOwnKind : MessageKind → Type 0
 IsOwnKind k = (k ≢ Corrupted) × (k ≢ Canceled) × (k ≢ Cap)
 
-some_kind : (b c : Bool) (x y z k : MessageKind) → IsOwnKind x → IsOwnKind y → IsOwnKind z → (if b then Some x else if c then Some y else Some z) ≡ Some k → IsOwnKind k
-some_kind true c x y z k own_x own_y own_z is = let same : x ≡ k = cc in subst IsOwnKind same own_x
-some_kind false true x y z k own_x own_y own_z is = let same : y ≡ k = cc in subst IsOwnKind same own_y
-some_kind false false x y z k own_x own_y own_z is = let same : z ≡ k = cc in subst IsOwnKind same own_z
+-- nor is a message written as a manifest
+abbrev IsPlainKind : MessageKind → Type 0
+IsPlainKind k = IsOwnKind k × (k ≢ BatchManifest)
 
-written_valid : (does_it : LogKind) (page : ℕ) (blob : Bool) (kind : MessageKind) → kind_written does_it page blob ≡ Some kind → IsOwnKind kind
-written_valid does.Replace page true kind is = some_kind (page == 1) (page == 0) _ _ _ kind (λ e. cc, λ e. cc, λ e. cc) (λ e. cc, λ e. cc, λ e. cc) (λ e. cc, λ e. cc, λ e. cc) is
-written_valid does.Replace page false kind is = some_kind (page == 1) (page == 0) _ _ _ kind (λ e. cc, λ e. cc, λ e. cc) (λ e. cc, λ e. cc, λ e. cc) (λ e. cc, λ e. cc, λ e. cc) is
-written_valid does.Link page true kind is = (λ bad. cc, λ bad. cc, λ bad. cc)
-written_valid does.Link page false kind is = (λ bad. cc, λ bad. cc, λ bad. cc)
-written_valid does.Free page true kind is = (λ bad. cc, λ bad. cc, λ bad. cc)
-written_valid does.Free page false kind is = (λ bad. cc, λ bad. cc, λ bad. cc)
-written_valid does.Skip page blob kind is = (λ bad. cc, λ bad. cc, λ bad. cc)
-written_valid does.Corrupted page blob kind is = (λ bad. cc, λ bad. cc, λ bad. cc)
+some_kind : (b c : Bool) (x y z k : MessageKind) → IsPlainKind x → IsPlainKind y → IsPlainKind z → (if b then Some x else if c then Some y else Some z) ≡ Some k
+    → IsPlainKind k
+some_kind true c x y z k own_x own_y own_z is = let same : x ≡ k = cc in subst IsPlainKind same own_x
+some_kind false true x y z k own_x own_y own_z is = let same : y ≡ k = cc in subst IsPlainKind same own_y
+some_kind false false x y z k own_x own_y own_z is = let same : z ≡ k = cc in subst IsPlainKind same own_z
+
+written_valid : (does_it : LogKind) (page : ℕ) (blob : Bool) (kind : MessageKind) → kind_written does_it page blob ≡ Some kind → IsPlainKind kind
+written_valid does.Replace page true kind is = some_kind (page == 1) (page == 0) _ _ _ kind ((λ e. cc, λ e. cc, λ e. cc), λ e. cc) ((λ e. cc, λ e. cc, λ e. cc), λ e. cc) ((λ e. cc, λ e. cc, λ e. cc), λ e. cc) is
+written_valid does.Replace page false kind is = some_kind (page == 1) (page == 0) _ _ _ kind ((λ e. cc, λ e. cc, λ e. cc), λ e. cc) ((λ e. cc, λ e. cc, λ e. cc), λ e. cc) ((λ e. cc, λ e. cc, λ e. cc), λ e. cc) is
+written_valid does.Link page true kind is = ((λ bad. cc, λ bad. cc, λ bad. cc), λ bad. cc)
+written_valid does.Link page false kind is = ((λ bad. cc, λ bad. cc, λ bad. cc), λ bad. cc)
+written_valid does.Free page true kind is = ((λ bad. cc, λ bad. cc, λ bad. cc), λ bad. cc)
+written_valid does.Free page false kind is = ((λ bad. cc, λ bad. cc, λ bad. cc), λ bad. cc)
+written_valid does.Skip page blob kind is = ((λ bad. cc, λ bad. cc, λ bad. cc), λ bad. cc)
+written_valid does.Corrupted page blob kind is = ((λ bad. cc, λ bad. cc, λ bad. cc), λ bad. cc)
 
 -- nor is a manifest
 pub kind_valid : (does_it : LogKind) (page : ℕ) (blob : Bool) (n : ℕ) (kind : MessageKind) → kind_for does_it page blob n ≡ Some kind → IsOwnKind kind
@@ -45,7 +51,20 @@ kind_valid does_it page blob n kind = by (is_manifest does_it page) (not blob &&
   by : (o e : Bool) → (if o then (if e then Some BatchManifest else None) else kind_written does_it page blob) ≡ Some kind → IsOwnKind kind
   by true true is = (λ bad. cc, λ bad. cc, λ bad. cc)
   by true false is = cc
-  by false e is = written_valid does_it page blob kind is
+  by false e is = (written_valid does_it page blob kind is).0
+
+-- which is of the page of manifests.
+pub manifest_there : (does_it : LogKind) (page : ℕ) (blob : Bool) (n : ℕ) (kind : MessageKind) → kind_for does_it page blob n ≡ Some kind → kind ≡ BatchManifest
+    → page ≡ manifest_page
+manifest_there does.Skip page blob n kind known is = by (page == manifest_page) refl known where
+  by : (o : Bool) → (page == manifest_page) ≡ o → (if o then (if not blob && n == 8 then Some BatchManifest else None) else kind_written does.Skip page blob) ≡ Some kind
+      → page ≡ manifest_page
+  by true same known = grind (arith, nat_tests, same)
+  by false same known = absurd ((written_valid does.Skip page blob kind known).1 is)
+manifest_there does.Replace page blob n kind known is = absurd ((written_valid does.Replace page blob kind known).1 is)
+manifest_there does.Link page blob n kind known is = absurd ((written_valid does.Link page blob kind known).1 is)
+manifest_there does.Free page blob n kind known is = absurd ((written_valid does.Free page blob kind known).1 is)
+manifest_there does.Corrupted page blob n kind known is = absurd ((written_valid does.Corrupted page blob kind known).1 is)
 
 -- the last one is there
 pub there_last : {X : Type 0} (xs : List X) (x : X) → slice_get (xs ++ x ∷ []) (length xs) ≡ Some x

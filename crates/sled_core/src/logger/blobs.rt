@@ -34,7 +34,9 @@ impl<D: Device, C: Checksum> Log<D, C> {
     /// Keeps a place for a Replace of this page whose item stays in a blob that is there, and returns the ticket for it. Its record has the
     /// blob's place. `abort` leaves the blob alone, whatever its place. The guard shows that a pin is out.
     ///
-    /// The caller owes the log that at each moment the page's state below the record's place is the single Replace of that blob, which no crash takes.
+    /// The caller owes the log that at each moment the page's state below the record's place is the single Replace of that blob, which no
+    /// crash takes; and that the page is that still when the message is completed, for a log that fits a history (`complete`). So no
+    /// other ticket of the page is open beside this one.
     ///
     /// # Errors
     ///

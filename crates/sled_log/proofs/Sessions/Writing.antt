@@ -72,7 +72,7 @@ was_free old new same none = by (fault_of old) refl where
 more_records : (sum : List ℕ → ℕ) (number : ℕ) (these all : List Message) → AreAmong these all → (place : ℕ) (rs : List RecordParts) → AreRecordsAmong sum number these place rs → AreRecordsAmong sum number all place rs
 more_records sum number these all among place [] are = tt
 more_records sum number these all among place (r ∷ rs) are = (
-  (are.0.0, are.0.1, λ is. (let one = are.0.2 is in (one.0, among one.0 one.1, one.2, one.3, one.4))),
+  (are.0.0, are.0.1, are.0.2, λ is. (let one = are.0.3 is in (one.0, among one.0 one.1, one.2, one.3, one.4))),
   more_records sum number these all among (place + length (short_record sum r.kind r.page number r.body)) rs are.1,
 )
 
