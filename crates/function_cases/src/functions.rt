@@ -328,8 +328,8 @@ fn record_at(lsn: i64, lid: u64) -> CacheInfo {
 // The file of the snapshot with the stable place 32, the active segment at 0, and one page, whose base is a record of 12
 // bytes at 20: its 21 bytes, their number, and their sum, 33 + 9 + 10 + 11 * 20 + 20 * 20 + 21 * 12 = 924.
 const SNAPSHOT_FILE: [u8; 33] = [
-    33, 0, 0, 0, 0, 0, 0, 0, 1, 1, 20, 0, 0, 0, 0, 0, 0, 0, 0, 20, 12, 21, 0, 0, 0, 0, 0, 0, 0, 156,
-    3, 0, 0,
+    33, 0, 0, 0, 0, 0, 0, 0, 1, 1, 20, 0, 0, 0, 0, 0, 0, 0, 0, 20, 12, 21, 0, 0, 0, 0, 0, 0, 0,
+    156, 3, 0, 0,
 ];
 
 // It is read, and written again as it is. With another length, another sum, or too short for them it is damage.
@@ -338,7 +338,8 @@ fn spells_snapshot(alloc: Global) -> Result<bool> {
     if !snapshot.can_serialize() || snapshot.serialized_size() >= 1 << 20 {
         return Ok(false);
     }
-    let is_written = encode_file(alloc, &PlaceSum, &snapshot)?.as_slice() == SNAPSHOT_FILE.as_slice();
+    let is_written = encode_file(alloc, &PlaceSum, &snapshot)?.as_slice()
+        == SNAPSHOT_FILE.as_slice();
     let (mut long, mut torn) = (SNAPSHOT_FILE, SNAPSHOT_FILE);
     long[21] = 22;
     torn[29] = 157;

@@ -73,7 +73,6 @@ module _ (sum : List ℕ → ℕ) (size : ℕ) (site : SegmentPosition) (device 
         left = fits.left;
       }
 
-
   -- Up to the stable place all may count as acknowledged,
   pub fits-synced : (end : ℕ) → end ≤ stable_below reach H.batches → FitsIn sum (log_parts size site device fault bytes from bs rs) behind reach pins H end f U
   fits-synced end passes = record {

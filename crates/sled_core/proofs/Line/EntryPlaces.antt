@@ -32,7 +32,7 @@ module _ (size : ℕ) (v : SegmentView) (i : ℕ) (r : Reserved) (at : slice_get
   line_unwritten (w ∷ ws) zero place there facts =
       let same : w ≡ v = cc in
       let inside = at_there (λ (z : Reserved). (max 20 v.parts.written_len ≤ z.from) × (z.from + z.len ≤ length v.parts.bytes)) v.parts.reserved i r at
-          (chain_within (max 20 v.parts.written_len) (length v.parts.bytes) v.parts.reserved (segment_chain v own_facts)) in
+      (chain_within (max 20 v.parts.written_len) (length v.parts.bytes) v.parts.reserved (segment_chain v own_facts)) in
       let begins = ap (λ (x : SegmentView). x.parts.site.place + x.parts.written_len) same in
       omega (arith, inside.0, begins)
   line_unwritten (w ∷ ws) (suc k) place there facts =

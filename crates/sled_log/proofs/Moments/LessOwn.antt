@@ -120,18 +120,18 @@ module _ (sum : List ℕ → ℕ) (size : ℕ) (none : NoHeaderOfZeros sum) (old
   pub recovery_less : RecoveryCalls sum size old new → Throughout Less' old new
   recovery_less (inl settling) =
       performs_throughout Less' (Synced ∷ NamesSynced ∷ []) old new settling
-          (along_spared sum size none (state_of old) (Synced ∷ NamesSynced ∷ []) (tt, (tt, tt)) (state_of old) same_own)
+      (along_spared sum size none (state_of old) (Synced ∷ NamesSynced ∷ []) (tt, (tt, tt)) (state_of old) same_own)
   recovery_less (inr (x, recovers, inl (inl calls))) =
       performs_throughout Less' (Synced ∷ NamesSynced ∷ shredding x.shred_range) old new calls
       (along_spared sum size none (state_of old) (Synced ∷ NamesSynced ∷ shredding x.shred_range) (tt, (tt, shredding_spares x.shred_range))
-          (state_of old) same_own)
+      (state_of old) same_own)
   recovery_less (inr (x, recovers, inl (inr (fits, ns, may, calls)))) =
       performs_throughout Less' (Synced ∷ NamesSynced ∷ committing sum x ns) old new calls
       (along_spared sum size none (state_of old) (Synced ∷ NamesSynced ∷ committing sum x ns) (tt, (tt, committing_spares sum x ns)) (state_of old) same_own)
   recovery_less (inr (x, recovers, inr (fits, ns, are, places, may, calls))) =
       performs_throughout Less' (Synced ∷ NamesSynced ∷ writing_back sum size x ns places) old new calls
       (along_spared sum size none (state_of old) (Synced ∷ NamesSynced ∷ writing_back sum size x ns places) (tt, (tt, writing_spares sum size x ns places))
-          (state_of old) same_own)
+      (state_of old) same_own)
 
   -- and so behind all calls.
   pub written_less : (x : RecoveryResult) → HasWrittenBack sum size x (NamesSynced ∷ Synced ∷ old) new → Less' (state_of new)

@@ -115,12 +115,12 @@ tested_blobs : (size k : ℕ) (m : Machine) → KeepsBlobs m.slots (tested size 
 tested_blobs size k m =
     blobs_then m.slots n.slots (tested size k m).machine.slots (sparse_blobs size m k)
     (by (is_done (slot_at n k) && not (is_active_place n (slot_at n k).latest))) where
-  n : Machine
-  n = drained_if_sparse size k m
+      n : Machine
+      n = drained_if_sparse size k m
 
-  by : (b : Bool) → KeepsBlobs n.slots (if b then freed size k n else record { machine = n; calls = [] }).machine.slots
-  by true = set_without n.slots k free_slot refl
-  by false = blobs_same n.slots
+      by : (b : Bool) → KeepsBlobs n.slots (if b then freed size k n else record { machine = n; calls = [] }).machine.slots
+      by true = set_without n.slots k free_slot refl
+      by false = blobs_same n.slots
 
 wasteful_blobs : (m : Machine) → KeepsBlobs m.slots (drained_if_wasteful m).slots
 wasteful_blobs m = by (is_wasteful m.slots) refl where
