@@ -20,7 +20,8 @@ use Rattle.sled_core.specs.Good.{IsGood}
 use Rattle.sled_core.specs.Keeps.{GoesOn, Preserves}
 use Rattle.sled_core.specs.Recoverable.{RecoverableIfOwn}
 use Rattle.sled_core.specs.invariants.Running.{Fits, Ready}
-use Rattle.sled_core.specs.Starts.{BeginsBehind, HasMadeStart, StartCalls}
+use Rattle.sled_core.specs.Positions.{Position}
+use Rattle.sled_core.specs.Starts.{BeginsBehind, HasMadeStart, StartCalls, position_from}
 use Rattle.sled_core.proofs.PublicLaws.{ready_place}
 use Rattle.sled_log.specs.Orderly.{CanRecover}
 use Rattle.sled_log.specs.Restores.{Restores}
@@ -181,11 +182,13 @@ module _ (sum : List ℕ → ℕ) (size again : ℕ) (same : again ≡ size) (ol
   }
 
   -- A generator begins with the bound that stands there then; the log says the size of segments a third time.
-  pub was_opened : HasMadeStart again s mid new → IsStartable again len s → IsInReach again len s → (third n : ℕ) → third ≡ size → IsBoundRead sum third (state_of new).log.bytes s.pages n → HasOpened sum size n old new
+  pub was_opened : HasMadeStart again s mid new → IsStartable again len s → IsInReach again len s → (third n : ℕ) → third ≡ size → IsBoundRead sum third (state_of new).log.bytes s.pages n
+      → (position : Position) → position ≡ position_from again len s → HasOpened sum size n position old new
   unfolding was_started
-  was_opened made startable in_reach third n sized bound = record {
+  was_opened made startable in_reach third n sized bound position goes_on = record {
     started = was_started made startable in_reach;
     bound = subst (λ (k : ℕ). IsBoundRead sum k (state_of new).log.bytes s.pages n) sized bound;
+    goes_on = subst (λ k. position ≡ position_from k len s) same goes_on;
   }
 
   -- or it couldn't be read.

@@ -57,7 +57,7 @@ fails_at (error.ReportableBug text) used so old new before now up fails = fails
 module _ {D C : Type 0} (view : D → DeviceView) (sum : List ℕ → ℕ) where
   -- A command with which nothing is done.
   pub stays : (phase : Phase D C) (c : Command) (r : Reply) → ((a : IdState) → StandsAt view sum phase a → Acts sum (size_in phase) a.device a.generator c r a.device)
-      → ((a : IdState) → StandsAt view sum phase a → IsStep (SomeUsedUp D C view sum) (size_in phase) a a.generator c r a.device a)
+      → ((a : IdState) → StandsAt view sum phase a → IsStep sum (SomeUsedUp D C view sum (size_in phase)) (size_in phase) a a.generator c r a.device a)
       → Acts sum (size_in phase) (view (running_in phase).device) (seen_in phase) c r (view (running_in phase).device)
       → Shows sum (size_in phase) (view (running_in phase).device) (seen_in phase) c r (view (running_in phase).device) (seen_in phase) → CarriesOut view sum phase c (phase, r)
   stays phase c r acts step here shows = record {
@@ -85,11 +85,11 @@ module _ {D C : Type 0} (view : D → DeviceView) (sum : List ℕ → ℕ) where
 
   -- while no generator is open
   module _ (config : RunningConfig D C) where
-    pub stays_closed : (c : Command) (r : Reply) → ((d : DeviceView) → Acts sum config.config.segment_size d None c r d) → ((a : IdState) → IsStep (SomeUsedUp D C view sum) config.config.segment_size a None c r a.device a)
+    pub stays_closed : (c : Command) (r : Reply) → ((d : DeviceView) → Acts sum config.config.segment_size d None c r d) → ((a : IdState) → IsStep sum (SomeUsedUp D C view sum config.config.segment_size) config.config.segment_size a None c r a.device a)
         → Shows sum config.config.segment_size (view config.device) None c r (view config.device) None → CarriesOut view sum (Closed config) c (Closed config, r)
     stays_closed c r acts step shows = stays (Closed config) c r
         (λ a at. subst (λ (o : Option GeneratorView). Acts sum config.config.segment_size a.device o c r a.device) (sym at.shut) (acts a.device))
-        (λ a at. subst (λ (o : Option GeneratorView). IsStep (SomeUsedUp D C view sum) config.config.segment_size a o c r a.device a) (sym at.shut) (step a)) (acts (view config.device)) shows
+        (λ a at. subst (λ (o : Option GeneratorView). IsStep sum (SomeUsedUp D C view sum config.config.segment_size) config.config.segment_size a o c r a.device a) (sym at.shut) (step a)) (acts (view config.device)) shows
 
     -- The device is asked to stop.
     pub arms_closed : (new : RunningConfig D C) (n : ℕ) → ConfigKept config new → view new.device ≡ to_stop n (view config.device) → CarriesOut view sum (Closed config) (told.Stop n) (Closed new, reply.Armed)
@@ -171,7 +171,7 @@ module _ {D C : Type 0} (view : D → DeviceView) (sum : List ℕ → ℕ) where
     -- One was opened.
     pub opens : (g : IdGenerator D C) → ConfigKept config (running g)
         → ((n most : ℕ) → CanOpen sum config.config.segment_size n most (state_of (traces view config.device)) → Generates (traces view) sum g × (n ≤ next_of g) × (next_of g ≤ most))
-        → IsLater (traces view config.device) (traces view (running g).device) → HasOpened sum config.config.segment_size (next_of g) (traces view config.device) (traces view (running g).device)
+        → IsLater (traces view config.device) (traces view (running g).device) → HasOpened sum config.config.segment_size (next_of g) (position_of (log_of g)) (traces view config.device) (traces view (running g).device)
         → bound_of g ≡ next_of g → asked_of g ≡ next_of g → block_of g ≡ 100 → kept_fault g ≡ None → (view (running g).device).failures ≡ (view config.device).failures
         → CarriesOut view sum (Closed config) told.Open (Open g, reply.Opened)
     opens g kept opened later started bound asked block free counted = record {
@@ -186,8 +186,8 @@ module _ {D C : Type 0} (view : D → DeviceView) (sum : List ℕ → ℕ) where
             let goes = opened a.next a.most (can_open a at own) in
             let b : IdState = stands_at a (view (running g).device) (Some (seen g)) in (
               b,
-              subst (λ (o : Option GeneratorView). IsStep (SomeUsedUp D C view sum) config.config.segment_size a o told.Open reply.Opened (view (running g).device) b) (sym at.shut)
-                  (next_of g, position_of (log_of g), goes.1, goes.2, ap (λ (v : GeneratorView). stands_at a (view (running g).device) (Some v)) (begun g bound asked block free)),
+              subst (λ (o : Option GeneratorView). IsStep sum (SomeUsedUp D C view sum config.config.segment_size) config.config.segment_size a o told.Open reply.Opened (view (running g).device) b) (sym at.shut)
+                  (next_of g, position_of (log_of g), subst (λ (d : DeviceView). HasOpened sum config.config.segment_size (next_of g) (position_of (log_of g)) d.trace (traces view (running g).device)) (sym at.device) started, goes.1, goes.2, ap (λ (v : GeneratorView). stands_at a (view (running g).device) (Some v)) (begun g bound asked block free)),
               record {
                 device = refl;
                 seen = refl;
@@ -225,7 +225,7 @@ module _ {D C : Type 0} (view : D → DeviceView) (sum : List ℕ → ℕ) where
             let can = can_open a at own in
             let b : IdState = stands_at a (view new.device) None in (
               b,
-              subst (λ (o : Option GeneratorView). IsStep (SomeUsedUp D C view sum) config.config.segment_size a o told.Open (reply.Failed e) (view new.device) b) (sym at.shut)
+              subst (λ (o : Option GeneratorView). IsStep sum (SomeUsedUp D C view sum config.config.segment_size) config.config.segment_size a o told.Open (reply.Failed e) (view new.device) b) (sym at.shut)
                   (fails a.next a.most can, subst (λ (d : DeviceView). CountsError e d.failures (view new.device).failures) (sym at.device) counts, refl),
               record {
                 device = refl;
@@ -241,11 +241,11 @@ module _ {D C : Type 0} (view : D → DeviceView) (sum : List ℕ → ℕ) where
 
   -- While one is open.
   module _ (g : IdGenerator D C) where
-    pub stays_open : (c : Command) (r : Reply) → ((d : DeviceView) (v : GeneratorView) → Acts sum (size_of g) d (Some v) c r d) → ((a : IdState) (v : GeneratorView) → IsStep (SomeUsedUp D C view sum) (size_of g) a (Some v) c r a.device a)
+    pub stays_open : (c : Command) (r : Reply) → ((d : DeviceView) (v : GeneratorView) → Acts sum (size_of g) d (Some v) c r d) → ((a : IdState) (v : GeneratorView) → IsStep sum (SomeUsedUp D C view sum (size_of g)) (size_of g) a (Some v) c r a.device a)
         → Shows sum (size_of g) (view (running g).device) (Some (seen g)) c r (view (running g).device) (Some (seen g)) → CarriesOut view sum (Open g) c (Open g, r)
     stays_open c r acts step shows = stays (Open g) c r
         (λ a at. subst (λ (o : Option GeneratorView). Acts sum (size_of g) a.device o c r a.device) (sym at.seen) (acts a.device (seen g)))
-        (λ a at. subst (λ (o : Option GeneratorView). IsStep (SomeUsedUp D C view sum) (size_of g) a o c r a.device a) (sym at.seen) (step a (seen g))) (acts (view (running g).device) (seen g)) shows
+        (λ a at. subst (λ (o : Option GeneratorView). IsStep sum (SomeUsedUp D C view sum (size_of g)) (size_of g) a o c r a.device a) (sym at.seen) (step a (seen g))) (acts (view (running g).device) (seen g)) shows
 
     -- What its device gives from now, as a run has it.
     pub gives_here : (a : IdState) → StandsAt view sum (Open g) a → GivesFrom sum (size_of g) a.next a.most (state_of (traces view (running g).device))
@@ -272,7 +272,7 @@ module _ {D C : Type 0} (view : D → DeviceView) (sum : List ℕ → ℕ) where
         acts = subst (λ (o : Option GeneratorView). Acts sum (size_of g) a.device o told.Close reply.Closed a.device) (sym at.seen) (refl, refl);
         step = λ own. (
           stands_at a a.device None,
-          subst (λ (o : Option GeneratorView). IsStep (SomeUsedUp D C view sum) (size_of g) a o told.Close reply.Closed a.device (stands_at a a.device None)) (sym at.seen) refl,
+          subst (λ (o : Option GeneratorView). IsStep sum (SomeUsedUp D C view sum (size_of g)) (size_of g) a o told.Close reply.Closed a.device (stands_at a a.device None)) (sym at.seen) refl,
           shut_here a at new is,
         );
       };
@@ -333,7 +333,7 @@ module _ {D C : Type 0} (view : D → DeviceView) (sum : List ℕ → ℕ) where
                 acts = subst (λ (o : Option GeneratorView). Acts sum (size_of g) a.device o (told.SetBlock block) reply.Set a.device) (sym at.seen) (refl, refl);
                 step = λ own. (
                   b,
-                  subst (λ (o : Option GeneratorView). IsStep (SomeUsedUp D C view sum) (size_of g) a o (told.SetBlock block) reply.Set a.device b) (sym at.seen) refl,
+                  subst (λ (o : Option GeneratorView). IsStep sum (SomeUsedUp D C view sum (size_of g)) (size_of g) a o (told.SetBlock block) reply.Set a.device b) (sym at.seen) refl,
                   record {
                     device = at.device ∙ ap (λ x. view (config_of x).device) (sym same);
                     seen = ap (λ (v : GeneratorView). Some v) (sym set);
@@ -419,7 +419,7 @@ module _ {D C : Type 0} (view : D → DeviceView) (sum : List ℕ → ℕ) where
               let up = g.ordered in
               let ahead = g.ahead in (
                 b,
-                subst (λ (o : Option GeneratorView). IsStep (SomeUsedUp D C view sum) (size_of g) a o told.Next (reply.Given id) (view (running new).device) b) (sym at.seen) (
+                subst (λ (o : Option GeneratorView). IsStep sum (SomeUsedUp D C view sum (size_of g)) (size_of g) a o told.Next (reply.Given id) (view (running new).device) b) (sym at.seen) (
                   is,
                   omega (arith, low, is),
                   omega (arith, is, up, ahead, high),
@@ -464,10 +464,10 @@ module _ {D C : Type 0} (view : D → DeviceView) (sum : List ℕ → ℕ) where
               let low = at.next in
               let high = at.most in (
                 b,
-                subst (λ (o : Option GeneratorView). IsStep (SomeUsedUp D C view sum) (size_of g) a o told.Next (reply.Failed e) (view (running new).device) b) (sym at.seen) (
+                subst (λ (o : Option GeneratorView). IsStep sum (SomeUsedUp D C view sum (size_of g)) (size_of g) a o told.Next (reply.Failed e) (view (running new).device) b) (sym at.seen) (
                   seen new,
                   not_given next bound once,
-                  fails_at e (IsUsedUp g) (SomeUsedUp D C view sum a) (kept_fault g) (kept_fault new) a.device.failures (view (running new).device).failures (λ used. (g, at, used)) (subst (λ (d : DeviceView). NextFails e (IsUsedUp g) (kept_fault g) (kept_fault new) d.failures (view (running new).device).failures) (sym at.device) fails),
+                  fails_at e (IsUsedUp g) (SomeUsedUp D C view sum (size_of g) a) (kept_fault g) (kept_fault new) a.device.failures (view (running new).device).failures (λ used. (g, refl, at, used)) (subst (λ (d : DeviceView). NextFails e (IsUsedUp g) (kept_fault g) (kept_fault new) d.failures (view (running new).device).failures) (sym at.device) fails),
                   refl,
                 ),
                 record {

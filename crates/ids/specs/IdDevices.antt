@@ -18,13 +18,13 @@ abbrev pub CrashShows : Option GeneratorView → Reply → Option GeneratorView 
 CrashShows g (reply.Crashed taken) now = now ≡ None
 CrashShows g r now = now ≡ g
 
--- Which generator is open behind a command: one that was opened begins with the bound that stands in the log file; one that was asked gave the identifier
--- that came next, or none for an error of these kinds.
+-- Which generator is open behind a command: one that was opened begins with the bound that stands in the log file, where a log
+-- begins on what was recovered; one that was asked gave the identifier that came next, or none for an error of these kinds.
 abbrev pub Shows : (List ℕ → ℕ) → ℕ → DeviceView → Option GeneratorView → Command → Reply → DeviceView → Option GeneratorView → Type 0
 Shows sum size old g (command.Crash choice) r new now = CrashShows g r now
 Shows sum size old g (command.Stop n) r new now = now ≡ g
 Shows sum size old None command.Open reply.Opened new now =
-    (n : ℕ) × (position : Position) × HasOpened sum size n old.trace new.trace × (now ≡ Some (begun_view n position))
+    (n : ℕ) × (position : Position) × HasOpened sum size n position old.trace new.trace × (now ≡ Some (begun_view n position))
 Shows sum size old (Some v) command.Next (reply.Given id) new now = (id ≡ v.next) × (w : GeneratorView) × HasGiven size v w × (now ≡ Some w)
 Shows sum size old (Some v) command.Next (reply.Failed e) new now =
     (w : GeneratorView) × HasNotGiven size v w × NextFails e (Unit {0}) v.fault w.fault old.failures new.failures × (now ≡ Some w)

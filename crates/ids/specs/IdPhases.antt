@@ -42,8 +42,8 @@ SomeStands D C view sum size a =
     ⊎ ((g : IdGenerator D C) × (size_of g ≡ size) × IsOpenAt view sum g a)
 
 -- One stands there that is used up.
-abbrev pub SomeUsedUp : (D C : Type 0) → (D → DeviceView) → (List ℕ → ℕ) → IdState → Type 0
-SomeUsedUp D C view sum a = (g : IdGenerator D C) × IsOpenAt view sum g a × IsUsedUp g
+abbrev pub SomeUsedUp : (D C : Type 0) → (D → DeviceView) → (List ℕ → ℕ) → ℕ → IdState → Type 0
+SomeUsedUp D C view sum size a = (g : IdGenerator D C) × (size_of g ≡ size) × IsOpenAt view sum g a × IsUsedUp g
 
 -- What a run's code has.
 
@@ -71,7 +71,8 @@ IsOver view phase g device = (g ≡ seen_in phase) × (device ≡ view (running_
 
 -- A command was carried out in a phase, and led to another one, with the same configuration; and it did this to the device, whatever that has.
 pub record CarriesOut {D C : Type 0} (view : D → DeviceView) (sum : List ℕ → ℕ) (phase : Phase D C) (c : Command) (result : Phase D C × Reply) : Type 0 where
-  pub step : (a : IdState) → StandsAt view sum phase a → Carries sum (size_in phase) (SomeUsedUp D C view sum) a c result.1 (StandsAt view sum result.0)
+  pub step : (a : IdState) → StandsAt view sum phase a
+      → Carries sum (size_in phase) (SomeUsedUp D C view sum (size_in phase)) a c result.1 (StandsAt view sum result.0)
   pub device : Leaves sum (size_in phase) (seen_in phase) (view (running_in phase).device) c result.1 (IsOver view result.0)
   pub kept : ConfigKept (running_in phase) (running_in result.0)
 

@@ -17,7 +17,7 @@ use Rattle.ids.specs.declared.run.Command.TheVariants as command
 use Rattle.ids.specs.declared.run.Reply.{Reply}
 use Rattle.ids.specs.declared.run.Reply.TheVariants as reply
 use Rattle.ids.specs.Generators.{NextFails, WritesBuffers}
-use Rattle.ids.specs.Openings.{HasStarted, OpenFails}
+use Rattle.ids.specs.Openings.{HasOpened, HasStarted, OpenFails}
 use Rattle.ids.specs.Readings.{CountsError, IsOpenError}
 
 -- What is seen of a generator that is open.
@@ -150,11 +150,13 @@ Acts sum size old None (command.SetBlock block) r new = (r ≡ reply.Refused) ×
 abbrev pub begun_view : ℕ → Position → GeneratorView
 begun_view n position = record { next = n; bound = n; asked = n; block = 100; fault = None; position = position }
 
--- A generator is open, or none for one of these reasons.
-abbrev pub OpenStep : IdState → Reply → DeviceView → IdState → Type 0
-OpenStep a reply.Opened new b = (n : ℕ) × (position : Position) × (a.next ≤ n) × (n ≤ a.most) × (b ≡ stands_at a new (Some (begun_view n position)))
-OpenStep a (reply.Failed e) new b = IsOpenError e × CountsError e a.device.failures new.failures × (b ≡ stands_at a new None)
-OpenStep a r new b = ⊥
+-- A generator is open, that begins where the calls which were made have it begin, or none for one of these reasons.
+abbrev pub OpenStep : (List ℕ → ℕ) → ℕ → IdState → Reply → DeviceView → IdState → Type 0
+OpenStep sum size a reply.Opened new b =
+    (n : ℕ) × (position : Position) × HasOpened sum size n position a.device.trace new.trace
+    × (a.next ≤ n) × (n ≤ a.most) × (b ≡ stands_at a new (Some (begun_view n position)))
+OpenStep sum size a (reply.Failed e) new b = IsOpenError e × CountsError e a.device.failures new.failures × (b ≡ stands_at a new None)
+OpenStep sum size a r new b = ⊥
 
 -- The next identifier is given out, which is above all before it, or none for one of these reasons. What comes next is above it, by no more than a block.
 abbrev pub NextStep : (IdState → Type 0) → ℕ → IdState → GeneratorView → Reply → DeviceView → IdState → Type 0
@@ -175,17 +177,17 @@ abbrev pub with_block : ℕ → GeneratorView → GeneratorView
 with_block n v = record v { block = n }
 
 -- What a command comes to: one that is refused changes nothing.
-abbrev pub IsStep : (IdState → Type 0) → ℕ → IdState → Option GeneratorView → Command → Reply → DeviceView → IdState → Type 0
-IsStep UsedUp size a g (command.Crash choice) r new b = CrashStep a r new b
-IsStep UsedUp size a g (command.Stop n) r new b = b ≡ stands_at a new g
-IsStep UsedUp size a None command.Open r new b = OpenStep a r new b
-IsStep UsedUp size a (Some v) command.Open r new b = b ≡ a
-IsStep UsedUp size a (Some v) command.Next r new b = NextStep UsedUp size a v r new b
-IsStep UsedUp size a None command.Next r new b = b ≡ a
-IsStep UsedUp size a (Some v) command.Close r new b = b ≡ stands_at a new None
-IsStep UsedUp size a None command.Close r new b = b ≡ a
-IsStep UsedUp size a (Some v) (command.SetBlock block) r new b = b ≡ stands_at a new (Some (with_block (non_zero_u64_get block) v))
-IsStep UsedUp size a None (command.SetBlock block) r new b = b ≡ a
+abbrev pub IsStep : (List ℕ → ℕ) → (IdState → Type 0) → ℕ → IdState → Option GeneratorView → Command → Reply → DeviceView → IdState → Type 0
+IsStep sum UsedUp size a g (command.Crash choice) r new b = CrashStep a r new b
+IsStep sum UsedUp size a g (command.Stop n) r new b = b ≡ stands_at a new g
+IsStep sum UsedUp size a None command.Open r new b = OpenStep sum size a r new b
+IsStep sum UsedUp size a (Some v) command.Open r new b = b ≡ a
+IsStep sum UsedUp size a (Some v) command.Next r new b = NextStep UsedUp size a v r new b
+IsStep sum UsedUp size a None command.Next r new b = b ≡ a
+IsStep sum UsedUp size a (Some v) command.Close r new b = b ≡ stands_at a new None
+IsStep sum UsedUp size a None command.Close r new b = b ≡ a
+IsStep sum UsedUp size a (Some v) (command.SetBlock block) r new b = b ≡ stands_at a new (Some (with_block (non_zero_u64_get block) v))
+IsStep sum UsedUp size a None (command.SetBlock block) r new b = b ≡ a
 
 -- A command was carried out from where a run stands, and did this to the device, whose trace goes on. Where it reads or leaves nothing foreign, it comes to
 -- a step, and what is claimed of where that leads holds.
@@ -193,7 +195,7 @@ pub record Carries (sum : List ℕ → ℕ) (size : ℕ) (UsedUp : IdState → T
   pub new : DeviceView
   pub later : IsLater a.device.trace new.trace
   pub acts : Acts sum size a.device a.generator c r new
-  pub step : IsOwn sum size (state_of a.device.trace) c r → (b : IdState) × IsStep UsedUp size a a.generator c r new b × Leads b
+  pub step : IsOwn sum size (state_of a.device.trace) c r → (b : IdState) × IsStep sum UsedUp size a a.generator c r new b × Leads b
 
 -- These commands are answered by these replies, from where a run stands on. What is claimed of each place between two commands holds behind each of them,
 -- and what is claimed of the end holds there. Where a command reads or leaves what is foreign, nothing more is claimed from there on.

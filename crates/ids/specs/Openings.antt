@@ -8,10 +8,12 @@ use Rattle.sled_store.specs.Begin.{IsInReach, IsStartable}
 use Rattle.sled_store.specs.Blobs.{ItemAnswers}
 use Rattle.sled_store.specs.StartCauses.{StartRefuses}
 use Rattle.sled_store.specs.Device.{Trace, state_of}
-use Rattle.sled_core.specs.Starts.{HasMadeStart, StartCalls}
+use Rattle.sled_core.specs.Fits.{position_of}
+use Rattle.sled_core.specs.Positions.{Position}
+use Rattle.sled_core.specs.Starts.{HasMadeStart, StartCalls, position_from}
 use Rattle.sled_log.specs.Restores.{ComesOf, Restores}
 use Rattle.ids.specs.declared.generator.IdGenerator.{IdGenerator}
-use Rattle.ids.specs.Generators.{next_of}
+use Rattle.ids.specs.Generators.{log_of, next_of}
 use Rattle.ids.specs.Readings.{CountsError, IsBoundRead, IsReadError}
 
 -- The recovery failed: its calls were made up to one that failed, and where it met damage nothing was written.
@@ -38,10 +40,11 @@ pub record HasStarted (sum : List ℕ → ℕ) (size : ℕ) (old new : Trace) : 
   pub in_reach : IsInReach size (length (state_of mid).log.bytes) snapshot
   pub made : HasMadeStart size snapshot mid new
 
--- So it was, and this number is the bound that stands in the log file then.
-pub record HasOpened (sum : List ℕ → ℕ) (size n : ℕ) (old new : Trace) : Type 0 where
+-- So it was, this number is the bound that stands in the log file then, and the log goes on where it begins on what was recovered: nothing was put into it.
+pub record HasOpened (sum : List ℕ → ℕ) (size n : ℕ) (position : Position) (old new : Trace) : Type 0 where
   pub started : HasStarted sum size old new
   pub bound : IsBoundRead sum size (state_of new).log.bytes started.snapshot.pages n
+  pub goes_on : position ≡ position_from size (length (state_of started.mid).log.bytes) started.snapshot
 
 -- A log was started so, and the bound could not be read; damage is answered only where none stands there.
 pub record ReadFailed (sum : List ℕ → ℕ) (size : ℕ) (e : Error) (old new : Trace) (before after : ℕ) : Type 0 where
@@ -55,7 +58,7 @@ abbrev pub OpenFails : (List ℕ → ℕ) → ℕ → Error → (old new : Trace
 OpenFails sum size e old new before after =
     RecoveryFailed sum size e old new before after ⊎ StartFailed sum size e old new before after ⊎ ReadFailed sum size e old new before after
 
--- A generator was opened by the calls of a recovery and of a start, and begins with the bound that stands there; or none was.
+-- A generator was opened by the calls of a recovery and of a start, and begins with the bound that stands there, over a log that only began; or none was.
 abbrev pub OpenActs : {D C R : Type 0} → (List ℕ → ℕ) → ℕ → Result (IdGenerator D C) (Error × R) → (old new : Trace) (before after : ℕ) → Type 0
-OpenActs sum size (Ok g) old new before after = HasOpened sum size (next_of g) old new × (after ≡ before)
+OpenActs sum size (Ok g) old new before after = HasOpened sum size (next_of g) (position_of (log_of g)) old new × (after ≡ before)
 OpenActs sum size (Err e) old new before after = OpenFails sum size e.0 old new before after

@@ -49,7 +49,7 @@ impl<D: Device, C: Checksum> IdGenerator<D, C> {
 
     /// Recovers what the device has, begins a log on it, and returns a generator that goes on from the greatest bound that is found; from 0
     /// on a device that was never written to. Its blocks have 100 identifiers. Whatever the device has, it begins with the number that stands for the bound
-    /// of page 0 of the table that was recovered, and with 0 where that has no page.
+    /// of page 0 of the table that was recovered, and with 0 where that has no page. Nothing is put into its log yet.
     ///
     /// # Errors
     ///

@@ -73,7 +73,7 @@ pub fn run<D: CrashDevice, C: Checksum>(
 ) -> (RunningConfig<D, C>, Result<Vec<Reply>, AllocError>)
     ensures ascends { let size = config.config.segment_size in let view = view_by D.trace D.faults D.is_stopped in
         (n most : ℕ) → GivesFrom C.sum_of size n most (state_of (D.trace config.device)) → IfOk result.1 (λ replies.
-        IdRuns C.sum_of size (SomeStands D C view C.sum_of size) (SomeUsedUp D C view C.sum_of)
+        IdRuns C.sum_of size (SomeStands D C view C.sum_of size) (SomeUsedUp D C view C.sum_of size)
         (begins_at (view config.device) n most) commands.now replies.items (EndsAt C.sum_of size (view result.0.device))) }
     ensures devices { let view = view_by D.trace D.faults D.is_stopped in IfOk result.1 (λ replies.
         Devices C.sum_of config.config.segment_size None (view config.device) commands.now replies.items (λ g device. device ≡ view result.0.device)) }

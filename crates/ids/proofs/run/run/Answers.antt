@@ -21,7 +21,7 @@ loop-command-init g c =
     let sum = g.C.Checksum.sum_of in
     let size : ℕ = c.args.config.config.segment_size in
     let Between : IdState → Type 0 = SomeStands g.row.D.Denot g.row.C.Denot view sum size in
-    let UsedUp : IdState → Type 0 = SomeUsedUp g.row.D.Denot g.row.C.Denot view sum in
+    let UsedUp : IdState → Type 0 = SomeUsedUp g.row.D.Denot g.row.C.Denot view sum size in
     let Leads : IdState → Type 0 = StandsAt view sum (Closed c.args.config) in
     record {
       runs = λ n most gives.
@@ -46,7 +46,7 @@ loop-command-preserved g c =
     let all : List Command = c.args.commands.now in
     let command : Command = c.command-item.result in
     let Between : IdState → Type 0 = SomeStands g.row.D.Denot g.row.C.Denot view sum size in
-    let UsedUp : IdState → Type 0 = SomeUsedUp g.row.D.Denot g.row.C.Denot view sum in
+    let UsedUp : IdState → Type 0 = SomeUsedUp g.row.D.Denot g.row.C.Denot view sum size in
     let Leads : IdState → Type 0 = StandsAt view sum now.phase in
     let Next : IdState → Type 0 = StandsAt view sum c.step-next.result.0 in
     let reply : Reply = c.step-next.result.1 in
@@ -55,7 +55,7 @@ loop-command-preserved g c =
     let Over : Option GeneratorView → DeviceView → Type 0 = IsOver view c.step-next.result.0 in
     let stands = some_stands view sum c.step-next.result.0 size (ap (λ x. x.segment_size) kept.config) in
     let more : (b : IdState) → Leads b → Carries sum size UsedUp b command reply (λ x. Between x × Next x) = λ b at.
-    carried_between sum size Between UsedUp Next stands b command reply (subst (λ n. Carries sum n UsedUp b command reply Next) same (c.step-next.ensures.step b at)) in
+    carried_between sum size Between UsedUp Next stands b command reply (subst (λ n. Carries sum n (SomeUsedUp g.row.D.Denot g.row.C.Denot view sum n) b command reply Next) same (c.step-next.ensures.step b at)) in
     record {
       runs = λ n most gives.
           let a = begins_at (view c.args.config.device) n most in
@@ -82,7 +82,7 @@ returns-clause-ascends g c = λ n most gives.
     let end = c.loop-command-test.false in
     let a = begins_at (view c.args.config.device) n most in
     let Between : IdState → Type 0 = SomeStands g.row.D.Denot g.row.C.Denot view sum size in
-    let UsedUp : IdState → Type 0 = SomeUsedUp g.row.D.Denot g.row.C.Denot view sum in
+    let UsedUp : IdState → Type 0 = SomeUsedUp g.row.D.Denot g.row.C.Denot view sum size in
     let Leads : IdState → Type 0 = StandsAt view sum now.phase in
     let Ends : IdState → Type 0 = EndsAt sum size (view c.close-config.result.device) in
     subst (λ (l : List Command). IdRuns sum size Between UsedUp a l now.replies.items Ends) (take_all now.command-index c.args.commands.now (omega (arith, end)))

@@ -17,7 +17,7 @@ invariant-loop-command g l =
     let size : ℕ = l.fn.config.config.segment_size in
     record {
       runs : (n most : ℕ) → GivesFrom sum size n most (state_of (g.D.Device.trace l.fn.config.device))
-          → IdRuns sum size (SomeStands g.row.D.Denot g.row.C.Denot view sum size) (SomeUsedUp g.row.D.Denot g.row.C.Denot view sum)
+          → IdRuns sum size (SomeStands g.row.D.Denot g.row.C.Denot view sum size) (SomeUsedUp g.row.D.Denot g.row.C.Denot view sum size)
           (begins_at (view l.fn.config.device) n most) (take l.command-index l.commands) l.replies.items (StandsAt view sum l.phase);
       devices : Devices sum size None (view l.fn.config.device) (take l.command-index l.commands) l.replies.items (IsOver view l.phase);
       kept : ConfigKept l.fn.config (running_in l.phase);
