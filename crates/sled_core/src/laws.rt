@@ -256,7 +256,8 @@ pub fn what_is_not_synced_has_its_record<D: Device, C: Checksum>()
         → HasRecordOf log H m }
 {}
 
-/// A log still has the segment of each message that it has the record of: so its iterator passes over none of them for want of a segment.
+/// A log that keeps no failure still has the segment of each message that it has the record of: so its iterator passes over none of them for
+/// want of a segment. Twenty zeros must not pass as a header for that (`NoHeaderOfZeros`).
 pub fn what_has_its_record_has_its_segment<D: Device, C: Checksum>()
     ensures { (log : Log D C) (H : History) (A f : ℕ) (U : List Message) (m : Message) → Fits D.trace C.sum_of log H A f U → fault_of log ≡ None
         → NoHeaderOfZeros C.sum_of → Contains H.messages m → HasRecordOf log H m
@@ -306,13 +307,14 @@ pub fn what_a_log_reads_is_its_own<D: Device, C: Checksum>()
         → ReadsOnlyOwn C.sum_of (segment_size_of log) (state_of (D.trace (device_of log))) }
 {}
 
-/// On an empty device nothing is foreign.
+/// On an empty device nothing is foreign, where twenty zeros pass as no header (`NoHeaderOfZeros`).
 pub fn nothing_is_foreign_on_an_empty_device()
     ensures { (sum : List ℕ → ℕ) (size : ℕ) → NoHeaderOfZeros sum → NoForeign sum size fresh (content_of fresh) }
 {}
 
-/// After one write to an empty log file, whatever it is, nothing is foreign in what is read, before a sync and after it,
-/// nor in what a crash leaves that loses all of it. (A write that a file keeps half is what the premise is for.)
+/// After one write to an empty log file nothing is foreign in what a crash leaves that loses all of it, whatever was written,
+/// nor in what is read, before a sync and after it, where it is no longer than a segment: as long as twenty zeros pass as no
+/// header (`NoHeaderOfZeros`). (A write that a file keeps half is what `NoForeign` is a premise for.)
 pub fn nothing_is_foreign_after_the_first_write()
     ensures read { (sum : List ℕ → ℕ) (size : ℕ) (text : List ℕ) → NoHeaderOfZeros sum → length text ≤ size
         → NoForeign sum size (state_of (Wrote 0 text text ∷ [])) (content_of (state_of (Wrote 0 text text ∷ []))) }
@@ -322,7 +324,8 @@ pub fn nothing_is_foreign_after_the_first_write()
         → NoForeign sum size (state_of (Wrote 0 text text ∷ [])) (content_left (Settled []) (state_of (Wrote 0 text text ∷ []))) }
 {}
 
-/// A record that was written before the one in front of it isn't foreign, not even before that one is synced.
+/// A record that was written before the one in front of it isn't foreign, not even before that one is synced, where both lie in
+/// the first segment and twenty zeros pass as no header (`NoHeaderOfZeros`).
 pub fn nothing_is_foreign_where_records_come_out_of_order()
     ensures { (sum : List ℕ → ℕ) (size : ℕ) (header first second third : List ℕ) → NoHeaderOfZeros sum → length header ≡ 20
         → IsSomeRecord sum first → IsSomeRecord sum second → IsSomeRecord sum third → 20 + length first + length second + length third ≤ size
@@ -348,7 +351,8 @@ pub fn zeros_are_no_header()
     ensures place_sum { NoHeaderOfZeros place_sum }
 {}
 
-/// A write at the end of the records makes nothing foreign: neither in what is read, nor where it is lost after a sync.
+/// A write at the end of the records makes nothing foreign: neither in what is read, where it ends within the first segment and a
+/// reader comes along the records to the end of the file (`IsReachedToEnd`), nor where it is lost after a sync.
 pub fn nothing_becomes_foreign_by_a_write_behind()
     ensures read { (sum : List ℕ → ℕ) (size : ℕ) (s : State) (text : List ℕ) → NoForeign sum size s (content_of s) → 20 ≤ length s.log.bytes
         → length s.log.bytes + length text ≤ size → IsReachedToEnd sum size s.log.bytes
