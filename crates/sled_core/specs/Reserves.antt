@@ -1,10 +1,15 @@
 -- What a reservation does to the log and to its device, by whether the item goes to a blob.
-use Rattle.std.specs.Prelude.{◌≡◌, ◌⊎◌, ◌+◌, ◌++◌, ◌∷◌, [], ℕ, ℤ, pos, Bool, true, false, List, Option, None, Some, Result, Ok, Err, IfOk, OnOk}
+use Rattle.std.specs.Prelude.{◌≡◌, ◌⊎◌, ◌+◌, ◌%◌, ◌^◌, ◌++◌, ◌∷◌, [], ℕ, ℤ, pos, Bool, true, false, IsTrue, List, Option, None, Some, IsSome}
+use Rattle.std.specs.Prelude.{Result, Ok, Err, IfOk, OnOk}
+use Rattle.std.specs.declared.io.Error.{Error as IoError}
+use Rattle.std.specs.declared.io.ErrorKind.TheVariants.{AlreadyExists}
+use Rattle.std.specs.IoError.{error_kind}
 use Rattle.sled_codec.specs.declared.result.Error.{Error}
 use Rattle.sled_codec.specs.declared.result.Error.TheVariants.{Io, OutOfMemory}
 use Rattle.sled_codec.specs.declared.serialization.message.LogKind.{LogKind}
 use Rattle.sled_codec.specs.declared.serialization.message.MessageKind.{MessageKind}
 use Rattle.sled_codec.specs.Kinds.{code_of}
+use Rattle.sled_store.specs.Answers.{is_fault}
 use Rattle.sled_store.specs.Blobs.{UnlessFault, blob_bytes, making}
 use Rattle.sled_store.specs.Device.{Trace, state_of}
 use Rattle.sled_store.specs.Script.{Performs, after_all}
@@ -30,6 +35,15 @@ pub record MakesBlob {T D C : Type 0} (trace : D → Trace) (sum : List ℕ → 
   pub done : (k : MessageKind) → kind ≡ Some k
       → OnOk result (trace (device_of new) ≡ after_all (making place (blob_bytes sum (code_of k) item)) (trace (device_of old)))
   pub refused : UnlessFault result (trace (device_of old)) (trace (device_of new))
+
+-- Why a blob was not made, and what the log keeps of that: a failure of the device alone.
+abbrev pub MadeAnswers : {T : Type 0} → Result T Error → Option (List ℕ) → Option IoError → ℕ → ℕ → Type 0
+MadeAnswers (Ok _) file new before after = (new ≡ None) × (file ≡ None) × (after ≡ before)
+MadeAnswers (Err (Io e)) file new before after =
+    ((new ≡ Some e) × IsTrue (is_fault e) × (after ≡ (before + 1) % 2 ^ 64))
+    ⊎ ((new ≡ None) × (error_kind e ≡ AlreadyExists) × IsSome file × (after ≡ before))
+MadeAnswers (Err OutOfMemory) file new before after = (new ≡ None) × (after ≡ before)
+MadeAnswers (Err _) file new before after = ⊥
 
 -- A reservation makes the blob of an item that goes to one; else it leaves the device alone.
 abbrev pub TouchesBlob : {T D C : Type 0} → (D → Trace) → (List ℕ → ℕ) → Result T Error → Bool → Option MessageKind → ℤ → List ℕ → Log D C → Log D C → Type 0

@@ -1,19 +1,32 @@
 -- What a reader of a log file meets: the segments that are found there, and the records of each from its header on.
 -- Stated for any number of segments and for all kinds of messages.
-use Rattle.std.specs.Prelude.{◌≡◌, ◌+◌, ◌/◌, ◌≤◌, ◌<◌, ℕ, true, List, [], ◌∷◌}
+use Rattle.std.specs.Prelude.{◌≡◌, ◌≢◌, ◌⊎◌, ◌+◌, ◌/◌, ◌%◌, ◌^◌, ◌≤◌, ◌<◌, ℕ, pos, true, List, [], ◌∷◌}
 use Rattle.sled_codec.specs.declared.serialization.message.MessageHeader.{MessageHeader}
 use Rattle.sled_codec.specs.declared.serialization.message.MessageKind.TheVariants as kind
 use Rattle.sled_codec.specs.declared.result.DiskPtr.TheVariants as ptr
 use Rattle.sled_codec.specs.Kinds.{log_kind_of}
+use Rattle.sled_codec.specs.Places.{part}
+use Rattle.sled_codec.specs.Record.{IsHeader}
 use Rattle.sled_codec.specs.Spelling.{SpellsSigned}
 use Rattle.sled_core.specs.declared.iterator.scan.ScannedRecord.{ScannedRecord}
 use Rattle.sled_core.specs.declared.iterator.scan.RecordContent.{RecordContent}
 use Rattle.sled_core.specs.declared.iterator.scan.RecordContent.TheVariants.{Gives, NamesBlob, Skipped, BatchStart}
 use Rattle.sled_core.specs.declared.iterator.scan.ScanEnd.{ScanEnd}
 use Rattle.sled_core.specs.declared.iterator.scan.ScanEnd.TheVariants.{Full, Capped, Broken}
+use Rattle.sled_core.specs.declared.iterator.Segment.{Segment}
 use Rattle.sled_core.specs.declared.iterator.scan.Step.{Step}
 use Rattle.sled_core.specs.declared.iterator.scan.Step.TheVariants.{Meets, Ends}
 use Rattle.sled_core.specs.Reading.{StandsAt, IsMalformed, is_inline, is_blob}
+
+-- a segment begins at a slot of the file, with a header that passes, at this place or above it
+pub record IsFoundSegment (sum : List ℕ → ℕ) (size : ℕ) (log : List ℕ) (least : ℕ) (s : Segment) : Type 0 where
+  pub slot : s.slot % size ≡ 0
+  pub header : IsHeader sum (part log s.slot 20) (pos s.place) s.mark
+  pub not_below : least ≤ s.place
+
+-- it begins where no segment can begin
+abbrev pub IsMisplaced : ℕ → Segment → Type 0
+IsMisplaced size s = (s.place % size ≢ 0) ⊎ (2 ^ 63 ≤ s.place + size)
 
 -- What a record of this header and this body is that begins at an offset of the file. Whether a blob is there isn't asked. A Cap is none of these.
 abbrev pub Says : MessageHeader → List ℕ → ℕ → RecordContent → Type 0

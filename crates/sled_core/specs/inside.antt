@@ -30,7 +30,6 @@ pub mod ReadPointer
 pub mod Reading
 pub mod ReadyBuffers
 pub mod Recoverable
-pub mod Reserves
 pub mod Running
 pub mod Scan
 pub mod SealedBuffers
@@ -39,6 +38,5 @@ pub mod Shown
 pub mod Slots
 pub mod Sources
 pub mod StableEnds
-pub mod Tail
 pub mod Turned
 pub mod Waiting

@@ -2,7 +2,7 @@
 use Rattle.std.specs.Prelude.{◌≡◌, ◌≢◌, ◌↔◌, ◌+◌, ◌<◌, ℕ, List, length, get_or, Contains}
 use Rattle.std.specs.List.{AllPairs}
 use Rattle.sled_core.specs.declared.iterator.Segment.{Segment}
-use Rattle.sled_core.specs.inside.Scan.{IsFoundSegment}
+use Rattle.sled_core.specs.Scan.{IsFoundSegment}
 
 -- These are the segments that are found in the slots below one, each once: no two have one slot.
 pub record AreCollected (sum : List ℕ → ℕ) (size : ℕ) (log : List ℕ) (least : ℕ) (ss : List Segment) (slot : ℕ) : Type 0 where

@@ -8,8 +8,7 @@ use Rattle.sled_codec.specs.History.{Message}
 use Rattle.sled_codec.specs.PageTables.{entry_of}
 use Rattle.sled_codec.specs.Snapshots.{Entry, Page, Present, Free, Uninitialized, SnapshotModel, stable_place}
 use Rattle.sled_store.specs.Device.{Content}
-use Rattle.sled_store.specs.SnapshotFiles.{BeginsFrom}
-use Rattle.sled_store.specs.inside.SnapshotFiles.{IsDamagedSnapshot}
+use Rattle.sled_store.specs.SnapshotFiles.{BeginsFrom, IsDamagedSnapshot}
 use Rattle.sled_core.specs.declared.iterator.scan.ScannedRecord.{ScannedRecord}
 use Rattle.sled_core.specs.declared.iterator.scan.RecordContent.{RecordContent}
 use Rattle.sled_core.specs.declared.iterator.scan.RecordContent.TheVariants.{Gives, NamesBlob, Skipped, BatchStart}
@@ -17,10 +16,8 @@ use Rattle.sled_core.specs.declared.iterator.Segment.{Segment}
 use Rattle.sled_core.specs.Reading.{IsMalformed}
 use Rattle.sled_core.specs.Scan.{IsDamagedIn, IsPath}
 pub use Rattle.sled_core.specs.Replayed.{IsReplayed, scanned_of, NamesKind, HasBadBlob, with_blob, resolved}
-pub use Rattle.sled_core.specs.inside.Tail.{IsUnordered, is_ascending, IsOrdering, greatest_mark, tail_begins, GoesOn, IsTail}
-pub use Rattle.sled_core.specs.Tail.{Scanned, IsScanned, place_of_mark}
-pub use Rattle.sled_core.specs.inside.Tail.{tail_end, begun_below, AreScanned, before_open, stops_in, is_filled, cut_of, least_place}
-pub use Rattle.sled_core.specs.Tail.{opens, open_at, IsTailPart}
+pub use Rattle.sled_core.specs.Tail.{IsUnordered, is_ascending, IsOrdering, Scanned, IsScanned, place_of_mark, greatest_mark, tail_begins, GoesOn, IsTail}
+pub use Rattle.sled_core.specs.Tail.{IsTailPart, tail_end, begun_below, AreScanned, opens, open_at, before_open, stops_in, is_filled, cut_of, least_place}
 
 -- The pass over the messages.
 

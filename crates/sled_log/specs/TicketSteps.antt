@@ -19,7 +19,7 @@ use Rattle.sled_core.specs.OpenBatches.{with_batch}
 use Rattle.sled_core.specs.OpenPlaces.{places_from}
 use Rattle.sled_core.specs.OwnBlobs.{RemovedAnswers}
 use Rattle.sled_core.specs.Positions.{Position, behind_record}
-use Rattle.sled_core.specs.inside.Reserves.{MadeAnswers}
+use Rattle.sled_core.specs.Reserves.{MadeAnswers}
 use Rattle.sled_log.specs.declared.session.command.Reply.{Reply}
 use Rattle.sled_log.specs.declared.session.command.Reply.TheVariants as reply
 use Rattle.sled_log.specs.RunStates.{DeviceView, EndsInReach, LogView, RunState, body_in, is_behind, made_ready, message_at, one_blob, opens, page_now, heads_at}

@@ -10,8 +10,7 @@ use Rattle.sled_store.specs.Device.{LogState, Placement, at_rest, settled_again}
 use Rattle.sled_oracle.specs.declared.foreign.LogNote.TheVariants.{Wrote, Settled}
 use Rattle.sled_oracle.specs.declared.foreign.LogNote.{LogNote}
 use Rattle.sled_oracle.specs.declared.foreign.LogPast.{LogPast}
-use Rattle.sled_store.specs.Readers.{Reads}
-use Rattle.sled_store.specs.inside.OwnParts.{BeginsAt}
+use Rattle.sled_store.specs.Readers.{BeginsAt, Reads}
 use Rattle.sled_store.specs.Foreign.{Covers, IsWhole, IsReached, HeaderWasPlaced, RecordWasPlaced, first_record}
 
 -- a write laid down these bytes as a header: it begins at that offset with them

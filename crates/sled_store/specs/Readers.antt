@@ -5,6 +5,15 @@ use Rattle.sled_codec.specs.declared.serialization.message.MessageKind.TheVarian
 use Rattle.sled_codec.specs.Places.{part}
 use Rattle.sled_codec.specs.Record.{IsRecord}
 
+-- a record of a number begins in a text at an offset, and has this length
+pub record BeginsAt (sum : List ℕ → ℕ) (number : ℕ) (text : List ℕ) (at len : ℕ) : Type 0 where
+  pub kind : MessageKind
+  pub page : ℕ
+  pub body : List ℕ
+  pub is : IsRecord sum (part text at len) kind page number body
+  pub some : 0 < len
+  pub inside : at + len ≤ length text
+
 module _ (sum : List ℕ → ℕ) (size : ℕ) where
   -- The offsets of a segment that a reader of its records comes to: a first one, and the end of each record of the segment's number that begins at one.
   -- Behind a Cap it reads no further, nor where the longest header of a record has no room.

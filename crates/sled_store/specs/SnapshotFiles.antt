@@ -1,5 +1,5 @@
 -- Snapshots as files of the device, and the one that a log begins from.
-use Rattle.std.specs.Prelude.{◌≡◌, ◌⊎◌, ◌^◌, ◌<◌, ◌≤ℤ◌, ◌++◌, ℕ, ℤ, true, List, length, Option, Some, None, IsSome}
+use Rattle.std.specs.Prelude.{◌≡◌, ◌⊎◌, ◌^◌, ◌<◌, ◌≤ℤ◌, ◌++◌, ℕ, ℤ, true, false, List, length, Option, Some, None, IsSome}
 use Rattle.sled_codec.specs.Spelling.{low_bytes}
 use Rattle.sled_codec.specs.Snapshots.{SnapshotModel, SpellsSnapshot, empty_model, is_sound}
 
@@ -20,3 +20,10 @@ abbrev pub BeginsFrom : (List ℕ → ℕ) → (ℤ → Option (List ℕ)) → S
 BeginsFrom sum snapshots s =
     (((n : ℤ) → snapshots n ≡ None) × (s ≡ empty_model))
     ⊎ ((number : ℤ) × (bytes : List ℕ) × IsNewest snapshots number bytes × IsSnapshotFile sum bytes s × (is_sound s ≡ true))
+
+-- The newest snapshot is damaged.
+pub record IsDamagedSnapshot (sum : List ℕ → ℕ) (snapshots : ℤ → Option (List ℕ)) : Type 0 where
+  pub number : ℤ
+  pub bytes : List ℕ
+  pub newest : IsNewest snapshots number bytes
+  pub damaged : (s : SnapshotModel) → IsSnapshotFile sum bytes s → is_sound s ≡ false

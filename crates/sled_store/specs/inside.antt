@@ -6,11 +6,9 @@ pub mod Memory
 pub mod MemoryNames
 pub mod MemoryStops
 pub mod Noted
-pub mod OwnParts
 pub mod Script
 pub mod SegmentStates
 pub mod SlotTables
-pub mod SnapshotFiles
 pub mod Stabilizing
 pub mod Started
 pub mod Starting

@@ -22,7 +22,7 @@ use Rattle.sled_core.specs.inside.Recoverable.{NoBatchBegins, NoBatchEnds, NoMes
 use Rattle.sled_core.specs.Recoverable.{NoHeaderOfZeros}
 use Rattle.sled_core.specs.inside.SealedBuffers.{AreSealed, Laid, run_end, run_count}
 use Rattle.sled_core.specs.SealedBuffers.{bytes_between}
-use Rattle.sled_core.specs.inside.Tail.{least_place}
+use Rattle.sled_core.specs.Tail.{least_place}
 use Rattle.sled_core.proofs.Sealed.Padded.{padded_long}
 use Rattle.sled_core.proofs.Reached.BufferPath.{HasOnly}
 use Rattle.sled_core.specs.inside.Full.{StandsFull}

@@ -25,7 +25,7 @@ use Rattle.sled_core.specs.inside.Recoverable.{NoBatchEnds}
 use Rattle.sled_core.specs.Recoverable.{NoHeaderOfZeros}
 use Rattle.sled_core.specs.inside.SealedBuffers.{AreSealed, FirstUnwritten, Laid, now_written, run_count, run_end}
 use Rattle.sled_core.specs.SealedBuffers.{bytes_between, sealed_end}
-use Rattle.sled_core.specs.inside.Tail.{least_place}
+use Rattle.sled_core.specs.Tail.{least_place}
 use Rattle.sled_core.proofs.Behind.Around.{HoldAround, behind_place, held_around, stays_below}
 use Rattle.sled_core.proofs.Behind.Calls.{held_here}
 use Rattle.sled_core.proofs.Behind.FitsCompleted.{front_low, of_segment}

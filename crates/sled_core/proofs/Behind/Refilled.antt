@@ -16,7 +16,7 @@ use Rattle.sled_core.specs.inside.LogFile.{padded}
 use Rattle.sled_core.specs.Logged.{logged}
 use Rattle.sled_core.specs.inside.Reached.{BegunSegment, FollowApart, StandsAmong, StandsIn}
 use Rattle.sled_core.specs.inside.Running.{FitsIn}
-use Rattle.sled_core.specs.inside.Tail.{least_place}
+use Rattle.sled_core.specs.Tail.{least_place}
 use Rattle.sled_core.proofs.Behind.Around.{HoldAround, apart_around, begun_is, held_around, stays_below, together}
 use Rattle.sled_core.proofs.Behind.FitsMoved.{marks_same}
 use Rattle.sled_core.proofs.Reached.SegmentsBeside.{as_far, begins_still, follow_still, was_other}

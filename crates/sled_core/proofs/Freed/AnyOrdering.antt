@@ -15,7 +15,7 @@ use Rattle.sled_codec.proofs.Segments.{masked-unmasked, one_header}
 use Rattle.sled_store.proofs.Segments.Elements.{in_nothing}
 use Rattle.sled_core.specs.declared.iterator.Segment.{Segment}
 use Rattle.sled_core.specs.inside.Scan.{IsFoundSegment}
-use Rattle.sled_core.specs.inside.Tail.{IsOrdering, IsUnordered}
+use Rattle.sled_core.specs.Tail.{IsOrdering, IsUnordered}
 use Rattle.sled_core.proofs.Read.FoundLemmas.{found_there, pos_injective}
 use Rattle.sled_core.proofs.Reached.PutIn.{others_there, put_cases, put_in, put_rises, put_there}
 use Rattle.sled_core.proofs.Tail.Multiples.{apart, put_down}

@@ -25,7 +25,7 @@ use Rattle.sled_core.specs.inside.Lasting.{LeavesRecovering}
 use Rattle.sled_core.specs.inside.OwnLog.{HasOwnSlot, ReadsPlaced}
 use Rattle.sled_core.specs.inside.Recoverable.{IsMarkOf}
 use Rattle.sled_core.specs.inside.Running.{NamesFit}
-use Rattle.sled_core.specs.inside.Tail.{IsOrdering, least_place, tail_begins}
+use Rattle.sled_core.specs.Tail.{IsOrdering, least_place, tail_begins}
 use Rattle.sled_core.proofs.Freed.CutHides.{hides_cut, zeroed_part, zeroed_taken}
 use Rattle.sled_core.proofs.Freed.CutReads.{cut_reads}
 use Rattle.sled_core.proofs.Freed.LeftRecovers.{KeepsHeaders, ReadsBy, leaves_as_shown, rest_recovers, shown_device}

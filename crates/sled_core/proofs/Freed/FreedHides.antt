@@ -19,7 +19,7 @@ use Rattle.sled_core.specs.inside.Hides.{HasSegment, Hides, IsGone, IsReading, R
 use Rattle.sled_core.specs.inside.Reached.{StandsTo}
 use Rattle.sled_core.specs.inside.Scan.{IsFoundSegment}
 use Rattle.sled_core.specs.inside.Slots.{IsWholeSegment, marked_at}
-use Rattle.sled_core.specs.inside.Tail.{least_place}
+use Rattle.sled_core.specs.Tail.{least_place}
 use Rattle.sled_core.proofs.Cleared.Calls.{cleared_freed, freed_free}
 use Rattle.sled_core.proofs.Cleared.Emptied.{IsEmptied}
 use Rattle.sled_core.proofs.Numbers.Hides.{gone_less}

@@ -16,7 +16,7 @@ use Rattle.sled_core.specs.inside.Hides.{IsGoneSegment, IsReading}
 use Rattle.sled_core.specs.inside.Recoverable.{IsMarkBelow, IsMarkOf, IsOfHistory, IsReachedIn, IsReadOn, IsRecoverableLog, IsSegmentOf, NothingBehind}
 use Rattle.sled_core.specs.inside.Recoverable.{StandsInline, cut_from, cut_over, scanned_below}
 use Rattle.sled_core.specs.inside.Scan.{IsFoundSegment}
-use Rattle.sled_core.specs.inside.Tail.{AreScanned, GoesOn, IsOrdering, IsTail, greatest_mark, least_place, tail_begins, tail_end}
+use Rattle.sled_core.specs.Tail.{AreScanned, GoesOn, IsOrdering, IsTail, greatest_mark, least_place, tail_begins, tail_end}
 use Rattle.sled_core.specs.Scan.{IsPath, IsScan}
 use Rattle.sled_core.specs.Tail.{IsScanned, Scanned, open_at, opens, place_of_mark}
 use Rattle.sled_core.proofs.Freed.AlikeRecords.{alike_last, met_alike, path_alike}

@@ -27,7 +27,7 @@ use Rattle.sled_core.specs.inside.Lasting.{LeavesRecovering}
 use Rattle.sled_core.specs.inside.OwnLog.{ReadsPlaced}
 use Rattle.sled_core.specs.inside.Recoverable.{AreRecoverableSnapshots, IsMarkOf, IsRecoverableLog}
 use Rattle.sled_core.specs.inside.Running.{NamesFit}
-use Rattle.sled_core.specs.inside.Tail.{IsOrdering, least_place, tail_begins}
+use Rattle.sled_core.specs.Tail.{IsOrdering, least_place, tail_begins}
 use Rattle.sled_core.proofs.Freed.Gone.{ReadsAs}
 use Rattle.sled_core.proofs.Freed.GoneAlone.{HeadersOwnBelow, found_alone}
 use Rattle.sled_core.proofs.Freed.NoHarm.{gone_do_no_harm}

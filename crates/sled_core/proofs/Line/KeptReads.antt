@@ -30,7 +30,7 @@ use Rattle.sled_core.specs.inside.Recoverable.{HasItem}
 use Rattle.sled_core.specs.Recoverable.{NoHeaderOfZeros}
 use Rattle.sled_core.specs.invariants.Running.{Fits}
 use Rattle.sled_core.specs.inside.Running.{FitsWith}
-use Rattle.sled_core.specs.inside.Tail.{least_place}
+use Rattle.sled_core.specs.Tail.{least_place}
 use Rattle.sled_core.proofs.Holds.ReachLemmas.{completed_behind}
 use Rattle.sled_core.proofs.Line.BlobReads.{IsReadable, among, item_read}
 use Rattle.sled_core.proofs.Line.Reads.{fault_missed}

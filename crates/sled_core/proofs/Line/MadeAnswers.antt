@@ -9,7 +9,7 @@ use Rattle.sled_store.specs.Blobs.{MakeAnswers, UnlessFault, making}
 use Rattle.sled_store.specs.Device.{Trace}
 use Rattle.sled_store.specs.Script.{after_all}
 use Rattle.sled_core.specs.inside.Causes.{fault_in}
-use Rattle.sled_core.specs.inside.Reserves.{MadeAnswers}
+use Rattle.sled_core.specs.Reserves.{MadeAnswers}
 
 -- what is kept of an error, by whether the device failed
 pub kept_by : (e : IoError) (b : Bool) → is_fault e ≡ b → (if is_fault e then Some e else None) ≡ (if b then Some e else None)

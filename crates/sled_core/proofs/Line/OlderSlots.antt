@@ -11,7 +11,7 @@ use Rattle.sled_core.specs.Begun.{SegmentView}
 use Rattle.sled_core.specs.inside.Begun.{first_place}
 use Rattle.sled_core.specs.inside.Fits.{HoldsLine}
 use Rattle.sled_core.specs.inside.Slots.{AreWhole, marked_at}
-use Rattle.sled_core.specs.inside.Tail.{least_place}
+use Rattle.sled_core.specs.Tail.{least_place}
 use Rattle.sled_core.proofs.Reached.GrowsAt.{GrowsAt, reads_grown}
 use Rattle.sled_core.proofs.Reached.WholeSegments.{whole_at}
 use Rattle.sled_core.proofs.Start.OwnSlots.{taken_cases}

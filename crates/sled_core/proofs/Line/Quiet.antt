@@ -25,7 +25,7 @@ use Rattle.sled_core.specs.inside.Recoverable.{IsRecoverableLog}
 use Rattle.sled_core.specs.inside.Reached.{StandsAmong, StandsIn}
 use Rattle.sled_core.specs.inside.SealedBuffers.{AreSealed, FirstUnwritten}
 use Rattle.sled_core.specs.inside.Slots.{AreWhole}
-use Rattle.sled_core.specs.inside.Tail.{AreScanned, IsOrdering, least_place, tail_begins}
+use Rattle.sled_core.specs.Tail.{AreScanned, IsOrdering, least_place, tail_begins}
 use Rattle.sled_core.proofs.Cleared.Offsets.{LineRises, OthersBeside, between_is, slot_apart}
 use Rattle.sled_core.proofs.Freed.Gone.{ReadsAs}
 use Rattle.sled_core.proofs.Freed.GoneAlone.{found_alone}

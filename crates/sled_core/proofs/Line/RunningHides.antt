@@ -25,7 +25,7 @@ use Rattle.sled_core.specs.inside.Hides.{Hides}
 use Rattle.sled_core.specs.inside.Reached.{StandsAmong}
 use Rattle.sled_core.specs.inside.SealedBuffers.{AreSealed, IsSealed, is_ready}
 use Rattle.sled_core.specs.inside.Slots.{AreWhole}
-use Rattle.sled_core.specs.inside.Tail.{least_place}
+use Rattle.sled_core.specs.Tail.{least_place}
 use Rattle.sled_core.specs.inside.Turned.{begin_at, next_line, promoted, written_now}
 use Rattle.sled_core.specs.OpenBatches.{stable_below}
 use Rattle.sled_core.proofs.Freed.FreedHides.{hides_freed}

@@ -19,7 +19,7 @@ use Rattle.sled_core.specs.inside.FreeSlots.{HasSlot, HasSlots}
 use Rattle.sled_core.specs.inside.Running.{FitsLine, FitsShown, FitsWith}
 use Rattle.sled_core.specs.inside.Hides.{HidesFrom}
 use Rattle.sled_core.specs.inside.Shown.{IsAsShown, shown}
-use Rattle.sled_core.specs.inside.Tail.{least_place}
+use Rattle.sled_core.specs.Tail.{least_place}
 use Rattle.sled_core.proofs.Cleared.Offsets.{LineRises, OthersBeside, cleared_itself, segments_apart}
 use Rattle.sled_core.proofs.Cleared.Shown.{ShowsSame, as_shown_same, shown_is, shown_same}
 use Rattle.sled_core.proofs.Holds.RunningLemmas.{fits-acknowledged, fits-pinned}

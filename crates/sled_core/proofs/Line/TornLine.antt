@@ -34,7 +34,7 @@ use Rattle.sled_core.specs.inside.Reached.{StandsAmong, StandsIn}
 use Rattle.sled_core.specs.inside.Running.{NamesFit}
 use Rattle.sled_core.specs.inside.SealedBuffers.{AreSealed, Laid, run_count, run_end}
 use Rattle.sled_core.specs.inside.Slots.{AreWhole}
-use Rattle.sled_core.specs.inside.Tail.{least_place, tail_begins}
+use Rattle.sled_core.specs.Tail.{least_place, tail_begins}
 use Rattle.sled_core.specs.inside.Turned.{promoted, written_now}
 use Rattle.sled_core.proofs.Freed.BesideReads.{header_beside}
 use Rattle.sled_core.proofs.Cleared.Offsets.{LineRises, OthersBeside, between_is, zeroed_there}

@@ -19,7 +19,7 @@ use Rattle.sled_core.specs.inside.Running.{FitsWith}
 use Rattle.sled_core.specs.inside.SealedBuffers.{is_ready}
 use Rattle.sled_core.specs.inside.Shown.{shown}
 use Rattle.sled_core.specs.inside.Slots.{AreWhole}
-use Rattle.sled_core.specs.inside.Tail.{least_place}
+use Rattle.sled_core.specs.Tail.{least_place}
 use Rattle.sled_core.specs.inside.Turned.{promoted, written_now}
 use Rattle.sled_core.proofs.Cleared.Shown.{shown_bytes}
 use Rattle.sled_core.proofs.Line.Ends.{with_part}

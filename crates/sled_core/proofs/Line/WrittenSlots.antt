@@ -26,7 +26,7 @@ use Rattle.sled_core.specs.Recoverable.{NoHeaderOfZeros}
 use Rattle.sled_core.specs.inside.Running.{FitsLine}
 use Rattle.sled_core.specs.inside.SealedBuffers.{is_ready}
 use Rattle.sled_core.specs.inside.Slots.{AreWhole, IsWholeSegment}
-use Rattle.sled_core.specs.inside.Tail.{least_place}
+use Rattle.sled_core.specs.Tail.{least_place}
 use Rattle.sled_core.specs.inside.Turned.{promoted, written_now}
 use Rattle.sled_core.proofs.Holds.Facts.{IsSegment}
 use Rattle.sled_core.proofs.Holds.WholeHistory.{whole_apart}

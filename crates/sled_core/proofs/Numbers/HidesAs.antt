@@ -13,7 +13,7 @@ use Rattle.sled_core.specs.Begun.{SegmentView}
 use Rattle.sled_core.specs.inside.Begun.{line_end}
 use Rattle.sled_core.specs.inside.Cleared.{cleared}
 use Rattle.sled_core.specs.inside.Hides.{Hides, HidesFrom, IsOwnRecord}
-use Rattle.sled_core.specs.inside.Tail.{least_place}
+use Rattle.sled_core.specs.Tail.{least_place}
 use Rattle.sled_core.proofs.Numbers.Hides.{gone_less, hides_same}
 use Rattle.sled_core.proofs.Numbers.OwnLess.{less_same}
 use Rattle.sled_core.proofs.Tail.Multiples.{put_down}

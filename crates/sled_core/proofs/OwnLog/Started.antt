@@ -33,7 +33,7 @@ use Rattle.sled_core.specs.Recoverable.{NoHeaderOfZeros}
 use Rattle.sled_core.specs.inside.Running.{IsReadyFor}
 use Rattle.sled_core.specs.Scan.{IsScan}
 use Rattle.sled_core.specs.Starts.{site_from}
-use Rattle.sled_core.specs.inside.Tail.{least_place}
+use Rattle.sled_core.specs.Tail.{least_place}
 use Rattle.sled_core.proofs.Holds.HoldsLemmas.{one}
 use Rattle.sled_core.proofs.OwnLog.Kept.{part_in}
 use Rattle.sled_core.proofs.OwnLog.ScanEnds.{reads_inside, scan_reads, slot_read_to_end}

@@ -12,7 +12,7 @@ use Rattle.sled_core.specs.Tail.{place_of_mark}
 use Rattle.sled_core.specs.inside.MarksFit.{MarkStands, held_from}
 use Rattle.sled_core.specs.inside.Recoverable.{IsMarkBelow}
 use Rattle.sled_core.specs.inside.Scan.{IsFoundSegment}
-use Rattle.sled_core.specs.inside.Tail.{greatest_mark, least_place, tail_begins}
+use Rattle.sled_core.specs.Tail.{greatest_mark, least_place, tail_begins}
 use Rattle.sled_core.proofs.Reached.StandsTo.{StandsTo}
 use Rattle.sled_core.proofs.Reached.Raised.{held_higher}
 use Rattle.sled_core.proofs.Tail.GreatestMark.{mark_below}

@@ -5,7 +5,7 @@ use Rattle.std.proofs.lemmas.Bool.{ltb-true, ltb-false}
 use Rattle.sled_store.proofs.Segments.Elements.{in_first, in_rest, in_cases, in_nothing}
 use Rattle.sled_core.specs.declared.iterator.Segment.{Segment}
 use Rattle.sled_core.specs.inside.Scan.{IsFoundSegment, IsMisplaced}
-use Rattle.sled_core.specs.inside.Tail.{IsOrdering}
+use Rattle.sled_core.specs.Tail.{IsOrdering}
 use Rattle.sled_core.proofs.Tail.OneTail.{Rises, rises_of}
 use Rattle.sled_core.proofs.Tail.SegmentsFrom.{ascends_of}
 

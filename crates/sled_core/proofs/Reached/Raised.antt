@@ -2,7 +2,7 @@
 use Rattle.std.proofs.Common.{◌*◌, ◌/◌, ◌≤◌, ℕ, List, arith}
 use Rattle.sled_codec.specs.History.{History}
 use Rattle.sled_codec.specs.Snapshots.{SnapshotModel}
-use Rattle.sled_core.specs.inside.Tail.{least_place, tail_begins}
+use Rattle.sled_core.specs.Tail.{least_place, tail_begins}
 use Rattle.sled_core.proofs.Reached.StandsTo.{StandsTo}
 use Rattle.sled_core.proofs.Tail.Multiples.{lower_multiple}
 

@@ -11,7 +11,7 @@ use Rattle.sled_core.specs.inside.Reached.{GoesOnIn, IsReadTo}
 use Rattle.sled_core.specs.inside.Recoverable.{NothingBehind, IsOfHistory}
 use Rattle.sled_core.specs.Recoverable.{NoHeaderOfZeros}
 use Rattle.sled_core.specs.Scan.{IsPath, IsEnd}
-use Rattle.sled_core.specs.inside.Tail.{least_place}
+use Rattle.sled_core.specs.Tail.{least_place}
 use Rattle.sled_core.proofs.Reached.OneWrite as one
 use Rattle.sled_core.proofs.Reached.OneWrite.{BeginsSegment}
 use Rattle.sled_core.proofs.Reached.StandsTo.{StandsTo}

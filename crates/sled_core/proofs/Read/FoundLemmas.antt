@@ -6,7 +6,7 @@ use Rattle.sled_codec.specs.Record.{IsHeader}
 use Rattle.sled_codec.proofs.Segments.{length-short_header, one_header}
 use Rattle.sled_core.specs.declared.iterator.Segment.{Segment}
 use Rattle.sled_core.specs.inside.Scan.{IsFoundSegment, IsMisplaced}
-use Rattle.sled_core.specs.inside.Tail.{IsOrdering}
+use Rattle.sled_core.specs.Tail.{IsOrdering}
 use Rattle.sled_store.proofs.Segments.Elements.{in_nothing, only_in, in_one}
 
 pub zero_mod : (n : ℕ) → 0 % n ≡ 0

@@ -15,7 +15,7 @@ use Rattle.sled_core.specs.inside.Reached.{BegunSegment, StandsAmong, StandsIn}
 use Rattle.sled_core.specs.Recoverable.{NoHeaderOfZeros}
 use Rattle.sled_core.specs.inside.SealedBuffers.{AreSealed, LaidOne, Laid}
 use Rattle.sled_core.specs.SealedBuffers.{sealed_end, bytes_between}
-use Rattle.sled_core.specs.inside.Tail.{least_place}
+use Rattle.sled_core.specs.Tail.{least_place}
 use Rattle.sled_core.proofs.Reached.StandsTo.{StandsTo}
 use Rattle.sled_core.proofs.Reserve.Entries.{HasSpace, IsLong, all_long, all_space, reserved_in}
 use Rattle.sled_core.proofs.Reserve.Ranges.{chain_grows, chain_within}

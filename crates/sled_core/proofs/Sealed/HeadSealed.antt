@@ -23,7 +23,7 @@ use Rattle.sled_core.specs.inside.Recoverable.{NoBatchEnds}
 use Rattle.sled_core.specs.Recoverable.{NoHeaderOfZeros}
 use Rattle.sled_core.specs.inside.SealedBuffers.{AreSealed, Laid, run_end, run_count}
 use Rattle.sled_core.specs.SealedBuffers.{bytes_between}
-use Rattle.sled_core.specs.inside.Tail.{least_place}
+use Rattle.sled_core.specs.Tail.{least_place}
 use Rattle.sled_core.proofs.Reached.BufferPath.{HasOnly, ending_at}
 use Rattle.sled_core.proofs.Reached.BufferStands.{met_in}
 use Rattle.sled_core.specs.inside.Full.{StandsFull}

@@ -29,7 +29,7 @@ use Rattle.sled_core.specs.Recoverable.{NoHeaderOfZeros}
 use Rattle.sled_core.specs.inside.Scan.{IsFoundSegment}
 use Rattle.sled_core.specs.inside.SealedBuffers.{Agrees, AreSealed, Laid, run_end, run_count}
 use Rattle.sled_core.specs.SealedBuffers.{bytes_between}
-use Rattle.sled_core.specs.inside.Tail.{least_place}
+use Rattle.sled_core.specs.Tail.{least_place}
 use Rattle.sled_core.proofs.Tail.LogFileLemmas.{part_kept}
 use Rattle.sled_core.proofs.Sealed.SealedFile.{chain_done}
 use Rattle.sled_core.proofs.Read.FoundLemmas.{found_there}

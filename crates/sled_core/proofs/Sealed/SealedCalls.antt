@@ -20,7 +20,7 @@ use Rattle.sled_core.specs.inside.Recoverable.{NoBatchEnds}
 use Rattle.sled_core.specs.Recoverable.{NoHeaderOfZeros}
 use Rattle.sled_core.specs.inside.SealedBuffers.{Agrees, AreSealed, Laid, run_count, run_end}
 use Rattle.sled_core.specs.SealedBuffers.{sealed_end, bytes_between}
-use Rattle.sled_core.specs.inside.Tail.{least_place}
+use Rattle.sled_core.specs.Tail.{least_place}
 use Rattle.sled_core.proofs.Tail.LogFileLemmas.{header_kept}
 use Rattle.sled_core.proofs.Sealed.Padded.{length-padded, overwritten-further, padded_get, padded_long}
 use Rattle.sled_core.proofs.Reserve.Ranges.{part-append}

@@ -11,7 +11,7 @@ use Rattle.sled_core.specs.declared.iterator.Segment.{Segment}
 use Rattle.sled_core.specs.Ready.{IsReady}
 use Rattle.sled_core.specs.inside.Reached.{StandsTo, StandsActive}
 use Rattle.sled_core.specs.inside.Scan.{IsFoundSegment}
-use Rattle.sled_core.specs.inside.Tail.{least_place}
+use Rattle.sled_core.specs.Tail.{least_place}
 use Rattle.sled_core.proofs.Read.FoundLemmas.{found_there, none_ordered, zero_mod}
 
 -- before any message the table is empty

@@ -16,7 +16,7 @@ use Rattle.sled_core.specs.Recoverable.{NoHeaderOfZeros}
 use Rattle.sled_core.specs.inside.Lasting.{LeavesRecovering}
 use Rattle.sled_core.specs.inside.Recoverable.{IsMarkBelow, AreRecoverableSnapshots, AreRecoverableBlobs}
 use Rattle.sled_core.specs.inside.Running.{BlobsFit, NamesFit}
-use Rattle.sled_core.specs.inside.Tail.{IsOrdering, tail_begins}
+use Rattle.sled_core.specs.Tail.{IsOrdering, tail_begins}
 use Rattle.sled_core.proofs.Flush.Settled.{recoverable_less}
 use Rattle.sled_core.proofs.Logged.Messages.{logged_apart, logged_below, logged_twice}
 use Rattle.sled_core.proofs.Logged.Names.{snapshots_alike}

@@ -4,7 +4,7 @@ use Rattle.sled_codec.specs.Snapshots.{SnapshotModel, stable_place}
 use Rattle.sled_core.specs.LogSegments.{begins_from}
 use Rattle.sled_core.specs.declared.iterator.Segment.{Segment}
 use Rattle.sled_core.specs.inside.Scan.{IsFoundSegment}
-use Rattle.sled_core.specs.inside.Tail.{least_place}
+use Rattle.sled_core.specs.Tail.{least_place}
 
 -- A mark stands: it is no higher than the place with which the log began, or than the mark of a header that is found on the device.
 abbrev pub MarkStands : (List ℕ → ℕ) → ℕ → List ℕ → SnapshotModel → ℤ → Type 0

@@ -12,7 +12,7 @@ ghost use Rattle.sled_core.specs.Keeps.{Preserves};
 ghost use Rattle.sled_core.specs.Manifests.{kind_for};
 ghost use Rattle.sled_core.specs.Tickets.{is_manifest_of, own_blob};
 ghost use Rattle.sled_core.specs.inside.Prepared.{next_here};
-ghost use Rattle.sled_core.specs.inside.Reserves.{MadeAnswers};
+ghost use Rattle.sled_core.specs.Reserves.{MadeAnswers};
 ghost use Rattle.sled_core.specs.Reserves.{ReservesAs, StandsBehind};
 ghost use Rattle.sled_core.specs.inside.Turned.{ChangesDevice};
 

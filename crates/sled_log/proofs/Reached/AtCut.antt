@@ -6,7 +6,7 @@ use Rattle.sled_codec.specs.History.{Message, Batch, History, CutFits, table}
 use Rattle.sled_codec.specs.Snapshots.{SnapshotModel, stable_place}
 use Rattle.sled_core.specs.inside.Recoverable.{ActiveFits, IsRecoverableLog, IsSegmentOf, StandsInline}
 use Rattle.sled_log.specs.Recovery.{Scanned, least_place}
-use Rattle.sled_core.specs.inside.Tail.{greatest_mark}
+use Rattle.sled_core.specs.Tail.{greatest_mark}
 use Rattle.sled_core.proofs.Tail.Multiples.{put_down, lower_multiple}
 use Rattle.sled_core.proofs.Tail.SegmentsFrom.{greatest_above}
 use Rattle.sled_core.proofs.Tail.Tails.{further}

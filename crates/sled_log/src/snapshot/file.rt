@@ -11,7 +11,7 @@ ghost use Rattle.sled_store.specs.Script.{Performs, after_all};
 ghost use Rattle.sled_store.specs.Causes.{DeviceAnswers};
 ghost use Rattle.sled_core.specs.Keeps.{OnlyReads};
 ghost use Rattle.sled_store.specs.SnapshotFiles.{IsSnapshotFile, BeginsFrom};
-ghost use Rattle.sled_store.specs.inside.SnapshotFiles.{IsDamagedSnapshot};
+ghost use Rattle.sled_store.specs.SnapshotFiles.{IsDamagedSnapshot};
 ghost use Rattle.sled_log.specs.WritesBack.{publishing_file, removing, others, AreOthers, MayBeRemoved};
 
 use sled_codec::result::{Error, Result};

@@ -10,7 +10,7 @@ use Rattle.sled_codec.specs.Record.{IsRecord}
 use Rattle.sled_codec.specs.Spelling.{SpellsMessageHeader}
 use Rattle.sled_codec.specs.SpellingLaws.{same_rests}
 use Rattle.sled_codec.specs.Sums.{flipped}
-use Rattle.sled_store.specs.inside.OwnParts.{BeginsAt}
+use Rattle.sled_store.specs.Readers.{BeginsAt}
 use Rattle.sled_oracle.specs.OwnParts.{FindsRecord}
 
 record_along : (sum : List ℕ → ℕ) (number : ℕ) (a b : List ℕ) (k k' : MessageKind) (page page' : ℕ) (body body' : List ℕ) → a ≡ b → k ≡ k' → page ≡ page' → body ≡ body' → IsRecord sum a k page number body → IsRecord sum b k' page' number body'

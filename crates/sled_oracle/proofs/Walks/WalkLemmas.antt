@@ -1,7 +1,7 @@
 -- A walk along the records of one number comes to just the offsets that a reader comes to, and tries each record once.
 use Rattle.std.proofs.Common.{◌<◌, ◌+◌, ℕ, suc, List, arith}
 use Rattle.sled_store.specs.Foreign.{IsReached, at_first, behind}
-use Rattle.sled_store.specs.inside.OwnParts.{BeginsAt}
+use Rattle.sled_store.specs.Readers.{BeginsAt}
 use Rattle.sled_store.proofs.Own.ReachedLemmas.{same_len, first_step, goes_on}
 
 module _ (sum : List ℕ → ℕ) (size number : ℕ) (text : List ℕ) where

@@ -8,7 +8,7 @@ use Rattle.sled_codec.specs.Places.{part}
 use Rattle.sled_codec.specs.Record.{IsRecord}
 use Rattle.sled_codec.proofs.Records.{one_record}
 use Rattle.sled_store.specs.Foreign.{IsReached, at_first, behind}
-use Rattle.sled_store.specs.inside.OwnParts.{BeginsAt}
+use Rattle.sled_store.specs.Readers.{BeginsAt}
 
 -- a record is no shorter than the shortest header of one
 pub record_some : (sum : List ℕ → ℕ) (text : List ℕ) (kind : MessageKind) (page number : ℕ) (body : List ℕ) → IsRecord sum text kind page number body → 8 ≤ length text
