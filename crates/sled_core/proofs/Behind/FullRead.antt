@@ -12,8 +12,7 @@ use Rattle.sled_core.specs.declared.iterator.scan.ScanEnd.{ScanEnd}
 use Rattle.sled_core.specs.declared.iterator.scan.ScanEnd.TheVariants.{Full, Capped, Broken}
 use Rattle.sled_core.specs.inside.Recoverable.{BeginsInSegment, NoBatchBegins, NoBatchEnds, NoMessageBegins}
 use Rattle.sled_core.specs.Scan.{EndsThere, IsEnd, IsPath, IsScan}
-use Rattle.sled_core.specs.Tail.{IsScanned, Scanned}
-use Rattle.sled_core.specs.Tail.{least_place}
+use Rattle.sled_core.specs.Tail.{IsScanned, Scanned, least_place}
 use Rattle.sled_core.proofs.Tail.LogFileLemmas.{record_moved}
 use Rattle.sled_core.proofs.Reached.KeptStands.{path_kept}
 use Rattle.sled_core.proofs.Reached.StandsTo.{StandsTo}

@@ -12,8 +12,7 @@ use Rattle.sled_core.specs.inside.LogFile.{padded}
 use Rattle.sled_core.specs.inside.Reached.{BegunSegment, IsLed, StandsAmong, StandsIn}
 use Rattle.sled_core.specs.Recoverable.{NoHeaderOfZeros}
 use Rattle.sled_core.specs.inside.Scan.{IsFoundSegment}
-use Rattle.sled_core.specs.Tail.{IsScanned, Scanned}
-use Rattle.sled_core.specs.Tail.{least_place}
+use Rattle.sled_core.specs.Tail.{IsScanned, Scanned, least_place}
 use Rattle.sled_core.proofs.Sealed.Padded.{padded_get}
 use Rattle.sled_core.proofs.Read.FoundLemmas.{found_there}
 use Rattle.sled_core.proofs.Reached.Higher.{known_in}

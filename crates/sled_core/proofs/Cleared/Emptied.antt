@@ -18,8 +18,7 @@ use Rattle.sled_core.specs.Recoverable.{NoHeaderOfZeros}
 use Rattle.sled_core.specs.inside.Full.{StandsFull}
 use Rattle.sled_core.specs.inside.Reached.{BegunSegment, LeadsTo, StandsAmong, StandsIn}
 use Rattle.sled_core.specs.inside.Scan.{IsFoundSegment}
-use Rattle.sled_core.specs.Tail.{IsScanned, Scanned}
-use Rattle.sled_core.specs.Tail.{IsOrdering, least_place}
+use Rattle.sled_core.specs.Tail.{IsScanned, Scanned, IsOrdering, least_place}
 use Rattle.sled_core.proofs.OwnLog.Kept.{same_parts}
 use Rattle.sled_core.proofs.Reached.Higher.{known_in}
 use Rattle.sled_core.proofs.Reached.KeptStands.{found_kept, kept_among, scan_kept}

@@ -11,8 +11,7 @@ use Rattle.sled_store.specs.Device.{LogState, State, Wrote, Synced, Settled, ste
 use Rattle.sled_store.specs.Foreign.{IsReached, at_first, behind, first_record, Covers, IsWhole, HeaderWasPlaced, RecordWasPlaced, NoForeignLog}
 use Rattle.sled_store.proofs.Crashes.ForeignLemmas.{Knows, LogKnows, before_knows, own_log, own_log_at_rest, take_again}
 use Rattle.sled_store.proofs.Crashes.LeavesLemmas.{write}
-use Rattle.sled_store.specs.Readers.{BeginsAt}
-use Rattle.sled_store.specs.Readers.{Reads}
+use Rattle.sled_store.specs.Readers.{BeginsAt, Reads}
 use Rattle.sled_store.proofs.Own.ReaderLemmas.{read_begins, read_same, reads_reached}
 use Rattle.sled_store.proofs.Own.ReachedLemmas.{record_some, begins, same_len, first_step, goes_on}
 use Rattle.sled_store.proofs.LogFile.OverwrittenLemmas.{overwritten-end}

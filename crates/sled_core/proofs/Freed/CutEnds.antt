@@ -8,8 +8,7 @@ use Rattle.sled_core.specs.declared.iterator.Segment.{Segment}
 use Rattle.sled_core.specs.declared.iterator.scan.ScanEnd.TheVariants.{Broken}
 use Rattle.sled_core.specs.Scan.{IsEnd}
 use Rattle.sled_core.specs.inside.Recoverable.{IsRecoverableLog, cut_from, cut_over, scanned_below}
-use Rattle.sled_core.specs.Tail.{cut_of, least_place, stops_in, tail_begins, tail_end}
-use Rattle.sled_core.specs.Tail.{Scanned, open_at}
+use Rattle.sled_core.specs.Tail.{cut_of, least_place, stops_in, tail_begins, tail_end, Scanned, open_at}
 use Rattle.sled_core.proofs.Tail.OneTail.{from_below, in_below}
 use Rattle.sled_core.proofs.Tail.Rows.{IsRow, IsStopIn, cut_cases, end_there, met_stand, row_below, stand_in, stand_rises, stop_in}
 use Rattle.sled_core.proofs.Tail.Tails.{ends_low, row, tail_last, whole}

@@ -7,8 +7,7 @@ use Rattle.sled_core.specs.declared.iterator.Segment.{Segment}
 use Rattle.sled_core.specs.inside.Hides.{IsGoneSegment}
 use Rattle.sled_core.specs.inside.Recoverable.{IsRecoverableLog}
 use Rattle.sled_core.specs.inside.Scan.{IsFoundSegment, IsMisplaced}
-use Rattle.sled_core.specs.Tail.{IsUnordered, greatest_mark, least_place, tail_begins}
-use Rattle.sled_core.specs.Tail.{place_of_mark}
+use Rattle.sled_core.specs.Tail.{IsUnordered, greatest_mark, least_place, tail_begins, place_of_mark}
 use Rattle.sled_core.proofs.Freed.AnyOrdering.{any_ordering}
 use Rattle.sled_core.proofs.Freed.Gone.{ReadsAs, found_low, recoverable_with}
 use Rattle.sled_core.proofs.Tail.GreatestMark.{greatest_is, mark_above, mark_below}

@@ -6,8 +6,7 @@ use Rattle.sled_codec.specs.Snapshots.{SnapshotModel}
 use Rattle.sled_store.proofs.Segments.Elements.{in_cases, in_first, in_nothing, in_rest}
 use Rattle.sled_core.specs.declared.iterator.scan.ScannedRecord.{ScannedRecord}
 use Rattle.sled_core.specs.inside.Recoverable.{cut_over}
-use Rattle.sled_core.specs.Tail.{cut_of, stops_in}
-use Rattle.sled_core.specs.Tail.{Scanned, open_at, opens}
+use Rattle.sled_core.specs.Tail.{cut_of, stops_in, Scanned, open_at, opens}
 use Rattle.sled_core.proofs.Tail.Rows.{IsRow}
 
 -- Where no beginning of a batch that is open is met, none is open.

@@ -20,14 +20,13 @@ use Rattle.sled_core.specs.Begun.{SegmentView}
 use Rattle.sled_core.specs.Reading.{StandsAt}
 use Rattle.sled_core.specs.Recoverable.{NoHeaderOfZeros}
 use Rattle.sled_core.specs.Scan.{EndsThere, IsEnd, IsScan}
-use Rattle.sled_core.specs.Tail.{IsScanned, Scanned}
+use Rattle.sled_core.specs.Tail.{IsScanned, Scanned, AreScanned, IsOrdering}
 use Rattle.sled_core.specs.inside.Cleared.{cleared, is_stale, is_unwritten_of}
 use Rattle.sled_core.specs.inside.FreeSlots.{HasSlot}
 use Rattle.sled_core.specs.inside.Hides.{ReadsShown}
 use Rattle.sled_core.specs.inside.Reached.{IsReadTo, IsSoFar, StandsIn}
 use Rattle.sled_core.specs.inside.Scan.{IsFoundSegment}
 use Rattle.sled_core.specs.inside.Slots.{IsWholeSegment, marked_at}
-use Rattle.sled_core.specs.Tail.{AreScanned, IsOrdering}
 use Rattle.sled_core.proofs.Cleared.Offsets.{Beside, LineRises, OthersBeside, cleared_zeros, zeroed_beside, zeroed_long, zeroed_there}
 use Rattle.sled_core.proofs.Cleared.Moves.{part_same}
 use Rattle.sled_core.proofs.Freed.ClearedShows.{front_shown, none_stale, stale_in}

@@ -11,10 +11,9 @@ use Rattle.sled_core.specs.declared.iterator.scan.ScannedRecord.{ScannedRecord}
 use Rattle.sled_core.specs.declared.iterator.scan.ScanEnd.{ScanEnd}
 use Rattle.sled_core.specs.declared.iterator.scan.ScanEnd.TheVariants.{Full, Capped, Broken}
 use Rattle.sled_core.specs.Scan.{IsEnd, IsScan}
-use Rattle.sled_core.specs.Tail.{IsScanned, Scanned}
+use Rattle.sled_core.specs.Tail.{IsScanned, Scanned, AreScanned, IsOrdering}
 use Rattle.sled_core.specs.inside.Reached.{IsReadTo, IsSoFar, StandsIn}
 use Rattle.sled_core.specs.inside.Scan.{IsFoundSegment}
-use Rattle.sled_core.specs.Tail.{AreScanned, IsOrdering}
 use Rattle.sled_core.proofs.Freed.WriteSlots.{LiesIn, ReadsFrom}
 use Rattle.sled_core.proofs.Tail.OneTail.{segment_there}
 use Rattle.sled_core.proofs.Torn.WrittenParts.{path_rises}

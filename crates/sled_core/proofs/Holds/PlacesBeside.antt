@@ -14,8 +14,7 @@ use Rattle.sled_core.specs.Recoverable.{NoHeaderOfZeros}
 use Rattle.sled_core.specs.inside.Scan.{IsFoundSegment}
 use Rattle.sled_core.specs.Scan.{IsScan}
 use Rattle.sled_core.specs.SealedBuffers.{AreZeros}
-use Rattle.sled_core.specs.Tail.{Scanned, IsScanned}
-use Rattle.sled_core.specs.Tail.{least_place}
+use Rattle.sled_core.specs.Tail.{Scanned, IsScanned, least_place}
 use Rattle.sled_core.proofs.Reached.SegmentsBeside.{going_in}
 use Rattle.sled_core.proofs.Tail.OneTail.{place_aligned, segment_there}
 use Rattle.sled_core.proofs.Tail.Multiples.{apart}

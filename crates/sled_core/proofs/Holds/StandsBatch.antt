@@ -18,8 +18,7 @@ use Rattle.sled_core.specs.Recoverable.{NoHeaderOfZeros}
 use Rattle.sled_core.specs.SealedBuffers.{AreZeros}
 use Rattle.sled_core.specs.inside.Scan.{IsFoundSegment}
 use Rattle.sled_core.specs.Scan.{IsScan}
-use Rattle.sled_core.specs.Tail.{least_place}
-use Rattle.sled_core.specs.Tail.{Scanned}
+use Rattle.sled_core.specs.Tail.{least_place, Scanned}
 use Rattle.sled_core.proofs.Reached.AddedBatch.{batch_grows, batch_there, entry_was, message_was, no_end, no_message, was_or_batch}
 use Rattle.sled_core.proofs.Reached.GrowsAt.{beside_grown, no_batch_grown, reads_grown}
 use Rattle.sled_core.proofs.Holds.PlacesBeside.{LiesBeside, cap_beside, first_below, lies_beside, met_beside}

@@ -37,8 +37,7 @@ use Rattle.sled_core.specs.OpenPlaces.{open_places_along}
 use Rattle.sled_core.specs.Positions.{Position, is_short, lid_at, next_segment_at}
 use Rattle.sled_core.specs.Prepared.{IsMadeReady}
 use Rattle.sled_core.specs.inside.Prepared.{IsPrepared, next_here}
-use Rattle.sled_core.specs.Reserves.{MadeAnswers}
-use Rattle.sled_core.specs.Reserves.{RefusalLeaves, ReservesAs, TouchesBlob, reserve_causes}
+use Rattle.sled_core.specs.Reserves.{MadeAnswers, RefusalLeaves, ReservesAs, TouchesBlob, reserve_causes}
 use Rattle.sled_core.specs.Running.{IsStored, KeepsItem}
 use Rattle.sled_core.specs.inside.Turned.{ChangesDevice, HasPlace, HasRoomForBatch, HasRoomIn}
 use Rattle.sled_core.specs.Waiting.{last_of, start_in, unwritten}

@@ -14,7 +14,7 @@ use Rattle.sled_core.specs.declared.iobuf.Sealed.{Sealed}
 use Rattle.sled_core.specs.declared.iterator.Segment.{Segment}
 use Rattle.sled_core.specs.Begun.{SegmentView, records_to}
 use Rattle.sled_core.specs.Recoverable.{NoHeaderOfZeros}
-use Rattle.sled_core.specs.Tail.{Scanned}
+use Rattle.sled_core.specs.Tail.{Scanned, AreScanned, IsOrdering, least_place, tail_begins}
 use Rattle.sled_core.specs.inside.Begun.{line_end}
 use Rattle.sled_core.specs.inside.Cleared.{cleared, is_between, is_unwritten_in}
 use Rattle.sled_core.specs.inside.Fits.{begun_segment, parts_in}
@@ -25,7 +25,6 @@ use Rattle.sled_core.specs.inside.Recoverable.{IsRecoverableLog}
 use Rattle.sled_core.specs.inside.Reached.{StandsAmong, StandsIn}
 use Rattle.sled_core.specs.inside.SealedBuffers.{AreSealed, FirstUnwritten}
 use Rattle.sled_core.specs.inside.Slots.{AreWhole}
-use Rattle.sled_core.specs.Tail.{AreScanned, IsOrdering, least_place, tail_begins}
 use Rattle.sled_core.proofs.Cleared.Offsets.{LineRises, OthersBeside, between_is, slot_apart}
 use Rattle.sled_core.proofs.Freed.Gone.{ReadsAs}
 use Rattle.sled_core.proofs.Freed.GoneAlone.{found_alone}

@@ -20,8 +20,7 @@ use Rattle.sled_core.specs.Fits.{FitsInline, body_length, in_blob_of, segment_si
 use Rattle.sled_core.specs.Manifests.{kind_for}
 use Rattle.sled_core.specs.Logged.{in_log}
 use Rattle.sled_core.specs.inside.Prepared.{PrepareAnswers}
-use Rattle.sled_core.specs.Reserves.{MadeAnswers}
-use Rattle.sled_core.specs.Reserves.{RefusalLeaves, ReservesAs, TouchesBlob, reserve_causes}
+use Rattle.sled_core.specs.Reserves.{MadeAnswers, RefusalLeaves, ReservesAs, TouchesBlob, reserve_causes}
 use Rattle.sled_core.specs.Running.{IsStored}
 use Rattle.sled_core.specs.Tickets.{own_blob}
 use Rattle.sled_core.specs.declared.iobuf.Purpose.{Purpose}

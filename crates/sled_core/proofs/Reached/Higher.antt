@@ -10,8 +10,7 @@ use Rattle.sled_core.specs.declared.iterator.scan.ScanEnd.TheVariants.{Broken}
 use Rattle.sled_core.specs.inside.Recoverable.{NoMessageBegins, StandsInline, IsReachedIn, IsReadOn, IsSegmentOf}
 use Rattle.sled_core.specs.inside.Scan.{IsFoundSegment}
 use Rattle.sled_core.specs.Scan.{IsScan}
-use Rattle.sled_core.specs.Tail.{Scanned, IsScanned}
-use Rattle.sled_core.specs.Tail.{least_place}
+use Rattle.sled_core.specs.Tail.{Scanned, IsScanned, least_place}
 use Rattle.sled_store.proofs.Histories.Ascending.{Ascends}
 use Rattle.sled_store.proofs.Histories.EarlierEntries.{entry_earlier}
 use Rattle.sled_core.proofs.Tail.OfHistory.{message_of}

@@ -24,8 +24,7 @@ use Rattle.sled_core.proofs.Torn.KeptSlots.{KeepsSlots}
 use Rattle.sled_core.proofs.Torn.TornRecords.{long_enough}
 use Rattle.sled_core.proofs.Torn.WrittenParts.{all_there, in_this_file, in_segment}
 use Rattle.sled_core.proofs.Torn.WrittenRecords.{AlikeAlong}
-use Rattle.sled_core.specs.Tail.{Scanned, IsScanned}
-use Rattle.sled_core.specs.Tail.{IsOrdering, least_place}
+use Rattle.sled_core.specs.Tail.{Scanned, IsScanned, IsOrdering, least_place}
 use Rattle.sled_core.proofs.Tail.Moved.{message_moved}
 use Rattle.sled_core.proofs.Tail.OneTail.{scan_there, segment_there}
 use Rattle.sled_core.proofs.Reached.LeftBeside.{truth_alike}

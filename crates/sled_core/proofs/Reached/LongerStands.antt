@@ -9,8 +9,7 @@ use Rattle.sled_core.specs.inside.Hides.{IsReading}
 use Rattle.sled_core.specs.inside.Recoverable.{IsSegmentOf, StandsInline}
 use Rattle.sled_core.specs.inside.Scan.{IsFoundSegment}
 use Rattle.sled_core.specs.Scan.{IsScan}
-use Rattle.sled_core.specs.Tail.{IsOrdering, least_place}
-use Rattle.sled_core.specs.Tail.{IsScanned, Scanned}
+use Rattle.sled_core.specs.Tail.{IsOrdering, least_place, IsScanned, Scanned}
 use Rattle.sled_core.proofs.Read.FoundLemmas.{found_there}
 use Rattle.sled_core.proofs.Reached.KeptStands.{alike_kept, item_kept, reached_kept, read_on_kept}
 use Rattle.sled_core.proofs.Reached.LeftBeside.{truth_alike}

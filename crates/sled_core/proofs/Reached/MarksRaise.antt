@@ -8,11 +8,10 @@ use Rattle.sled_codec.specs.History.{History}
 use Rattle.sled_codec.specs.Snapshots.{SnapshotModel, stable_place}
 use Rattle.sled_core.specs.declared.iterator.Segment.{Segment}
 use Rattle.sled_core.specs.LogSegments.{begins_from}
-use Rattle.sled_core.specs.Tail.{place_of_mark}
+use Rattle.sled_core.specs.Tail.{place_of_mark, greatest_mark, least_place, tail_begins}
 use Rattle.sled_core.specs.inside.MarksFit.{MarkStands, held_from}
 use Rattle.sled_core.specs.inside.Recoverable.{IsMarkBelow}
 use Rattle.sled_core.specs.inside.Scan.{IsFoundSegment}
-use Rattle.sled_core.specs.Tail.{greatest_mark, least_place, tail_begins}
 use Rattle.sled_core.proofs.Reached.StandsTo.{StandsTo}
 use Rattle.sled_core.proofs.Reached.Raised.{held_higher}
 use Rattle.sled_core.proofs.Tail.GreatestMark.{mark_below}

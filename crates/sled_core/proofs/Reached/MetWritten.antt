@@ -14,8 +14,7 @@ use Rattle.sled_core.specs.declared.iterator.scan.ScanEnd.TheVariants.{Full, Cap
 use Rattle.sled_core.specs.inside.Reached.{StandsIn, StandsTo}
 use Rattle.sled_core.specs.inside.Recoverable.{IsReachedIn}
 use Rattle.sled_core.specs.Scan.{IsEnd}
-use Rattle.sled_core.specs.Tail.{Scanned}
-use Rattle.sled_core.specs.Tail.{least_place}
+use Rattle.sled_core.specs.Tail.{Scanned, least_place}
 use Rattle.sled_core.proofs.Read.ScanLemmas.{aligned_offset}
 use Rattle.sled_core.proofs.Reached.ReachedEntries.{reached_of}
 use Rattle.sled_core.proofs.Tail.Multiples.{one_multiple, put_down}

@@ -7,8 +7,7 @@ use Rattle.sled_codec.specs.Snapshots.{SnapshotModel}
 use Rattle.sled_store.proofs.Segments.Elements.{in_nothing}
 use Rattle.sled_core.specs.declared.iterator.Segment.{Segment}
 use Rattle.sled_core.specs.inside.Recoverable.{scanned_below, cut_over, cut_from}
-use Rattle.sled_core.specs.Tail.{Scanned, open_at}
-use Rattle.sled_core.specs.Tail.{IsTail, stops_in, cut_of, tail_end}
+use Rattle.sled_core.specs.Tail.{Scanned, open_at, IsTail, stops_in, cut_of, tail_end}
 use Rattle.sled_core.proofs.Tail.Covered.{PassEnds}
 use Rattle.sled_core.proofs.Tail.OfHistory.{opened_of}
 use Rattle.sled_core.proofs.Tail.OneTail.{in_below, from_below}

@@ -9,8 +9,7 @@ use Rattle.sled_core.specs.declared.iterator.scan.ScanEnd.TheVariants.{Broken}
 use Rattle.sled_core.specs.inside.Recoverable.{IsOfHistory, IsReadOn}
 use Rattle.sled_core.specs.inside.Scan.{IsFoundSegment}
 use Rattle.sled_core.specs.Scan.{IsEnd, IsScan}
-use Rattle.sled_core.specs.Tail.{IsOrdering, AreScanned}
-use Rattle.sled_core.specs.Tail.{Scanned}
+use Rattle.sled_core.specs.Tail.{IsOrdering, AreScanned, Scanned}
 use Rattle.sled_core.proofs.Tail.OneTail.{one_at_place, rises_of, segment_there}
 use Rattle.sled_core.proofs.Tail.Rows.{IsWhole, end_there, path_stands, path_within, stand_in}
 

@@ -5,8 +5,7 @@ use Rattle.sled_codec.specs.History.{Message, History, table}
 use Rattle.sled_codec.specs.Snapshots.{SnapshotModel, stable_place}
 use Rattle.sled_core.specs.declared.iterator.Segment.{Segment}
 use Rattle.sled_core.specs.inside.Recoverable.{StandsInline, IsSegmentOf, IsRecoverableLog, cut_from}
-use Rattle.sled_core.specs.Tail.{Scanned}
-use Rattle.sled_core.specs.Tail.{IsTail, tail_end}
+use Rattle.sled_core.specs.Tail.{Scanned, IsTail, tail_end}
 use Rattle.sled_store.proofs.Histories.Ascending.{Ascends}
 use Rattle.sled_core.proofs.Reached.ReachedCut.{some_read, cut, cut_far, cut_is, pass_ends}
 use Rattle.sled_core.proofs.Reached.ReachedEntries.{entries_there}

@@ -9,8 +9,7 @@ use Rattle.sled_core.specs.declared.iterator.scan.ScannedRecord.{ScannedRecord}
 use Rattle.sled_core.specs.declared.iterator.scan.ScanEnd.TheVariants.{Broken}
 use Rattle.sled_core.specs.inside.Hides.{IsReading}
 use Rattle.sled_core.specs.inside.Recoverable.{NothingBehind, StandsInline, IsOfHistory, IsSegmentOf, IsMarkOf, IsMarkBelow}
-use Rattle.sled_core.specs.Tail.{Scanned, IsScanned}
-use Rattle.sled_core.specs.Tail.{IsOrdering, AreScanned, least_place}
+use Rattle.sled_core.specs.Tail.{Scanned, IsScanned, IsOrdering, AreScanned, least_place}
 use Rattle.sled_core.proofs.Tail.OneReading.{one_scan}
 use Rattle.sled_core.proofs.Tail.OneTail.{scan_there, segment_there, reading_there}
 use Rattle.sled_core.proofs.Tail.SegmentsFrom.{tail_stays}

@@ -9,8 +9,7 @@ use Rattle.sled_core.specs.declared.iterator.Segment.{Segment}
 use Rattle.sled_core.specs.declared.iterator.scan.ScanEnd.{ScanEnd}
 use Rattle.sled_core.specs.declared.iterator.scan.ScanEnd.TheVariants.{Full, Capped, Broken}
 use Rattle.sled_core.proofs.Read.FoundLemmas.{pos_injective}
-use Rattle.sled_core.specs.Tail.{Scanned}
-use Rattle.sled_core.specs.Tail.{GoesOn, IsTail, greatest_mark, tail_begins, tail_end, least_place}
+use Rattle.sled_core.specs.Tail.{Scanned, GoesOn, IsTail, greatest_mark, tail_begins, tail_end, least_place}
 use Rattle.sled_core.proofs.Tail.OneTail.{segment_there}
 use Rattle.sled_core.proofs.Tail.GreatestMark.{greatest_is, mark_below}
 use Rattle.sled_core.proofs.Tail.Multiples.{put_down, one_multiple, next_multiple, lower_multiple}

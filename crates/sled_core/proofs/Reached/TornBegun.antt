@@ -22,8 +22,7 @@ use Rattle.sled_core.proofs.Read.FoundLemmas.{pos_injective}
 use Rattle.sled_core.proofs.Torn.TornLemmas.{after_write}
 use Rattle.sled_core.proofs.Torn.WrittenRecords.{AreClear, MeetsFirst}
 use Rattle.sled_core.proofs.Torn.WrittenBegun.{none_stood, begun_or_none, meets_begun}
-use Rattle.sled_core.specs.Tail.{Scanned, IsScanned}
-use Rattle.sled_core.specs.Tail.{IsOrdering, least_place}
+use Rattle.sled_core.specs.Tail.{Scanned, IsScanned, IsOrdering, least_place}
 use Rattle.sled_core.proofs.Tail.OneTail.{scan_there, segment_there}
 use Rattle.sled_core.proofs.Reached.KeptStands.{read_on_kept}
 use Rattle.sled_core.proofs.Reached.LeftBeside.{IsSameBeside, truth_alike, beside, bytes_beside, segment_left, found_beside, same_beside, reading_beside}

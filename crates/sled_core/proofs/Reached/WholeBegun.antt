@@ -17,8 +17,7 @@ use Rattle.sled_core.specs.Recoverable.{NoHeaderOfZeros}
 use Rattle.sled_core.specs.Scan.{IsPath, IsEnd, IsScan}
 use Rattle.sled_core.proofs.Torn.TornLemmas.{after_write}
 use Rattle.sled_core.proofs.Torn.WrittenBegun.{none_stood, header_new}
-use Rattle.sled_core.specs.Tail.{Scanned}
-use Rattle.sled_core.specs.Tail.{least_place}
+use Rattle.sled_core.specs.Tail.{Scanned, least_place}
 use Rattle.sled_store.proofs.Histories.Ascending.{Ascends}
 use Rattle.sled_core.proofs.Reached.Higher.{IsBegunOrLedTo, known_in, led_as_before, stands_higher}
 use Rattle.sled_core.proofs.Reached.LeftBeside.{IsSameBeside}

@@ -16,9 +16,8 @@ use Rattle.sled_core.specs.inside.Reached.{IsLed, StandsTo}
 use Rattle.sled_core.specs.inside.Recoverable.{IsSegmentOf, MeetsMessage, NothingBehind}
 use Rattle.sled_core.specs.inside.Scan.{IsFoundSegment}
 use Rattle.sled_core.specs.inside.Slots.{IsWholeSegment, marked_at}
-use Rattle.sled_core.specs.Tail.{least_place}
+use Rattle.sled_core.specs.Tail.{least_place, Scanned, IsScanned}
 use Rattle.sled_core.specs.Scan.{IsEnd, IsScan}
-use Rattle.sled_core.specs.Tail.{Scanned, IsScanned}
 use Rattle.sled_core.proofs.Read.FoundLemmas.{found_there}
 use Rattle.sled_core.proofs.Reached.KeptStands.{reached_kept, read_on_kept}
 use Rattle.sled_core.proofs.Reached.ReachedEntries.{reached_of}

@@ -17,8 +17,7 @@ use Rattle.sled_core.specs.inside.Reached.{BeginsOne, BegunSegment, GoesOnIn, Is
 use Rattle.sled_core.specs.Recoverable.{NoHeaderOfZeros}
 use Rattle.sled_core.specs.inside.Scan.{IsFoundSegment}
 use Rattle.sled_core.specs.Scan.{IsEnd, EndsThere, IsScan}
-use Rattle.sled_core.specs.Tail.{Scanned}
-use Rattle.sled_core.specs.Tail.{least_place}
+use Rattle.sled_core.specs.Tail.{Scanned, least_place}
 use Rattle.sled_core.proofs.Read.PathLemmas.{zeros_empty}
 use Rattle.sled_codec.specs.Places.{part}
 use Rattle.sled_core.proofs.Torn.WrittenBegun.{none_in_zeros}

@@ -24,8 +24,7 @@ use Rattle.sled_core.specs.inside.Recoverable.{NothingBehind, NoMessageBegins, N
 use Rattle.sled_core.specs.Recoverable.{NoHeaderOfZeros}
 use Rattle.sled_core.specs.inside.Scan.{IsFoundSegment}
 use Rattle.sled_core.specs.Scan.{IsPath, IsEnd, IsScan}
-use Rattle.sled_core.specs.Tail.{Scanned, IsScanned}
-use Rattle.sled_core.specs.Tail.{least_place}
+use Rattle.sled_core.specs.Tail.{Scanned, IsScanned, least_place}
 use Rattle.sled_core.proofs.Read.FoundLemmas.{pos_injective}
 use Rattle.sled_core.proofs.Reached.BufferPath.{buffer_header, buffer_mark_below}
 use Rattle.sled_core.proofs.Reached.Higher.{IsBegunOrLedTo, known_in}

@@ -15,8 +15,7 @@ use Rattle.sled_core.specs.declared.iterator.scan.ScanEnd.{ScanEnd}
 use Rattle.sled_core.specs.declared.iterator.scan.ScanEnd.TheVariants.{Full, Broken}
 use Rattle.sled_core.specs.inside.Reached.{BegunSegment, IsReadTo, IsSoFar, StandsAmong, StandsIn}
 use Rattle.sled_core.specs.Scan.{IsEnd, IsScan}
-use Rattle.sled_core.specs.Tail.{Scanned}
-use Rattle.sled_core.specs.Tail.{least_place}
+use Rattle.sled_core.specs.Tail.{Scanned, least_place}
 use Rattle.sled_core.proofs.Reached.SegmentsBeside.{begins_still, follow_still, grown_one, was_other}
 use Rattle.sled_core.proofs.Reached.StandsTo.{StandsFrom, StandsTo}
 use Rattle.sled_core.proofs.Reached.WrittenUnread.{torn_full, written_full}

@@ -12,8 +12,7 @@ use Rattle.sled_store.proofs.Segments.Elements.{in_nothing}
 use Rattle.sled_core.specs.OpenBatches.{stable_below}
 use Rattle.sled_core.specs.inside.Reached.{StandsTo, StandsAlone, StandsActive, GoesOnIn}
 use Rattle.sled_core.specs.inside.Scan.{IsFoundSegment}
-use Rattle.sled_core.specs.Tail.{Scanned, IsScanned}
-use Rattle.sled_core.specs.Tail.{least_place}
+use Rattle.sled_core.specs.Tail.{Scanned, IsScanned, least_place}
 use Rattle.sled_core.proofs.Start.Entries.{message_used, active_used}
 use Rattle.sled_core.proofs.Start.Recoverable.{same_place}
 use Rattle.sled_core.proofs.Reached.KeptStands.{SameInUsed, found_kept, scan_kept, kept_stands}

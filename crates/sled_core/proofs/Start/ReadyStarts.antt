@@ -14,8 +14,7 @@ use Rattle.sled_core.specs.inside.Running.{IsReadyFor}
 use Rattle.sled_core.specs.inside.Reached.{StandsActive}
 use Rattle.sled_core.specs.inside.Recoverable.{ActiveFits}
 use Rattle.sled_core.specs.inside.Scan.{IsFoundSegment}
-use Rattle.sled_core.specs.Tail.{Scanned}
-use Rattle.sled_core.specs.Tail.{least_place}
+use Rattle.sled_core.specs.Tail.{Scanned, least_place}
 use Rattle.sled_core.proofs.Start.PlacedEntries.{Known, known, slot_is, number_is, placed, of_slot, of_number}
 use Rattle.sled_core.proofs.Start.SegmentSizes.{slot_counted}
 use Rattle.sled_core.proofs.Reached.StartedStands.{found_inside}

@@ -8,8 +8,7 @@ use Rattle.sled_core.specs.declared.iterator.scan.ScanEnd.{ScanEnd}
 use Rattle.sled_core.specs.declared.iterator.scan.ScanEnd.TheVariants.{Full, Capped, Broken}
 use Rattle.sled_core.specs.Scan.{IsEnd}
 use Rattle.sled_core.specs.inside.Recoverable.{BeginsInSegment}
-use Rattle.sled_core.specs.Tail.{Scanned}
-use Rattle.sled_core.specs.Tail.{cut_of}
+use Rattle.sled_core.specs.Tail.{Scanned, cut_of}
 use Rattle.sled_core.proofs.Tail.Multiples.{apart, put_down}
 use Rattle.sled_core.proofs.Tail.Rows.{IsWhole, end_there, covers, cut_cases}
 

@@ -4,8 +4,7 @@ use Rattle.std.specs.List.{Contains}
 use Rattle.std.proofs.lemmas.Bool.{cases_lt, ltb-true, leb-true}
 use Rattle.sled_store.proofs.Segments.Elements.{in_first, in_rest}
 use Rattle.sled_core.specs.declared.iterator.Segment.{Segment}
-use Rattle.sled_core.specs.Tail.{place_of_mark}
-use Rattle.sled_core.specs.Tail.{greatest_mark}
+use Rattle.sled_core.specs.Tail.{place_of_mark, greatest_mark}
 
 -- The greatest mark is the place that it is not below, or a mark.
 pub greatest_is : (least : ℕ) (ss : List Segment) → (greatest_mark least ss ≡ least) ⊎ ((s : Segment) × Contains ss s × (s.mark ≡ pos (greatest_mark least ss)))

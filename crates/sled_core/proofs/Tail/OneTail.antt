@@ -8,8 +8,7 @@ use Rattle.sled_core.specs.declared.iterator.scan.ScanEnd.{ScanEnd}
 use Rattle.sled_core.specs.declared.iterator.scan.ScanEnd.TheVariants.{Full, Capped, Broken}
 use Rattle.sled_core.specs.inside.Recoverable.{scanned_below}
 use Rattle.sled_store.proofs.Segments.Elements.{in_first, in_rest, in_cases, in_nothing}
-use Rattle.sled_core.specs.Tail.{is_ascending, IsOrdering, GoesOn, IsTail, begun_below, AreScanned}
-use Rattle.sled_core.specs.Tail.{Scanned, IsScanned}
+use Rattle.sled_core.specs.Tail.{is_ascending, IsOrdering, GoesOn, IsTail, begun_below, AreScanned, Scanned, IsScanned}
 use Rattle.sled_core.proofs.Tail.OneReading.{one_scan}
 
 -- One order.

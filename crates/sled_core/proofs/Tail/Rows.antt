@@ -8,8 +8,7 @@ use Rattle.sled_core.specs.Scan.{IsPath, IsEnd, IsScan}
 use Rattle.sled_core.specs.inside.Recoverable.{scanned_below}
 use Rattle.sled_core.proofs.Read.ScanLemmas.{met_fits, aligned_offset}
 use Rattle.sled_store.proofs.Segments.Elements.{in_first, in_rest, in_cases, in_nothing}
-use Rattle.sled_core.specs.Tail.{IsOrdering, AreScanned, before_open, stops_in, is_filled, cut_of}
-use Rattle.sled_core.specs.Tail.{Scanned, IsScanned, opens, open_at}
+use Rattle.sled_core.specs.Tail.{IsOrdering, AreScanned, before_open, stops_in, is_filled, cut_of, Scanned, IsScanned, opens, open_at}
 use Rattle.sled_core.proofs.Tail.Multiples.{apart}
 use Rattle.sled_core.proofs.Tail.OneTail.{Rises, rises_of, place_aligned, segment_there, from_below}
 

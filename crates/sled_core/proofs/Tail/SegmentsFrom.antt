@@ -7,8 +7,7 @@ use Rattle.sled_store.proofs.Segments.Elements.{in_first, in_cases, in_nothing, 
 use Rattle.sled_core.specs.declared.iterator.Segment.{Segment}
 use Rattle.sled_core.specs.inside.Recoverable.{IsMarkBelow}
 use Rattle.sled_core.proofs.Read.FoundLemmas.{pos_injective}
-use Rattle.sled_core.specs.Tail.{is_ascending, IsOrdering, AreScanned, greatest_mark, tail_begins}
-use Rattle.sled_core.specs.Tail.{Scanned, place_of_mark}
+use Rattle.sled_core.specs.Tail.{is_ascending, IsOrdering, AreScanned, greatest_mark, tail_begins, Scanned, place_of_mark}
 use Rattle.sled_core.proofs.Tail.Multiples.{apart, put_down, one_multiple, raised_within, lower_multiple}
 use Rattle.sled_core.proofs.Tail.GreatestMark.{greatest_is, mark_below}
 use Rattle.sled_core.proofs.Tail.OneTail.{Rises, rises_of}

@@ -6,8 +6,7 @@ use Rattle.sled_store.proofs.Segments.Elements.{in_first, in_rest, in_cases, in_
 use Rattle.sled_core.specs.declared.iterator.Segment.{Segment}
 use Rattle.sled_core.specs.declared.iterator.scan.ScanEnd.{ScanEnd}
 use Rattle.sled_core.specs.declared.iterator.scan.ScanEnd.TheVariants.{Full, Capped, Broken}
-use Rattle.sled_core.specs.Tail.{IsOrdering, AreScanned, GoesOn, IsTail, tail_end}
-use Rattle.sled_core.specs.Tail.{Scanned, IsScanned}
+use Rattle.sled_core.specs.Tail.{IsOrdering, AreScanned, GoesOn, IsTail, tail_end, Scanned, IsScanned}
 use Rattle.sled_core.proofs.Tail.Multiples.{apart, next_multiple}
 use Rattle.sled_core.proofs.Tail.OneReading.{one_scan}
 use Rattle.sled_core.proofs.Tail.OneTail.{Rises, rises_of, one_at_place, scan_there, segment_there, reading_there}

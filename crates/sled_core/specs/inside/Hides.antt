@@ -14,12 +14,11 @@ use Rattle.sled_store.specs.SnapshotFiles.{BeginsFrom}
 use Rattle.sled_core.specs.declared.iterator.Segment.{Segment}
 use Rattle.sled_core.specs.declared.iterator.scan.ScannedRecord.{ScannedRecord}
 use Rattle.sled_core.specs.Begun.{SegmentView}
-use Rattle.sled_core.specs.Tail.{IsScanned, Scanned}
+use Rattle.sled_core.specs.Tail.{IsScanned, Scanned, least_place}
 use Rattle.sled_core.specs.inside.Begun.{line_end}
 use Rattle.sled_core.specs.inside.Cleared.{cleared}
 use Rattle.sled_core.specs.inside.Recoverable.{IsMarkOf, IsOfHistory, NothingBehind}
 use Rattle.sled_core.specs.inside.Slots.{marked_at}
-use Rattle.sled_core.specs.Tail.{least_place}
 
 -- What is met in a segment, all of it of the history. Behind a Cap nothing of that begins in the segment.
 pub record IsReading (sum : List ℕ → ℕ) (size : ℕ) (log : List ℕ) (H : History) (s : Segment) : Type 0 where

@@ -11,8 +11,7 @@ use Rattle.sled_core.specs.declared.iterator.scan.ScanEnd.TheVariants.{Broken}
 use Rattle.sled_core.specs.Begun.{records_to}
 use Rattle.sled_core.specs.OpenBatches.{stable_below}
 use Rattle.sled_core.specs.inside.Scan.{IsFoundSegment}
-use Rattle.sled_core.specs.Tail.{IsOrdering, AreScanned, least_place, tail_begins}
-use Rattle.sled_core.specs.Tail.{IsScanned, Scanned}
+use Rattle.sled_core.specs.Tail.{IsOrdering, AreScanned, least_place, tail_begins, IsScanned, Scanned}
 use Rattle.sled_core.specs.inside.Recoverable.{NothingBehind, NoMessageBegins, NoBatchBegins, NoBatchEnds, StandsInline, IsOfHistory, IsSegmentOf, IsMarkOf}
 use Rattle.sled_core.specs.inside.Recoverable.{IsMarkBelow, LiesInSegment, IsPlacedBatch}
 

@@ -21,8 +21,7 @@ use Rattle.sled_core.specs.declared.iterator.scan.ScanEnd.TheVariants.{Capped, B
 use Rattle.sled_core.specs.declared.iterator.Segment.{Segment}
 use Rattle.sled_core.specs.inside.Scan.{IsFoundSegment}
 use Rattle.sled_core.specs.Scan.{IsMet, IsPath}
-use Rattle.sled_core.specs.Tail.{IsOrdering, AreScanned, IsTail, tail_begins, tail_end, stops_in, cut_of, least_place}
-use Rattle.sled_core.specs.Tail.{Scanned, IsScanned, open_at}
+use Rattle.sled_core.specs.Tail.{IsOrdering, AreScanned, IsTail, tail_begins, tail_end, stops_in, cut_of, least_place, Scanned, IsScanned, open_at}
 use Rattle.sled_core.specs.LogFile.{MessageStands}
 use Rattle.sled_core.specs.Good.{HasOwnBlob}
 use Rattle.sled_core.specs.Reading.{BlobIsBelow}

@@ -2,8 +2,7 @@
 use Rattle.std.proofs.Common.{◌≡◌, ◌∙◌, ◌*◌, ◌/◌, ap, ℕ, ℤ, List, Option, Some, None, refl, sym, subst, inl, inr}
 use Rattle.sled_codec.specs.Snapshots.{SnapshotModel, stable_place}
 use Rattle.sled_store.specs.Device.{Content}
-use Rattle.sled_store.specs.SnapshotFiles.{BeginsFrom}
-use Rattle.sled_store.specs.SnapshotFiles.{IsDamagedSnapshot}
+use Rattle.sled_store.specs.SnapshotFiles.{BeginsFrom, IsDamagedSnapshot}
 use Rattle.sled_core.specs.declared.iterator.Segment.{Segment}
 use Rattle.sled_log.specs.Recovery.{Scanned, IsOrdering, IsUnordered, IsTail, IsDamagedTail, tail_begins, tail_end, HaveGoodBlobs, Passes, Outcome, Recovered, Damaged, unchanged, slots_of, least_place, ContinuesFrom, Recovers}
 

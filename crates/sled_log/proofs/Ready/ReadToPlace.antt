@@ -7,8 +7,7 @@ use Rattle.sled_core.specs.declared.iterator.Segment.{Segment}
 use Rattle.sled_core.specs.inside.Reached.{GoesOnIn, StandsActive}
 use Rattle.sled_core.specs.inside.Recoverable.{ActiveFits, IsRecoverableLog}
 use Rattle.sled_core.specs.inside.Scan.{IsFoundSegment}
-use Rattle.sled_core.specs.Tail.{Scanned}
-use Rattle.sled_core.specs.Tail.{least_place}
+use Rattle.sled_core.specs.Tail.{Scanned, least_place}
 use Rattle.sled_core.proofs.Reached.StandsTo.{StandsTo}
 use Rattle.sled_core.proofs.Tail.Multiples.{put_down}
 use Rattle.sled_core.proofs.Tail.OneTail.{rises_of, one_at_place, segment_there, reading_there}

@@ -3,8 +3,7 @@ use Rattle.std.proofs.Common.{◌≡◌, ◌∙◌, ℕ, ℤ, true, false, List,
 use Rattle.sled_codec.specs.History.{History, CutFits}
 use Rattle.sled_codec.specs.PageTables.{IsTable}
 use Rattle.sled_codec.specs.Snapshots.{SnapshotModel, stable_place, empty_model}
-use Rattle.sled_store.specs.SnapshotFiles.{BeginsFrom}
-use Rattle.sled_store.specs.SnapshotFiles.{IsDamagedSnapshot}
+use Rattle.sled_store.specs.SnapshotFiles.{BeginsFrom, IsDamagedSnapshot}
 use Rattle.sled_store.proofs.Names.Trailers.{one_snapshot}
 use Rattle.sled_core.specs.inside.Recoverable.{AreRecoverableSnapshots}
 use Rattle.sled_log.proofs.PageTable.TableCuts.{no_pages_at_first}

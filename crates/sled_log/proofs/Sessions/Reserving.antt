@@ -36,8 +36,7 @@ use Rattle.sled_core.specs.OpenPlaces.{open_places_along}
 use Rattle.sled_core.specs.Positions.{Position, lid_at, position_in}
 use Rattle.sled_core.specs.Prepared.{IsMadeReady}
 use Rattle.sled_core.specs.Reading.{IsInline}
-use Rattle.sled_core.specs.Reserves.{MadeAnswers}
-use Rattle.sled_core.specs.Reserves.{MakesBlob, ReservesAs, TouchesBlob}
+use Rattle.sled_core.specs.Reserves.{MadeAnswers, MakesBlob, ReservesAs, TouchesBlob}
 use Rattle.sled_core.specs.invariants.Running.{Fits}
 use Rattle.sled_core.specs.Tickets.{place_of, pointer_of}
 use Rattle.sled_core.specs.Waiting.{last_of, spans, start_in, unwritten}

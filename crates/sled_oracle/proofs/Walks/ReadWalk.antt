@@ -5,8 +5,7 @@ use Rattle.std.proofs.lemmas.Bool.{cases_lt}
 use Rattle.sled_codec.specs.Kinds.{kind_of}
 use Rattle.sled_codec.specs.Places.{part}
 use Rattle.sled_store.specs.Device.{LogState, Placement}
-use Rattle.sled_store.specs.Readers.{ReadsTo, Reads, at_start, reads_past}
-use Rattle.sled_store.specs.Readers.{BeginsAt}
+use Rattle.sled_store.specs.Readers.{ReadsTo, Reads, at_start, reads_past, BeginsAt}
 use Rattle.sled_oracle.specs.OwnParts.{FindsRead, FindsRecord, IsCap, IsOwnRecord, AreOwnFrom}
 use Rattle.sled_store.proofs.Own.NoRecord.{kind_is}
 use Rattle.sled_store.proofs.Own.ReachedLemmas.{same_len, same_record}

@@ -5,8 +5,7 @@ use Rattle.sled_codec.specs.declared.serialization.message.MessageKind.TheVarian
 use Rattle.sled_codec.specs.Places.{part}
 use Rattle.sled_codec.specs.Record.{IsRecord}
 use Rattle.sled_store.specs.Foreign.{IsReached, at_first, behind}
-use Rattle.sled_store.specs.Readers.{BeginsAt}
-use Rattle.sled_store.specs.Readers.{ReadsTo, Reads, at_start, reads_past}
+use Rattle.sled_store.specs.Readers.{BeginsAt, ReadsTo, Reads, at_start, reads_past}
 use Rattle.sled_store.proofs.Own.ReachedLemmas.{begins, same_len}
 
 module _ (sum : List ℕ → ℕ) (size number : ℕ) where
