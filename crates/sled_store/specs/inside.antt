@@ -6,6 +6,7 @@ pub mod Memory
 pub mod MemoryNames
 pub mod MemoryStops
 pub mod Noted
+pub mod Outdated
 pub mod OwnParts
 pub mod Script
 pub mod SegmentStates

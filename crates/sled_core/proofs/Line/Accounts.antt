@@ -7,10 +7,11 @@ use Rattle.std.proofs.lemmas.List.Elements.{filter-append}
 use Rattle.sled_codec.specs.History.{AddsMessage, ChangesPage, History, Message, begins_page}
 use Rattle.sled_codec.specs.Snapshots.{stable_place}
 use Rattle.sled_store.specs.Marks.{Completes, IsFormerState, IsNewPlace, info_of}
-use Rattle.sled_store.specs.Outdated.{AreInActive, AreOutdated, IsInActive, NamesNoOutdated, NoneShares}
+use Rattle.sled_store.specs.Outdated.{AreOutdated, NoneShares}
 use Rattle.sled_store.specs.SegmentStates.{Machine, MayMark, SlotState, handed_out, linked, replaced, slot_at}
 use Rattle.sled_store.specs.Tracked.{IsNoEntry, IsTracked}
 use Rattle.sled_store.specs.declared.segment.slot.CacheInfo.{CacheInfo}
+use Rattle.sled_store.specs.inside.Outdated.{AreInActive, IsInActive, NamesNoOutdated}
 use Rattle.sled_store.proofs.Histories.Ascending.{Ascends, filter_ascends, from_filter, in_first, in_rest, later_above}
 use Rattle.sled_store.proofs.Histories.TableParts.{earlier_below, split_at}
 use Rattle.sled_store.proofs.Marks.AccountSteps.{handed_out_account, linked_account, replaced_account, same_account}

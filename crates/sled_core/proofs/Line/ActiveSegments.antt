@@ -10,8 +10,8 @@ use Rattle.sled_codec.specs.Pointers.{lid_of}
 use Rattle.sled_codec.specs.Snapshots.{SnapshotModel, stable_place}
 use Rattle.sled_store.specs.Device.{State}
 use Rattle.sled_store.specs.Marks.{slot_with}
-use Rattle.sled_store.specs.Outdated.{IsInActive}
 use Rattle.sled_store.specs.SegmentStates.{Machine, is_active, slot_at}
+use Rattle.sled_store.specs.inside.Outdated.{IsInActive}
 use Rattle.sled_store.proofs.Names.OneBegin.{one_begin}
 use Rattle.sled_core.specs.declared.iobuf.Reserved.{Reserved}
 use Rattle.sled_core.specs.Begun.{SegmentView}

@@ -14,7 +14,7 @@ use Rattle.sled_core.specs.declared.iterator.scan.ScannedRecord.{ScannedRecord}
 use Rattle.sled_core.specs.declared.iterator.scan.ScanEnd.{ScanEnd}
 use Rattle.sled_core.specs.declared.iterator.scan.ScanEnd.TheVariants.{Full, Capped, Broken}
 use Rattle.sled_core.specs.Reading.{StandsAt}
-use Rattle.sled_core.specs.inside.Hides.{IsReading}
+use Rattle.sled_core.specs.inside.Hides.{IsTrueReading}
 use Rattle.sled_core.specs.inside.Recoverable.{StandsInline, IsReachedIn, IsReadOn, IsSegmentOf}
 use Rattle.sled_core.specs.inside.Scan.{IsFoundSegment}
 use Rattle.sled_core.specs.Scan.{IsMet, IsPath, IsEnd, EndsThere, IsScan}
@@ -184,7 +184,7 @@ module _ (sum : List ℕ → ℕ) (size : ℕ) (Used : ℕ → Type 0) (old left
         let had = known t there in
         scan_kept least t.segment ((is.numbers.found t.segment).0 had.0) used t.met t.stop t.why had.1
 
-    reading_of : (t : Scanned) → Contains is.scanned t → Used (t.segment.slot / size) → IsReading sum size left H t.segment
+    reading_of : (t : Scanned) → Contains is.scanned t → Used (t.segment.slot / size) → IsTrueReading sum size left H t.segment
     unfolding IsScan
     reading_of t there used =
         let had = known t there in
@@ -200,10 +200,10 @@ module _ (sum : List ℕ → ℕ) (size : ℕ) (Used : ℕ → Type 0) (old left
           caps = is.caps t there;
         }
 
-    each : (s : Segment) → Contains ordering s → IsReading sum size left H s
+    each : (s : Segment) → Contains ordering s → IsTrueReading sum size left H s
     each s there =
         let t = scan_there sum size old is.ordering is.scanned is.reads s (was s there) in
-        subst (IsReading sum size left H) t.2 (reading_of t.0 t.1 (subst (λ (x : Segment). Used (x.slot / size)) (sym t.2) (listed s there)))
+        subst (IsTrueReading sum size left H) t.2 (reading_of t.0 t.1 (subst (λ (x : Segment). Used (x.slot / size)) (sym t.2) (listed s there)))
 
     as_far : (t : Scanned) → Contains is.scanned t → is.from / size * size ≤ t.segment.place → IsAsFar sum size left ordering t
     as_far t there low =

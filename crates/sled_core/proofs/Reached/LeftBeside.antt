@@ -25,7 +25,7 @@ use Rattle.sled_core.proofs.Torn.WrittenBeside as other_slots
 use Rattle.sled_core.specs.Tail.{Scanned, IsScanned}
 use Rattle.sled_core.proofs.Tail.Multiples.{apart}
 use Rattle.sled_core.proofs.Tail.Moved.{slot_index, message_moved, of_left}
-use Rattle.sled_core.specs.inside.Hides.{IsReading}
+use Rattle.sled_core.specs.inside.Hides.{IsTrueReading}
 
 -- In other slots than this one a file has the segments that another one has, and all is met in them as there.
 pub record IsSameBeside (sum : List ℕ → ℕ) (size : ℕ) (old left : List ℕ) (slot : ℕ) : Type 0 where
@@ -164,7 +164,7 @@ module _ (sum : List ℕ → ℕ) (size : ℕ) (some : 256 ≤ size) (old : List
   -- The reading of a segment in another slot is that of before.
   module _ (same : IsSameBeside sum size old left (slot * size)) (least : ℕ) (t : Scanned) (found : IsFoundSegment sum size old least t.segment) (other : t.segment.slot ≢ slot * size) (scan : IsScanned sum size old t) where
     pub reading_beside : (H : History) → ((x : ScannedRecord) → Contains t.met x → IsOfHistory sum size old H x)
-        → (NothingBehind size H t.segment.place t.stop t.why) → IsReading sum size left H t.segment
+        → (NothingBehind size H t.segment.place t.stop t.why) → IsTrueReading sum size left H t.segment
     unfolding IsScan
     reading_beside H truth caps =
         let lies : (t.segment.slot + min t.stop size ≤ at) ⊎ (at + length asked ≤ t.segment.slot) = elim (beside t.segment.slot found.slot other) [ inl before ↦ inl (omega (arith, before)) | inr past ↦ inr past ] in

@@ -5,7 +5,7 @@ use Rattle.sled_codec.specs.History.{Message, History, table}
 use Rattle.sled_codec.specs.Places.{part}
 use Rattle.sled_codec.specs.Snapshots.{SnapshotModel}
 use Rattle.sled_core.specs.declared.iterator.Segment.{Segment}
-use Rattle.sled_core.specs.inside.Hides.{IsReading}
+use Rattle.sled_core.specs.inside.Hides.{IsTrueReading}
 use Rattle.sled_core.specs.inside.Recoverable.{IsSegmentOf, StandsInline}
 use Rattle.sled_core.specs.inside.Scan.{IsFoundSegment}
 use Rattle.sled_core.specs.Scan.{IsScan}
@@ -46,7 +46,7 @@ module _ (sum : List ℕ → ℕ) (size : ℕ) (log more : List ℕ) (H : Histor
     placed = is.numbers.placed;
   }
 
-  reading_of : (t : Scanned) → Contains is.scanned t → IsReading sum size left H t.segment
+  reading_of : (t : Scanned) → Contains is.scanned t → IsTrueReading sum size left H t.segment
   unfolding IsScan
   reading_of t there =
       let had = known t there in
@@ -61,8 +61,8 @@ module _ (sum : List ℕ → ℕ) (size : ℕ) (log more : List ℕ) (H : Histor
         caps = is.caps t there;
       }
 
-  each : (s : Segment) → Contains is.ordering s → IsReading sum size left H s
-  each s there = let t = scan_there sum size log is.ordering is.scanned is.reads s there in subst (IsReading sum size left H) t.2 (reading_of t.0 t.1)
+  each : (s : Segment) → Contains is.ordering s → IsTrueReading sum size left H s
+  each s there = let t = scan_there sum size log is.ordering is.scanned is.reads s there in subst (IsTrueReading sum size left H) t.2 (reading_of t.0 t.1)
 
   as_far : (t : Scanned) → Contains is.scanned t → IsAsFar sum size left is.ordering t
   as_far t there = record { scan = t; segment = refl; there = (known t there).0; read = again t there; far = omega arith; leads = λ goes. goes }

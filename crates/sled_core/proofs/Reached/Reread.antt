@@ -7,7 +7,7 @@ use Rattle.sled_store.proofs.Segments.Elements.{in_first, in_rest}
 use Rattle.sled_core.specs.declared.iterator.Segment.{Segment}
 use Rattle.sled_core.specs.declared.iterator.scan.ScannedRecord.{ScannedRecord}
 use Rattle.sled_core.specs.declared.iterator.scan.ScanEnd.TheVariants.{Broken}
-use Rattle.sled_core.specs.inside.Hides.{IsReading}
+use Rattle.sled_core.specs.inside.Hides.{IsTrueReading}
 use Rattle.sled_core.specs.inside.Recoverable.{NothingBehind, StandsInline, IsOfHistory, IsSegmentOf, IsMarkOf, IsMarkBelow}
 use Rattle.sled_core.specs.Tail.{Scanned, IsScanned}
 use Rattle.sled_core.specs.inside.Tail.{IsOrdering, AreScanned, least_place}
@@ -27,16 +27,16 @@ pub record IsAsFar (sum : List ℕ → ℕ) (size : ℕ) (log : List ℕ) (order
 
 module _ (sum : List ℕ → ℕ) (size : ℕ) (log : List ℕ) (H : History) where
   -- the readings of segments, in the order of these
-  pub scans_of : (ss : List Segment) → ((s : Segment) → Contains ss s → IsReading sum size log H s) → (xs : List Scanned) × AreScanned sum size log ss xs
+  pub scans_of : (ss : List Segment) → ((s : Segment) → Contains ss s → IsTrueReading sum size log H s) → (xs : List Scanned) × AreScanned sum size log ss xs
   scans_of [] each = ([], tt)
   scans_of (s ∷ ss) each =
       let one = each s (in_first s ss) in
       let rest = scans_of ss (λ t there. each t (in_rest s t ss there)) in
       (one.scan ∷ rest.0, (one.segment, one.read, rest.1))
 
-  module _ (ss : List Segment) (each : (s : Segment) → Contains ss s → IsReading sum size log H s) (xs : List Scanned) (are : AreScanned sum size log ss xs) where
+  module _ (ss : List Segment) (each : (s : Segment) → Contains ss s → IsTrueReading sum size log H s) (xs : List Scanned) (are : AreScanned sum size log ss xs) where
     -- each of them is the one reading of its segment
-    the_reading : (t : Scanned) → Contains xs t → (r : IsReading sum size log H t.segment) × (r.scan ≡ t)
+    the_reading : (t : Scanned) → Contains xs t → (r : IsTrueReading sum size log H t.segment) × (r.scan ≡ t)
     the_reading t there =
         let known = segment_there sum size log ss xs are t there in
         let r = each t.segment known.0 in
@@ -51,7 +51,7 @@ module _ (sum : List ℕ → ℕ) (size : ℕ) (log : List ℕ) (H : History) wh
         subst (λ (u : Scanned). NothingBehind size H u.segment.place u.stop u.why) r.1 r.0.caps
 
 module _ (sum : List ℕ → ℕ) (size : ℕ) (old log : List ℕ) (H : History) (A : ℕ) (first : SnapshotModel) (reach : ℕ) (is : StandsTo sum size old H A first reach)
-    (ordering : List Segment) (numbers : IsOrdering sum size log (least_place size first) ordering) (each : (s : Segment) → Contains ordering s → IsReading sum size log H s)
+    (ordering : List Segment) (numbers : IsOrdering sum size log (least_place size first) ordering) (each : (s : Segment) → Contains ordering s → IsTrueReading sum size log H s)
     (marks : (s : Segment) → Contains ordering s → IsMarkOf H s) where
   abbrev readings : (xs : List Scanned) × AreScanned sum size log ordering xs
   readings = scans_of sum size log H ordering each

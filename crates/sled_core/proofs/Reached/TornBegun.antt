@@ -13,7 +13,7 @@ use Rattle.sled_store.specs.Foreign.{NoForeignLog}
 use Rattle.sled_core.specs.declared.iterator.Segment.{Segment}
 use Rattle.sled_core.specs.declared.iterator.scan.ScannedRecord.{ScannedRecord}
 use Rattle.sled_core.specs.declared.iterator.scan.ScanEnd.{ScanEnd}
-use Rattle.sled_core.specs.inside.Hides.{IsReading}
+use Rattle.sled_core.specs.inside.Hides.{IsTrueReading}
 use Rattle.sled_core.specs.inside.Recoverable.{NothingBehind, StandsInline, IsOfHistory, IsReachedIn, IsReadOn, IsSegmentOf, IsMarkOf, IsMarkBelow}
 use Rattle.sled_core.specs.Recoverable.{NoHeaderOfZeros}
 use Rattle.sled_core.specs.inside.Scan.{IsFoundSegment, IsMisplaced}
@@ -64,13 +64,13 @@ module _ (sum : List ℕ → ℕ) (size : ℕ) (some : 256 ≤ size) (old : List
   pub still_read : (t : Scanned) → Contains is.scanned t → IsScanned sum size left t
   still_read t there = let had = was_found t there in same.scans least t had.0 (other_slot least t.segment had.0) had.1
 
-  reading_of : (t : Scanned) → Contains is.scanned t → IsReading sum size left H t.segment
+  reading_of : (t : Scanned) → Contains is.scanned t → IsTrueReading sum size left H t.segment
   reading_of t there =
       let had = was_found t there in
       reading_beside sum size some old slot from asked now left inside no_more leaves same least t had.0 (other_slot least t.segment had.0) had.1 H (λ x met. is.truth t x there met) (is.caps t there)
 
-  each : (s : Segment) → Contains is.ordering s → IsReading sum size left H s
-  each s there = let t = scan_there sum size old is.ordering is.scanned is.reads s there in subst (IsReading sum size left H) t.2 (reading_of t.0 t.1)
+  each : (s : Segment) → Contains is.ordering s → IsTrueReading sum size left H s
+  each s there = let t = scan_there sum size old is.ordering is.scanned is.reads s there in subst (IsTrueReading sum size left H) t.2 (reading_of t.0 t.1)
 
   as_far : (ordering : List Segment) → ((s : Segment) → Contains is.ordering s → Contains ordering s) → (t : Scanned) → Contains is.scanned t → IsAsFar sum size left ordering t
   as_far ordering stay t there = record {
@@ -133,7 +133,7 @@ module _ (sum : List ℕ → ℕ) (size : ℕ) (some : 256 ≤ size) (old : List
     numbers : IsOrdering sum size left least ordering
     numbers = ordering_with sum size old left least is.ordering is.numbers seg found (all_found least) before not_misplaced alone
 
-    reading : IsReading sum size left H seg
+    reading : IsTrueReading sum size left H seg
     unfolding IsScan
     reading = record {
       scan = record { segment = seg; met = take w.count more; stop = w.end; why = w.ending };
@@ -145,7 +145,7 @@ module _ (sum : List ℕ → ℕ) (size : ℕ) (some : 256 ≤ size) (old : List
 
     pub stands_with : StandsFrom sum size left H A first reach is.from
     stands_with = stands_still sum size old left H A first reach is ordering numbers
-        (λ s there. elim (put_cases seg is.ordering s there) [ inl one ↦ subst (IsReading sum size left H) one reading | inr had ↦ each s had ])
+        (λ s there. elim (put_cases seg is.ordering s there) [ inl one ↦ subst (IsTrueReading sum size left H) one reading | inr had ↦ each s had ])
         (λ s there. elim (put_cases seg is.ordering s there) [ inl one ↦ subst (IsMarkOf H) one its_mark | inr had ↦ is.marks s had ])
         (λ t there low. as_far ordering (others_there seg is.ordering) t there) some
         (λ s there. elim (put_cases seg is.ordering s there) [ inl one ↦ subst (λ (x : Segment). IsMarkBelow size H A x.mark) one mark_below | inr had ↦ is.marks_below s had ])

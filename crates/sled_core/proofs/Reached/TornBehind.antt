@@ -15,7 +15,7 @@ use Rattle.sled_core.specs.declared.iterator.Segment.{Segment}
 use Rattle.sled_core.specs.declared.iterator.scan.ScannedRecord.{ScannedRecord}
 use Rattle.sled_core.specs.declared.iterator.scan.ScanEnd.{ScanEnd}
 use Rattle.sled_core.specs.declared.iterator.scan.ScanEnd.TheVariants.{Capped, Broken}
-use Rattle.sled_core.specs.inside.Hides.{IsReading}
+use Rattle.sled_core.specs.inside.Hides.{IsTrueReading}
 use Rattle.sled_core.specs.inside.Recoverable.{NoBatchEnds, NothingBehind, NoMessageBegins, NoBatchBegins, IsOfHistory, IsReachedIn, IsReadOn}
 use Rattle.sled_core.specs.inside.Scan.{IsFoundSegment}
 use Rattle.sled_core.specs.Scan.{IsPath, IsEnd, IsScan}
@@ -166,7 +166,7 @@ module _ (sum : List ℕ → ℕ) (size : ℕ) (some : 256 ≤ size) (old : List
       | inr own ↦ truth_alike sum size new left H (slot * size) place e (take w.count more) w.end w.alike w.path (λ u at_u. truth u (in_taken w.count more u at_u)) x own
     ]
 
-    y_reading : IsReading sum size left H z.segment
+    y_reading : IsTrueReading sum size left H z.segment
     y_reading = record { scan = y; segment = refl; read = y_scan; truth = y_truth; caps = caps_met sum size new left H (slot * size) place e more stop why w caps }
 
     -- What was read to its end still is: a segment in another slot, or that of the write, which leads on where it did.
@@ -182,16 +182,16 @@ module _ (sum : List ℕ → ℕ) (size : ℕ) (some : 256 ≤ size) (old : List
       | inr other ↦ read_on_kept sum size old left s.slot found.slot (bytes_beside sum size some old slot from asked now left inside no_more leaves s.slot found.slot other) H s refl on
     ]
 
-    reading_of : (t : Scanned) → Contains is.scanned t → IsReading sum size left H t.segment
+    reading_of : (t : Scanned) → Contains is.scanned t → IsTrueReading sum size left H t.segment
     reading_of t there = elim (which t there) [
-      | inl one ↦ subst (λ (u : Scanned). IsReading sum size left H u.segment) (sym one) y_reading
+      | inl one ↦ subst (λ (u : Scanned). IsTrueReading sum size left H u.segment) (sym one) y_reading
       | inr other ↦ (
           let had = segment_there sum size old is.ordering is.scanned is.reads t there in
           reading_beside sum size some old slot from asked now left inside no_more leaves same least t ((is.numbers.found t.segment).0 had.0) other had.1 H (λ x met. is.truth t x there met) (is.caps t there))
     ]
 
-    each : (s : Segment) → Contains is.ordering s → IsReading sum size left H s
-    each s there = let t = scan_there sum size old is.ordering is.scanned is.reads s there in subst (IsReading sum size left H) t.2 (reading_of t.0 t.1)
+    each : (s : Segment) → Contains is.ordering s → IsTrueReading sum size left H s
+    each s there = let t = scan_there sum size old is.ordering is.scanned is.reads s there in subst (IsTrueReading sum size left H) t.2 (reading_of t.0 t.1)
 
     as_far : (t : Scanned) → Contains is.scanned t → IsAsFar sum size left is.ordering t
     as_far t there = elim (which t there) [

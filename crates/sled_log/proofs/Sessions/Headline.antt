@@ -34,7 +34,7 @@ use Rattle.sled_log.specs.ReadSteps.{FailsAt, ReadStep, ReadsAll, read_around, r
 use Rattle.sled_log.specs.RunStates.{DeviceView, HasAll, LogView, RunState, body_in, length_of, made_ready, message_at, opens, page_now, places_without, rewriting_at, sealed_around, spans_without, start_around, start_below, target_in, tickets_in, tickets_of, with_log, stable_of}
 use Rattle.sled_log.specs.Runs.{CrashStep, HaltStep, IsOwn, IsStep, Runs, StepBy, StopStep, told}
 use Rattle.sled_log.specs.RunPhases.{IsAt, SomeStands, StandsAt, StandsAtPhase, Unstored, seen, stands, traces}
-use Rattle.sled_log.specs.WriteSteps.{FailsTo, FlushStep, HasWrittenTo, KeepsFailing, StableStep, WriteStep, flushed, left_from, stable_from, target_by}
+use Rattle.sled_log.specs.WriteSteps.{FailsTo, FlushStep, HasWrittenTo, KeepsFailing, StableStep, WriteStep, view_flushed, left_from, stable_from, target_by}
 use Rattle.sled_log.specs.TicketSteps.{AbortStep, CompleteStep, EndStep, HasReserved, RefusedStep, ReserveStep, RewriteStep, batch_of, blank_manifest, giving_up, keeping, noting, spent}
 use Rattle.sled_log.proofs.Sessions.Reading.{sized}
 use Rattle.sled_log.proofs.Sessions.RunLemmas.{start_cause_of}
@@ -214,7 +214,7 @@ module _ (sum : List ℕ → ℕ) (size : ℕ) (device : DeviceView) (H : Histor
         → Acknowledges a Meant b × Led a new b
     written Meant to n new b low has =
         let end : ℕ = end_below (stable_from to l) H in
-        let here : Acknowledges a Meant (record a { device = new; acknowledged = max A end; log = Some (flushed l (left_from to l) (start_below to l) None) }) = (
+        let here : Acknowledges a Meant (record a { device = new; acknowledged = max A end; log = Some (view_flushed l (left_from to l) (start_below to l) None) }) = (
           omega arith,
           λ m there meant. (let le = message_acknowledged (stable_from to l) H m there (low m there meant) in omega (arith, le)),
           refl,
@@ -252,7 +252,7 @@ module _ (sum : List ℕ → ℕ) (size : ℕ) (device : DeviceView) (H : Histor
 
     around : (o : LogView) (at : ℕ) → (read_around o at).tickets ≡ o.tickets
     around o at = by (nat_lt at o.synced) where
-      by : (x : Bool) → (if x then o else flushed o (spans_without at (sealed_around at o)) (start_around at o) o.fault).tickets ≡ o.tickets
+      by : (x : Bool) → (if x then o else view_flushed o (spans_without at (sealed_around at o)) (start_around at o) o.fault).tickets ≡ o.tickets
       by true = refl
       by false = refl
 

@@ -56,7 +56,7 @@ use Rattle.sled_log.specs.Readings.{IsOfPage, IsRead, KeepsOpen, ReadsEntries, R
 use Rattle.sled_log.specs.RunPhases.{IsOpenAt, Unstored, seen, seen_log, stands, traces, HasHeads}
 use Rattle.sled_log.specs.RunStates.{DeviceView, EndsInReach, LogView, RunState, current_span, first_waiting, held, is_present, next_start, opens, page_now, sealed_around, spans_without, start_around, top, with_log, MarkAt, heads_at}
 use Rattle.sled_log.specs.ReadSteps.{FailsAt, ReadStep, ReadsAll, ReadsAt, held_around_place, holding_read, read_around, read_at, reading_around}
-use Rattle.sled_log.specs.WriteSteps.{IfHeld, IsWhy, ShowsBuffers, WritesSome, flushed, headed, fillings_seen}
+use Rattle.sled_log.specs.WriteSteps.{IfHeld, IsWhy, ShowsBuffers, WritesSome, view_flushed, headed, fillings_seen}
 
 -- Buffers that have a place.
 
@@ -223,7 +223,7 @@ module _ {D C : Type 0} (view : D → DeviceView) (sum : List ℕ → ℕ) (old 
   new_view = view (device_of new)
 
   -- these buffers are left
-  leaves : (waiting : List Span) (start : BufferStart) (fault : Option IoError) → spans (waiting_of new) ≡ waiting → start_of new ≡ start → fault_of new ≡ fault → after ≡ flushed before waiting start fault
+  leaves : (waiting : List Span) (start : BufferStart) (fault : Option IoError) → spans (waiting_of new) ≡ waiting → start_of new ≡ start → fault_of new ≡ fault → after ≡ view_flushed before waiting start fault
   leaves waiting start fault left first kept = λ i. record {
     position = position.position i;
     synced = (first_seen new ∙ λ j. first_waiting (left j) (first j)) i;
@@ -292,7 +292,7 @@ module _ {D C : Type 0} (view : D → DeviceView) (sum : List ℕ → ℕ) (old 
         held = if_held LogRead e _ _ (λ all. all ∙ ap (λ (es : List Event). after_all es old_view.trace) settling_seen) done;
       } in
       let over_it : LogView → RunState = λ x. with_log a new_view (Some x) in
-      let leaves_sealed : LeavesSealed sum at old new → with_log a new_view (Some after) ≡ with_log a new_view (Some (flushed before (sealed_around at before) (start_around at before) (fault_of new))) =
+      let leaves_sealed : LeavesSealed sum at old new → with_log a new_view (Some after) ≡ with_log a new_view (Some (view_flushed before (sealed_around at before) (start_around at before) (fault_of new))) =
       λ sealed. ap over_it (leaves (sealed_around at before) (start_around at before) (fault_of new) (ap spans sealed.0 ∙ seen_so.are) (sealed.1 ∙ start_seen old sum at begun k of.read_below) refl) in
       record {
         sound = none;
@@ -344,7 +344,7 @@ module _ {D C : Type 0} (view : D → DeviceView) (sum : List ℕ → ℕ) (old 
 
   around : {T : Type 0} (r : T) → WritesAround sum (Ok r) (pos at) old new → fault_of new ≡ fault_of old → after ≡ read_around before at
   around r writes kept = by (nat_lt at (synced_end old)) refl where
-    by : (o : Bool) → nat_lt at (synced_end old) ≡ o → after ≡ (if o then before else flushed before (spans_without at (sealed_around at before)) (start_around at before) (fault_of old))
+    by : (o : Bool) → nat_lt at (synced_end old) ≡ o → after ≡ (if o then before else view_flushed before (spans_without at (sealed_around at before)) (start_around at before) (fault_of old))
     by true below =
         let low = writes.still (grind (arith, ints, nat_tests, below)) in
         leaves (spans (waiting_of old)) (start_of old) (fault_of old) (ap spans low.0) low.1 kept
@@ -421,7 +421,7 @@ first_there (m ∷ ms) present = (m, ms, refl)
 -- a read keeps what failure is kept
 fault_around : (l : LogView) (at : ℕ) → (read_around l at).fault ≡ l.fault
 fault_around l at = by (nat_lt at l.synced) where
-  by : (o : Bool) → (if o then l else flushed l (spans_without at (sealed_around at l)) (start_around at l) l.fault).fault ≡ l.fault
+  by : (o : Bool) → (if o then l else view_flushed l (spans_without at (sealed_around at l)) (start_around at l) l.fault).fault ≡ l.fault
   by true = refl
   by false = refl
 

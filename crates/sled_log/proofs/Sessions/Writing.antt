@@ -46,7 +46,7 @@ use Rattle.sled_log.specs.declared.session.opened.Opened.{Opened}
 use Rattle.sled_log.specs.declared.session.command.Refusal.{Refusal}
 use Rattle.sled_log.specs.Refusals.{when}
 use Rattle.sled_log.specs.RunPhases.{HasHeads, IsOpenAt, IsTicketFor, Unstored, seen_log, seen}
-use Rattle.sled_log.specs.WriteSteps.{FailsTo, HasWrittenTo, IfHeld, IsWhy, KeepsFailing, ShowsBuffers, flushed, holding, left_from, stable_from, synced_from, writes_free, written_below, filled_by, fillings_seen, headed}
+use Rattle.sled_log.specs.WriteSteps.{FailsTo, HasWrittenTo, IfHeld, IsWhy, KeepsFailing, ShowsBuffers, view_flushed, holding, left_from, stable_from, synced_from, writes_free, written_below, filled_by, fillings_seen, headed}
 use Rattle.sled_log.proofs.Sessions.SafeItems.{safe_on}
 use Rattle.sled_log.specs.RunStates.{DeviceView, EndsInReach, LogView, RunState, count_unheld, current_span, first_waiting, held, held_among, next_start, opens, pending_in_view, sealed_below, spans_below, spans_from, start_below, with_log, without_unheld, MarkAt, heads_at}
 
@@ -317,7 +317,7 @@ module _ {D C : Type 0} (log : Log D C) (sum : List ℕ → ℕ) (begun : ℕ) (
     after reached = record { device = now; history = H; acknowledged = reached; floor = f; log = Some (seen_log new begun tickets given_up (heads_at l (start_of new))) }
 
     pub leaves : (waiting : List Span) (start : BufferStart) (fault : Option IoError) → spans (waiting_of new) ≡ waiting → start_of new ≡ start → fault_of new ≡ fault
-        → after A ≡ with_log before now (Some (flushed l waiting start fault))
+        → after A ≡ with_log before now (Some (view_flushed l waiting start fault))
     leaves waiting start fault left from kept =
         let synced : synced_end new ≡ first_waiting waiting start = first_seen new ∙ (λ i. first_waiting (left i) (from i)) in
         let noted : noted_in new ≡ not_whole (first_waiting waiting start) (noted_in log) = position.noted ∙ ap (λ n. not_whole n (noted_in log)) synced in
