@@ -69,7 +69,8 @@ module _ (sum : List ℕ → ℕ) (size : ℕ) (device : State) (fault : Option 
         } where
           here : slot_with size x ≡ slot.number
           here =
-              ap (λ (y : Message). lid_of y.pointer / size) is ∙ ap (λ n. n / size) (lid_as r.blob (v.parts.site.slot + r.from) ∙ ap (λ n. n + r.from) slot.lies)
+              ap (λ (y : Message). lid_of y.pointer / size) is
+              ∙ ap (λ n. n / size) (lid_as r.blob (v.parts.site.slot + r.from) ∙ ap (λ n. n + r.from) slot.lies)
               ∙ div-mul-add slot.number size r.from inside
 
           place : x.place ≡ v.parts.site.place + r.from

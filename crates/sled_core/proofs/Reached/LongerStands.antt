@@ -20,7 +20,8 @@ use Rattle.sled_core.proofs.Reserve.Ranges.{part-append}
 use Rattle.sled_core.proofs.Tail.OneTail.{scan_there, segment_there}
 use Rattle.sled_core.proofs.Torn.WrittenBeside.{found_moved}
 
-module _ (sum : List ℕ → ℕ) (size : ℕ) (log more : List ℕ) (H : History) (A : ℕ) (first : SnapshotModel) (reach : ℕ) (is : StandsTo sum size log H A first reach)
+module _ (sum : List ℕ → ℕ) (size : ℕ) (log more : List ℕ) (H : History) (A : ℕ) (first : SnapshotModel) (reach : ℕ)
+    (is : StandsTo sum size log H A first reach)
     (again : (t : Scanned) → Contains is.scanned t → IsScanned sum size (log ++ more) t)
     (old_one : (x : Segment) → IsFoundSegment sum size (log ++ more) (least_place size first) x → IsFoundSegment sum size log (least_place size first) x) where
   abbrev left : List ℕ
@@ -67,7 +68,8 @@ module _ (sum : List ℕ → ℕ) (size : ℕ) (log more : List ℕ) (H : Histor
   as_far : (t : Scanned) → Contains is.scanned t → IsAsFar sum size left is.ordering t
   as_far t there = record { scan = t; segment = refl; there = (known t there).0; read = again t there; far = omega arith; leads = λ goes. goes }
 
-  needed : (cut : ℕ) → is.from ≤ cut → cut ≤ reach → (page : ℕ) (m : Message) → Contains (table H cut page) m → IsSegmentOf sum size left H cut m × StandsInline sum size left m m.pointer
+  needed : (cut : ℕ) → is.from ≤ cut → cut ≤ reach → (page : ℕ) (m : Message) → Contains (table H cut page) m
+      → IsSegmentOf sum size left H cut m × StandsInline sum size left m m.pointer
   needed cut low high page m entry =
       let had = is.needed cut low high page m entry in
       let of = had.0 in
@@ -85,4 +87,5 @@ module _ (sum : List ℕ → ℕ) (size : ℕ) (log more : List ℕ) (H : Histor
       )
 
   pub longer_stands : 256 ≤ size → StandsFrom sum size left H A first reach is.from
-  longer_stands some = stands_still sum size log left H A first reach is is.ordering numbers each is.marks (λ t there low. as_far t there) some is.marks_below needed
+  longer_stands some =
+      stands_still sum size log left H A first reach is is.ordering numbers each is.marks (λ t there low. as_far t there) some is.marks_below needed
