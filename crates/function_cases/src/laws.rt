@@ -1,5 +1,6 @@
 //! The laws of all crates, each called at one type.
 
+use ids::laws as ids_laws;
 use sled_codec::serialization::laws as codec_laws;
 use sled_core::laws as core_laws;
 use sled_log::device::{MemDevice, PlaceSum};
@@ -20,9 +21,12 @@ pub fn cite_all() {
     codec_laws::written_is_record::<PlaceSum>();
     codec_laws::one_record::<PlaceSum>();
     codec_laws::lengths();
+    codec_laws::snapshot_again();
+    codec_laws::meta_again();
     laws_of_logs();
     laws_of_running_logs();
     laws_of_segments();
+    laws_of_identifiers();
 }
 
 // The laws of a log that runs, each called at one type.
@@ -43,6 +47,7 @@ fn laws_of_running_logs() {
     core_laws::the_first_buffer_waits_behind_what_is_synced::<MemDevice, PlaceSum>();
     core_laws::what_is_not_synced_has_its_record::<MemDevice, PlaceSum>();
     core_laws::what_a_log_reads_is_its_own::<MemDevice, PlaceSum>();
+    core_laws::a_mark_is_that_of_its_header();
 }
 
 // The laws of histories, devices and logs, each called at one type.
@@ -99,4 +104,17 @@ fn laws_of_segments() {
     segment_laws::frees_wait_for_the_latest_replacement();
     segment_laws::slots_hold_their_entries();
     segment_laws::marks_free_slots();
+    segment_laws::accounts_go_on();
+    segment_laws::accounts_have_what_tables_need();
+    segment_laws::outdated_blobs_stay_outdated();
+    segment_laws::outdated_blobs_are_not_needed();
+    segment_laws::marks_change_no_segment();
+}
+
+// The laws of devices that give identifiers, each called at one type.
+fn laws_of_identifiers() {
+    ids_laws::an_empty_device_gives_from_the_beginning::<PlaceSum>();
+    ids_laws::a_crash_gives_no_identifier_again::<PlaceSum>();
+    ids_laws::a_generator_gives_from_its_bound::<MemDevice, PlaceSum>();
+    ids_laws::less_is_given_from::<PlaceSum>();
 }

@@ -12,6 +12,7 @@ pub mod FrontWritten
 pub mod Gone
 pub mod GoneAlone
 pub mod KeptHides
+pub mod Known
 pub mod LeftOwn
 pub mod LeftRecovers
 pub mod NoHarm

@@ -9,6 +9,7 @@ pub mod CanceledLemmas
 pub mod CompletedLemmas
 pub mod Facts
 pub mod Filled
+pub mod FitsAnew
 pub mod FitsBatches
 pub mod HoldsLemmas
 pub mod LastEnds

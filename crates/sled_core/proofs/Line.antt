@@ -15,6 +15,7 @@ pub mod Buffers
 pub mod CameFar
 pub mod Canceled
 pub mod Closes
+pub mod Completes
 pub mod Current
 pub mod DeviceChanged
 pub mod EndedIn

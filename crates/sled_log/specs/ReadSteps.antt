@@ -12,7 +12,7 @@ use Rattle.sled_log.specs.declared.session.command.Reply.{Reply}
 use Rattle.sled_log.specs.declared.session.command.Reply.TheVariants as reply
 use Rattle.sled_log.specs.RunStates.{DeviceView, EndsInReach, LogView, RunState, held, is_present, opens, sealed_around, spans_place, spans_without}
 use Rattle.sled_log.specs.RunStates.{start_around, with_log}
-use Rattle.sled_log.specs.WriteSteps.{Fails, IfHeld, KeepsFailing, LeavesLog, Writes, WritesSome, flushed}
+use Rattle.sled_log.specs.WriteSteps.{Fails, IfHeld, KeepsFailing, LeavesLog, Writes, WritesSome, view_flushed}
 
 -- the place that a read of a message brings to the device: its own, or that of its blob
 abbrev pub read_at : Message → ℕ
@@ -20,7 +20,7 @@ read_at m = unsigned_abs (place_read (pos m.place) m.pointer)
 
 -- the log once the buffer of a place is on the device, where the place wasn't stable; the calls that bring it there; and what holds that buffer up
 abbrev pub read_around : LogView → ℕ → LogView
-read_around l at = if nat_lt at l.synced then l else flushed l (spans_without at (sealed_around at l)) (start_around at l) l.fault
+read_around l at = if nat_lt at l.synced then l else view_flushed l (spans_without at (sealed_around at l)) (start_around at l) l.fault
 
 abbrev pub reading_around : LogView → ℕ → List BufferAt → List Event
 reading_around l at bs = if nat_lt at l.synced then [] else write_around at bs

@@ -96,8 +96,8 @@ pub record WritesSome (sum : List ℕ → ℕ) (size : ℕ) (l : LogView) (ss : 
   pub held : IfHeld e (new.trace ≡ after_all (calls buffers) old.trace)
 
 -- the log with these buffers left, the current one from there on, and this failure kept: all before the first of them is on the device
-abbrev pub flushed : LogView → List Span → BufferStart → Option IoError → LogView
-flushed l waiting start fault =
+abbrev pub view_flushed : LogView → List Span → BufferStart → Option IoError → LogView
+view_flushed l waiting start fault =
     record l {
       synced = first_waiting waiting start;
       noted = not_whole (first_waiting waiting start) l.noted;
@@ -109,7 +109,7 @@ flushed l waiting start fault =
 
 -- the run goes on with that log
 abbrev pub LeavesLog : RunState → LogView → DeviceView → RunState → List Span → BufferStart → Option IoError → Type 0
-LeavesLog a l new b waiting start fault = b ≡ with_log a new (Some (flushed l waiting start fault))
+LeavesLog a l new b waiting start fault = b ≡ with_log a new (Some (view_flushed l waiting start fault))
 
 -- the calls that write buffers, one write and one sync for each, up to the first that is held up
 abbrev pub writes_free : List BufferAt → List Event
@@ -147,7 +147,7 @@ pub record HasWrittenTo (sum : List ℕ → ℕ) (size : ℕ) (a : RunState) (l 
   pub leads : b ≡ record a {
     device = new;
     acknowledged = max a.acknowledged (end_below (stable_from to l) a.history);
-    log = Some (flushed l (left_from to l) (start_below to l) None);
+    log = Some (view_flushed l (left_from to l) (start_below to l) None);
   }
 
 -- That failed: those that begin below the place are sealed, and so many at the front are written, but not all; or it wasn't held up, and none was sealed, nor

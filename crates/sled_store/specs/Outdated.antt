@@ -1,10 +1,9 @@
--- What the slots say of blobs, and of messages that aren't marked yet: a blob goes with a segment where each message that names it is replaced before the
--- segment ends, and an unmarked message lies in an active segment.
-use Rattle.std.specs.Prelude.{◌≡◌, ◌⊎◌, ◌+◌, ◌*◌, ◌/◌, ◌≤◌, ℕ, ℤ, true, List, Contains}
+-- What the slots say of blobs: one goes with a segment where each message that names it is replaced before the segment ends.
+use Rattle.std.specs.Prelude.{◌≡◌, ◌⊎◌, ◌+◌, ◌≤◌, ℕ, ℤ, true, List, Contains}
 use Rattle.sled_codec.specs.declared.result.DiskPtr.TheVariants.{Blob}
 use Rattle.sled_codec.specs.History.{Message, History, table}
 use Rattle.sled_store.specs.declared.segment.slot.CacheInfo.{CacheInfo}
-use Rattle.sled_store.specs.Marks.{IsPast, IsSuperseded, slot_with}
+use Rattle.sled_store.specs.Marks.{IsPast, IsSuperseded}
 use Rattle.sled_store.specs.SegmentStates.{SlotState, Machine, is_active, slot_at}
 
 -- a message has its item in the blob of this name
@@ -24,10 +23,6 @@ pub record IsOutdated (size : ℕ) (H : History) (s : SlotState) (blob : ℤ) : 
 abbrev pub AreOutdated : ℕ → History → Machine → Type 0
 AreOutdated size H m = (k : ℕ) (blob : ℤ) → Contains (slot_at m k).blobs blob → IsOutdated size H (slot_at m k) blob
 
--- no slot has a blob of this message among those that go
-abbrev pub NamesNoOutdated : Machine → Message → Type 0
-NamesNoOutdated m e = (k : ℕ) (blob : ℤ) → Contains (slot_at m k).blobs blob → NamesBlob e blob → ⊥
-
 -- an entry of the table of all messages names this blob
 pub record IsNamedNow (H : History) (blob : ℤ) : Type 0 where
   pub cut : ℕ
@@ -45,12 +40,3 @@ MayName H x = (blob : ℤ) → NamesBlob x blob → ((e : Message) → Contains 
 abbrev pub NoneShares : History → Message → List CacheInfo → Type 0
 NoneShares H x old = (o : CacheInfo) (lid : ℕ) (blob : ℤ) → Contains old o → o.pointer ≡ Blob lid blob → (NamesBlob x blob → ⊥)
     → (e : Message) → Contains H.messages e → NamesBlob e blob → (e.page ≡ x.page) × (e.place ≤ x.place)
-
--- the segment of a message is active, in its slot
-pub record IsInActive (size : ℕ) (m : Machine) (e : Message) : Type 0 where
-  pub active : is_active (slot_at m (slot_with size e)).state ≡ true
-  pub lsn : (slot_at m (slot_with size e)).lsn ≡ e.place / size * size
-
--- so it is with each of these messages
-abbrev pub AreInActive : ℕ → Machine → List Message → Type 0
-AreInActive size m messages = (e : Message) → Contains messages e → IsInActive size m e

@@ -6,6 +6,7 @@ pub mod Memory
 pub mod MemoryNames
 pub mod MemoryStops
 pub mod Noted
+pub mod Outdated
 pub mod Script
 pub mod SegmentStates
 pub mod SlotTables

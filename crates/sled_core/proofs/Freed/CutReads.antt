@@ -18,10 +18,11 @@ use Rattle.sled_core.specs.Begun.{SegmentView}
 use Rattle.sled_core.specs.Recoverable.{NoHeaderOfZeros}
 use Rattle.sled_core.specs.Scan.{IsScan}
 use Rattle.sled_core.specs.inside.Cleared.{cleared, is_stale}
-use Rattle.sled_core.specs.inside.Hides.{Hides, IsGoneSegment, ReadsShown}
+use Rattle.sled_core.specs.inside.Hides.{IsGoneSegment}
 use Rattle.sled_core.specs.inside.OwnLog.{HasOwnSlot}
 use Rattle.sled_core.specs.inside.Slots.{marked_at}
 use Rattle.sled_core.proofs.Cleared.Offsets.{cleared_zeros, zeroed_long}
+use Rattle.sled_core.proofs.Freed.Known.{IsKnown}
 use Rattle.sled_core.proofs.Numbers.Hides.{gone_in}
 use Rattle.sled_core.proofs.Freed.LeftRecovers.{ReadsBy}
 use Rattle.sled_core.proofs.Freed.OwnAlike.{part_alike}
@@ -131,16 +132,16 @@ module _ (sum : List ℕ → ℕ) (size : ℕ) (some : 256 ≤ size) (s : State)
           );
     }
 
-module _ (sum : List ℕ → ℕ) (none : NoHeaderOfZeros sum) (size : ℕ) (some : 256 ≤ size) (s : State) (m : Machine) (line : List SegmentView) (least base : ℕ)
-    (H : History)
-    (hides : Hides sum size s m line least base H) (reads : ReadsShown sum size m (cleared size m line s.log.bytes) s.log.bytes)
-    (own_shown : (slot : ℕ) → HasOwnSlot sum size (HeaderWasPlaced s.placed) (RecordWasPlaced sum size s.placed) (cleared size m line s.log.bytes) slot)
-    (slots : ℕ) (unused : (k : ℕ) → slots ≤ k → is_free (slot_at m k).state ≡ true) where
+module _ {sum : List ℕ → ℕ} (none : NoHeaderOfZeros sum) {size : ℕ} {s : State} {m : Machine} {line : List SegmentView} {least base : ℕ} {H : History}
+    (known : IsKnown sum size s m line least base H) (slots : ℕ) (unused : (k : ℕ) → slots ≤ k → is_free (slot_at m k).state ≡ true) where
   abbrev log : List ℕ
   log = s.log.bytes
 
   abbrev shown : List ℕ
   shown = cleared size m line log
+
+  some : 256 ≤ size
+  some = known.some
 
   big : 20 ≤ size
   big = omega (arith, some)
@@ -173,7 +174,7 @@ module _ (sum : List ℕ → ℕ) (none : NoHeaderOfZeros sum) (size : ℕ) (som
     leaves_front = front_left sum size some s shown slots cut no_less (length left) short enough
 
     own_front : NoForeignLog sum size (after_cut size shown slots cut) s.placed shown_front
-    own_front = front_own sum size some s shown slots cut no_less (length left) short enough own_shown
+    own_front = front_own sum size some s shown slots cut no_less (length left) short enough known.own
 
     header_in_shown : (k p : ℕ) (mark : ℤ) → IsHeader sum (part shown_front (k * size) 20) (pos p) mark → IsHeader sum (part shown (k * size) 20) (pos p) mark
     header_in_shown k p mark is =
@@ -195,12 +196,12 @@ module _ (sum : List ℕ → ℕ) (none : NoHeaderOfZeros sum) (size : ℕ) (som
     -- A segment that is shown below it is read in what is left as it is shown: what is own of it is shown.
     shown_as_left : (k p : ℕ) (mark : ℤ) → IsHeader sum (part shown (k * size) 20) (pos p) mark → k < slots → ReadsAlike sum size shown left k p
     shown_as_left k p mark is below = both_alike sum size shown left k p same_header
-        (shown_kept sum size m shown log reads k p mark is left (left_same k below))
-        (own_same sum size s m line least base H hides reads k p mark is left
+        (shown_kept sum size m shown log known.reads k p mark is left (left_same k below))
+        (own_same sum size s m line least base H known.hides known.reads k p mark is left
         (own_record sum size s left placed_left k p mark (subst (λ (l : List ℕ). IsHeader sum l (pos p) mark) (sym same_header) is))) where
           same_header : part left (k * size) 20 ≡ part shown (k * size) 20
           same_header =
-              let in_log = reads.headers k p mark is in
+              let in_log = known.reads.headers k p mark is in
               let there = in_this_file sum size log shown (k * size) 20 (omega arith) (twenty sum size shown (k * size) (pos p) mark is) in_log in
               left_same k below (k * size) 20 (omega arith) (omega (arith, some)) there ∙ in_log
 
@@ -222,7 +223,7 @@ module _ (sum : List ℕ → ℕ) (none : NoHeaderOfZeros sum) (size : ℕ) (som
     -- Another one from the snapshot's on is gone.
     other_gone : (k p : ℕ) (mark : ℤ) → least ≤ p → IsHeader sum (part left (k * size) 20) (pos p) mark
         → IsHeader sum (part shown_front (k * size) 20) (pos p) mark ⊎ IsGoneSegment sum size left H base (marked_at (k * size) p mark)
-    other_gone k p mark low is = elim (hides.headers k p mark low (own_header sum size s left placed_left k p mark is)) [
+    other_gone k p mark low is = elim (known.hides.headers k p mark low (own_header sum size s left placed_left k p mark is)) [
       | inl shows ↦ inl (subst (λ (l : List ℕ). IsHeader sum l (pos p) mark) (sym (header_stays k p mark shows)) shows)
       | inr gone ↦ inr (gone_in sum size s m base H k p mark gone left (own_record sum size s left placed_left k p mark is))
     ]

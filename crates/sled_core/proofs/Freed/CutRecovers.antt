@@ -22,28 +22,30 @@ use Rattle.sled_core.specs.inside.Cleared.{cleared, is_stale}
 use Rattle.sled_core.specs.inside.FreeSlots.{HaveOwn}
 use Rattle.sled_core.specs.inside.Hides.{Hides, ReadsShown}
 use Rattle.sled_core.specs.inside.Lasting.{LeavesRecovering}
-use Rattle.sled_core.specs.inside.OwnLog.{HasOwnSlot, ReadsPlaced}
+use Rattle.sled_core.specs.inside.OwnLog.{ReadsPlaced}
 use Rattle.sled_core.specs.inside.Recoverable.{IsMarkOf}
 use Rattle.sled_core.specs.inside.Running.{NamesFit}
 use Rattle.sled_core.specs.Tail.{IsOrdering, least_place, tail_begins}
 use Rattle.sled_core.proofs.Freed.CutHides.{hides_cut, zeroed_part, zeroed_taken}
 use Rattle.sled_core.proofs.Freed.CutReads.{cut_reads}
+use Rattle.sled_core.proofs.Freed.Known.{IsKnown}
 use Rattle.sled_core.proofs.Freed.LeftRecovers.{KeepsHeaders, ReadsBy, leaves_as_shown, rest_recovers, shown_device}
 use Rattle.sled_core.proofs.OwnLog.NoneForeign.{WasPlaced}
 use Rattle.sled_core.proofs.OwnLog.Starting.{file_synced, slots_cut}
 use Rattle.sled_core.proofs.OwnLog.Zeroed.{own_read}
 use Rattle.sled_core.proofs.Torn.WrittenParts.{in_this_file, twenty}
 
-module _ (sum : List ℕ → ℕ) (none : NoHeaderOfZeros sum) (size : ℕ) (some : 256 ≤ size) (s : State) (rest : s.log ≡ at_rest s.log.bytes) (m : Machine)
-    (line : List SegmentView) (first : SnapshotModel) (base : ℕ) (H : History) (hides : Hides sum size s m line (least_place size first) base H)
-    (reads : ReadsShown sum size m (cleared size m line s.log.bytes) s.log.bytes)
-    (own_shown : (slot : ℕ) → HasOwnSlot sum size (HeaderWasPlaced s.placed) (RecordWasPlaced sum size s.placed) (cleared size m line s.log.bytes) slot)
-    (slots : ℕ) (unused : (k : ℕ) → slots ≤ k → is_free (slot_at m k).state ≡ true) where
+module _ {sum : List ℕ → ℕ} (none : NoHeaderOfZeros sum) {size : ℕ} {s : State} (rest : s.log ≡ at_rest s.log.bytes) {m : Machine} {line : List SegmentView}
+    (first : SnapshotModel) {base : ℕ} {H : History} (known : IsKnown sum size s m line (least_place size first) base H) (slots : ℕ)
+    (unused : (k : ℕ) → slots ≤ k → is_free (slot_at m k).state ≡ true) where
   abbrev log : List ℕ
   log = s.log.bytes
 
   abbrev shown : List ℕ
   shown = cleared size m line log
+
+  some : 256 ≤ size
+  some = known.some
 
   abbrev shown_now : State
   shown_now = shown_device size m line s
@@ -55,7 +57,7 @@ module _ (sum : List ℕ → ℕ) (none : NoHeaderOfZeros sum) (size : ℕ) (som
       × NoForeignLog sum size (step (Cut (slots * size) cut) shown_now).log (step (Cut (slots * size) cut) shown_now).placed front
       × ReadsBy sum size s shown (least_place size first) base H front left
   cut_device_reads cut no_less left leaves only_own =
-      let r = cut_reads sum none size some s m line (least_place size first) base H hides reads own_shown slots unused cut no_less left
+      let r = cut_reads none known slots unused cut no_less left
       (subst (λ (l : LogState). LeavesLog (log_step (Cut (slots * size) cut) l) left) rest leaves)
       (subst (λ (l : LogState). NoForeignLog sum size (log_step (Cut (slots * size) cut) l) s.placed left) rest only_own) in
       (take (length left) shown, r.0, r.1, r.2)
@@ -80,7 +82,7 @@ module _ (sum : List ℕ → ℕ) (none : NoHeaderOfZeros sum) (size : ℕ) (som
   ]
 
   hides_behind : Hides sum size behind m line (least_place size first) base H
-  hides_behind = hides_cut sum size (omega (arith, some)) s m line (least_place size first) base H hides to (mul-mod_left slots size) free_above
+  hides_behind = hides_cut sum size (omega (arith, some)) s m line (least_place size first) base H known.hides to (mul-mod_left slots size) free_above
 
   shown_behind : shown_left ≡ take to shown
   shown_behind = zeroed_taken (is_stale size m line) log to
@@ -99,7 +101,7 @@ module _ (sum : List ℕ → ℕ) (none : NoHeaderOfZeros sum) (size : ℕ) (som
   used_below : (k place : ℕ) (mark : ℤ) → IsHeader sum (part shown (k * size) 20) (pos place) mark → k * size + size ≤ to
   used_below k place mark is = elim (cases_lt k slots) [
     | inl low ↦ (let row = slot_before size k slots low in omega (arith, row))
-    | inr above ↦ (let used = (reads.slots k place mark is).0 in let both : true ≡ false = sym (unused k above) ∙ used in absurd cc)
+    | inr above ↦ (let used = (known.reads.slots k place mark is).0 in let both : true ≡ false = sym (unused k above) ∙ used in absurd cc)
   ]
 
   was_shown : (k place : ℕ) (mark : ℤ) → IsHeader sum (part shown_left (k * size) 20) (pos place) mark
@@ -111,18 +113,19 @@ module _ (sum : List ℕ → ℕ) (none : NoHeaderOfZeros sum) (size : ℕ) (som
 
   reads_behind : ReadsShown sum size m shown_left behind.log.bytes
   reads_behind = record {
-    slots = λ k place mark is. reads.slots k place mark (was_shown k place mark is);
+    slots = λ k place mark is. known.reads.slots k place mark (was_shown k place mark is);
     headers = λ k place mark is.
         let was = was_shown k place mark is in
         let below = used_below k place mark was in
-        file_same (k * size) 20 (omega (arith, below, some)) ∙ reads.headers k place mark was ∙ sym (shown_same (k * size) 20 (omega (arith, below, some)));
+        file_same (k * size) 20 (omega (arith, below, some)) ∙ known.reads.headers k place mark was
+        ∙ sym (shown_same (k * size) 20 (omega (arith, below, some)));
     records = λ k place mark at len is r.
         let was = was_shown k place mark is in
         let below = used_below k place mark was in
         let inside = r.inside in
         let fits : at + len ≤ size = omega (arith, inside, length-take size (drop (k * size) shown_left)) in
         file_same (k * size + at) len (omega (arith, below, fits))
-        ∙ reads.records k place mark at len was
+        ∙ known.reads.records k place mark at len was
         (subst (λ (l : List ℕ). Reads sum size (place / size) l 20 at len) (shown_same (k * size) size (omega (arith, below))) r)
         ∙ sym (shown_same (k * size + at) len (omega (arith, below, fits)));
   }
@@ -137,7 +140,7 @@ module _ (sum : List ℕ → ℕ) (none : NoHeaderOfZeros sum) (size : ℕ) (som
     | inr long ↦ slots_cut sum size none big shown_now slots long before
   ] where
     before : ReadsPlaced sum size shown_now
-    before k = own_read sum size (HeaderWasPlaced s.placed) (RecordWasPlaced sum size s.placed) shown k (own_shown k)
+    before k = own_read sum size (HeaderWasPlaced s.placed) (RecordWasPlaced sum size s.placed) shown k (known.own k)
 
   -- So all that it may leave can be recovered where it can of what is shown: for a history of which the log has the same, from the snapshot of the log.
   module _ (end : ℕ) (own : HaveOwn size end m) (ordering : List Segment) (numbers : IsOrdering sum size shown (least_place size first) ordering)
@@ -148,15 +151,15 @@ module _ (sum : List ℕ → ℕ) (none : NoHeaderOfZeros sum) (size : ℕ) (som
 
     pub cut_recovers : (cut : ℕ) → slots * size ≤ cut → Recovers (step (Cut (slots * size) cut) shown_now) → Recovers (step (Cut (slots * size) cut) s)
     cut_recovers cut no_less =
-        leaves_as_shown sum size some s m line first base H hides reads end own shown ordering numbers marks tail R same
+        leaves_as_shown sum size some s m line first base H known.hides known.reads end own shown ordering numbers marks tail R same
         (step (Cut (slots * size) cut) s) (step (Cut (slots * size) cut) shown_now) refl refl K f names (cut_device_reads cut no_less) A g
 
     -- Before the cut it is so, too.
     pub uncut_recovers : Recovers shown_now → Recovers s
     uncut_recovers =
-        rest_recovers sum size some s m line first base H hides reads end own shown ordering numbers marks tail R same rest (λ k p mark is. refl) shown_now
-        refl refl refl
-        (λ slot. own_read sum size (HeaderWasPlaced s.placed) (RecordWasPlaced sum size s.placed) shown slot (own_shown slot)) K f names A g
+        rest_recovers sum size some s m line first base H known.hides known.reads end own shown ordering numbers marks tail R same rest (λ k p mark is. refl)
+        shown_now refl refl refl
+        (λ slot. own_read sum size (HeaderWasPlaced s.placed) (RecordWasPlaced sum size s.placed) shown slot (known.own slot)) K f names A g
 
     -- So it is behind the sync.
     pub behind_recovers : Recovers (step Synced (step (Cut to to) shown_now)) → Recovers behind

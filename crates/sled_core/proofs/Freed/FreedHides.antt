@@ -15,7 +15,7 @@ use Rattle.sled_core.specs.declared.iterator.Segment.{Segment}
 use Rattle.sled_core.specs.Begun.{SegmentView}
 use Rattle.sled_core.specs.inside.Cleared.{cleared}
 use Rattle.sled_core.specs.inside.FreeSlots.{HaveOwn}
-use Rattle.sled_core.specs.inside.Hides.{HasSegment, Hides, IsGone, IsReading, ReadsOwnIn}
+use Rattle.sled_core.specs.inside.Hides.{HasSegment, Hides, IsGone, IsTrueReading, ReadsOwnIn}
 use Rattle.sled_core.specs.inside.Reached.{StandsTo}
 use Rattle.sled_core.specs.inside.Scan.{IsFoundSegment}
 use Rattle.sled_core.specs.inside.Slots.{IsWholeSegment, marked_at}
@@ -40,8 +40,8 @@ module _ (sum : List ℕ → ℕ) (size : ℕ) (some : 256 ≤ size) (s : State)
 
   -- In a file in which a reader of a segment that a slot has reads nothing but what is own it reads what is shown, as far as it goes.
   own_reading : (k place : ℕ) (mark : ℤ) → is_free (slot_at m k).state ≡ false → (slot_at m k).lsn ≡ place
-      → IsReading sum size shown H (marked_at (k * size) place mark)
-      → (log : List ℕ) → ReadsOwnIn sum size s k (place / size) log → IsReading sum size log H (marked_at (k * size) place mark)
+      → IsTrueReading sum size shown H (marked_at (k * size) place mark)
+      → (log : List ℕ) → ReadsOwnIn sum size s k (place / size) log → IsTrueReading sum size log H (marked_at (k * size) place mark)
   own_reading k place mark used is reading log own =
       reading_less sum size shown log k place
       (λ from comes room h body len stands.
@@ -92,7 +92,7 @@ module _ (sum : List ℕ → ℕ) (size : ℕ) (some : 256 ≤ size) (s : State)
       there : Contains stands.ordering segment
       there = (stands.numbers.found segment).1 found
 
-      reading : IsReading sum size shown H segment
+      reading : IsTrueReading sum size shown H segment
       reading =
           let t = scan_there sum size shown stands.ordering stands.scanned stands.reads segment there in
           record { scan = t.0; segment = t.2; read = t.3; truth = λ x met. stands.truth t.0 x t.1 met; caps = stands.caps t.0 t.1 }

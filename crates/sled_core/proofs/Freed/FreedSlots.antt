@@ -6,9 +6,10 @@ use Rattle.std.proofs.lemmas.Bool.{true≢false}
 use Rattle.sled_codec.specs.History.{History, Message, table}
 use Rattle.sled_codec.specs.Snapshots.{stable_place}
 use Rattle.sled_store.specs.Marks.{slot_with}
-use Rattle.sled_store.specs.Outdated.{AreInActive, AreOutdated}
+use Rattle.sled_store.specs.Outdated.{AreOutdated}
 use Rattle.sled_store.specs.SegmentStates.{Machine, Step, is_due, is_free, slot_at, stabilized}
 use Rattle.sled_store.specs.Tracked.{IsAccountOf}
+use Rattle.sled_store.specs.inside.Outdated.{AreInActive}
 use Rattle.sled_store.proofs.Histories.Ascending.{Ascends}
 use Rattle.sled_store.proofs.Marks.AccountSteps.{same_account, stabilized_account}
 use Rattle.sled_store.proofs.Marks.DeactivationSteps.{from_map}

@@ -12,7 +12,7 @@ use Rattle.sled_core.specs.declared.iterator.Segment.{Segment}
 use Rattle.sled_core.specs.declared.iterator.scan.ScannedRecord.{ScannedRecord}
 use Rattle.sled_core.specs.declared.iterator.scan.ScanEnd.{ScanEnd}
 use Rattle.sled_core.specs.declared.iterator.scan.ScanEnd.TheVariants.{Full, Capped, Broken}
-use Rattle.sled_core.specs.inside.Hides.{IsGoneSegment, IsReading}
+use Rattle.sled_core.specs.inside.Hides.{IsGoneSegment, IsTrueReading}
 use Rattle.sled_core.specs.inside.Recoverable.{IsMarkBelow, IsMarkOf, IsOfHistory, IsReachedIn, IsReadOn, IsRecoverableLog, IsSegmentOf, NothingBehind}
 use Rattle.sled_core.specs.inside.Recoverable.{StandsInline, cut_from, cut_over, scanned_below}
 use Rattle.sled_core.specs.inside.Scan.{IsFoundSegment}
@@ -88,7 +88,7 @@ module _ (sum : List ℕ → ℕ) (size : ℕ) (some : 256 ≤ size) (shown left
   pub still_read : (t : Scanned) → Contains is.ordering t.segment → IsScanned sum size shown t → IsScanned sum size left t
   still_read t there = same.scans t (shown_found t.segment there)
 
-  reading_shown : (t : Scanned) → Contains is.scanned t → IsReading sum size left H t.segment
+  reading_shown : (t : Scanned) → Contains is.scanned t → IsTrueReading sum size left H t.segment
   unfolding IsScan
   reading_shown t there =
       let had = segment_there sum size shown is.ordering is.scanned is.reads t there in
@@ -102,9 +102,9 @@ module _ (sum : List ℕ → ℕ) (size : ℕ) (some : 256 ≤ size) (shown left
         caps = is.caps t there;
       }
 
-  pub each_read : (s : Segment) → Contains ordering s → IsReading sum size left H s
+  pub each_read : (s : Segment) → Contains ordering s → IsTrueReading sum size left H s
   each_read s there = elim (shown_or_gone s there) [
-    | inl had ↦ (let t = scan_there sum size shown is.ordering is.scanned is.reads s had in subst (IsReading sum size left H) t.2 (reading_shown t.0 t.1))
+    | inl had ↦ (let t = scan_there sum size shown is.ordering is.scanned is.reads s had in subst (IsTrueReading sum size left H) t.2 (reading_shown t.0 t.1))
     | inr gone ↦ gone.reading
   ]
 

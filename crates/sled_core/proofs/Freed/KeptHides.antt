@@ -11,7 +11,7 @@ use Rattle.sled_core.specs.Begun.{SegmentView}
 use Rattle.sled_core.specs.Scan.{IsScan}
 use Rattle.sled_core.specs.Tail.{Scanned}
 use Rattle.sled_core.specs.inside.Cleared.{cleared}
-use Rattle.sled_core.specs.inside.Hides.{Hides, IsOwnHeader, IsReading, LiesInSlot}
+use Rattle.sled_core.specs.inside.Hides.{Hides, IsOwnHeader, IsTrueReading, LiesInSlot}
 use Rattle.sled_core.specs.inside.Slots.{marked_at}
 use Rattle.sled_core.proofs.Numbers.Hides.{KeepsShown, hides_less}
 use Rattle.sled_core.proofs.Numbers.OwnLess.{OwnLess}
@@ -22,8 +22,8 @@ use Rattle.sled_core.proofs.Torn.WrittenParts.{in_this_file, twenty}
 
 -- The reading of a segment in a slot that keeps its bytes.
 module _ (sum : List ℕ → ℕ) (size : ℕ) (old left : List ℕ) (k : ℕ) (same : SameIn size old left k) (back : SameIn size left old k) where
-  pub reading_same : (H : History) (place : ℕ) (mark : ℤ) → IsReading sum size old H (marked_at (k * size) place mark)
-      → IsReading sum size left H (marked_at (k * size) place mark)
+  pub reading_same : (H : History) (place : ℕ) (mark : ℤ) → IsTrueReading sum size old H (marked_at (k * size) place mark)
+      → IsTrueReading sum size left H (marked_at (k * size) place mark)
   unfolding IsScan
   reading_same H place mark r =
       let t : Scanned = r.scan in

@@ -22,7 +22,7 @@ use Rattle.sled_core.specs.NoForeign.{NoForeign}
 use Rattle.sled_core.specs.invariants.Recoverable.{Recoverable}
 use Rattle.sled_core.specs.inside.Cleared.{cleared}
 use Rattle.sled_core.specs.inside.FreeSlots.{HaveOwn}
-use Rattle.sled_core.specs.inside.Hides.{Hides, IsGoneSegment, IsReading, ReadsShown}
+use Rattle.sled_core.specs.inside.Hides.{Hides, IsGoneSegment, IsTrueReading, ReadsShown}
 use Rattle.sled_core.specs.inside.Lasting.{LeavesRecovering}
 use Rattle.sled_core.specs.inside.OwnLog.{ReadsPlaced}
 use Rattle.sled_core.specs.inside.Recoverable.{AreRecoverableSnapshots, IsMarkOf, IsRecoverableLog}
@@ -52,7 +52,7 @@ pub record ReadsBy (sum : List ℕ → ℕ) (size : ℕ) (s : State) (file : Lis
 
 -- Two histories of which the log has the same.
 module _ (H R : History) (same : logged H ≡ logged R) (sum : List ℕ → ℕ) (size : ℕ) where
-  reading_alike : (log : List ℕ) (s : Segment) → IsReading sum size log H s → IsReading sum size log R s
+  reading_alike : (log : List ℕ) (s : Segment) → IsTrueReading sum size log H s → IsTrueReading sum size log R s
   reading_alike log s r = record {
     scan = r.scan;
     segment = r.segment;

@@ -15,7 +15,7 @@ use Rattle.sled_core.specs.declared.iterator.scan.ScanEnd.TheVariants.{Full, Cap
 use Rattle.sled_core.specs.Reading.{StandsAt}
 use Rattle.sled_core.specs.Scan.{EndsThere, IsEnd, IsMet, IsPath, IsScan}
 use Rattle.sled_core.specs.Tail.{IsScanned, Scanned}
-use Rattle.sled_core.specs.inside.Hides.{IsReading}
+use Rattle.sled_core.specs.inside.Hides.{IsTrueReading}
 use Rattle.sled_core.specs.inside.Recoverable.{NothingBehind}
 use Rattle.sled_core.specs.inside.Slots.{marked_at}
 use Rattle.sled_core.proofs.Reached.LeftBeside.{truth_alike}
@@ -72,7 +72,7 @@ module _ (sum : List ℕ → ℕ) (size : ℕ) (old left : List ℕ) (slot place
       → (part left (slot * size + from) len ≡ part old (slot * size + from) len → ⊥) → 0 < slot * size + from + len
   above from h body len s other = let some = long_enough sum size old (slot * size + from) (place / size) h body len s in omega (arith, some)
 
-  module _ (H : History) (mark : ℤ) (r : IsReading sum size old H (marked_at (slot * size) place mark)) where
+  module _ (H : History) (mark : ℤ) (r : IsTrueReading sum size old H (marked_at (slot * size) place mark)) where
     was : IsScan sum size old (slot * size) place r.scan.met r.scan.stop r.scan.why
     was = subst (λ (x : Segment). IsScan sum size old x.slot x.place r.scan.met r.scan.stop r.scan.why) r.segment r.read
 
@@ -94,7 +94,7 @@ module _ (sum : List ℕ → ℕ) (size : ℕ) (old left : List ℕ) (slot place
         subst (λ (u : Scanned). NothingBehind size H u.segment.place u.stop u.why) (one_scan sum size old r.scan scan r.segment r.read read) r.caps
 
     -- So all that is read is of the history.
-    pub reading_less : IsReading sum size left H (marked_at (slot * size) place mark)
+    pub reading_less : IsTrueReading sum size left H (marked_at (slot * size) place mark)
     unfolding IsScan
     reading_less = record {
       scan = scan;

@@ -1,6 +1,6 @@
 -- A write to the slot of a segment of which a reader of what a crash leaves may come to a part: what is left reads in the slot as what was shown with the first
 -- bytes of the write, up to where its reading ends, and zeros behind; or with all of it.
-use Rattle.std.proofs.Common.{◌≡◌, ◌⊎◌, ◌∙◌, ◌<◌, ◌+◌, ◌-◌, ◌*◌, ◌/◌, ◌%◌, ◌^◌, ◌≤◌, ℕ, zero, suc, ℤ, pos, false, List, [], ◌∷◌, ◌++◌, length, take, drop, get_or, sym, subst, arith, inl, inr, length-take}
+use Rattle.std.proofs.Common.{◌≡◌, ◌⊎◌, ◌∙◌, ◌<◌, ◌+◌, ◌-◌, ◌*◌, ◌/◌, ◌%◌, ◌≤◌, ℕ, zero, suc, ℤ, pos, List, [], ◌∷◌, ◌++◌, length, take, drop, get_or, sym, subst, arith, inl, inr, length-take}
 use Rattle.std.proofs.Math.Nat.{mul-mod_left}
 use Rattle.std.proofs.lemmas.Bool.{cases_lt}
 use Rattle.std.proofs.lemmas.List.{take_all}
@@ -9,9 +9,9 @@ use Rattle.sled_codec.specs.History.{History}
 use Rattle.sled_codec.specs.Places.{part}
 use Rattle.sled_codec.specs.Record.{IsHeader}
 use Rattle.sled_store.specs.Device.{State, overwritten}
-use Rattle.sled_store.specs.Foreign.{Covers, IsWhole, NoForeignLog}
+use Rattle.sled_store.specs.Foreign.{Covers, IsWhole}
 use Rattle.sled_store.specs.Readers.{Reads, at_start}
-use Rattle.sled_store.specs.SegmentStates.{Machine, is_free, slot_at}
+use Rattle.sled_store.specs.SegmentStates.{Machine}
 use Rattle.sled_store.proofs.LogFile.LooseLemmas.{end_of-some}
 use Rattle.sled_store.proofs.LogFile.OverwrittenLemmas.{length-overwritten}
 use Rattle.sled_store.proofs.Segments.Elements.{in_first}
@@ -22,15 +22,14 @@ use Rattle.sled_core.specs.declared.iterator.scan.ScanEnd.TheVariants.{Capped, B
 use Rattle.sled_core.specs.Reading.{StandsAt}
 use Rattle.sled_core.specs.Scan.{EndsThere, IsEnd, IsMet, IsPath, IsScan}
 use Rattle.sled_core.specs.inside.Cleared.{cleared}
-use Rattle.sled_core.specs.inside.Hides.{Hides}
 use Rattle.sled_core.specs.inside.OwnLog.{ReadsOwn}
 use Rattle.sled_core.proofs.Freed.AlikeRecords.{path_alike}
 use Rattle.sled_core.proofs.Freed.FrontWritten.{PlacedHeader, PlacedRecord, front_above, front_below}
+use Rattle.sled_core.proofs.Freed.Known.{LeavesOwn, WritesSlot}
 use Rattle.sled_core.proofs.Freed.LeftOwn.{read_where, shown_or_asked}
 use Rattle.sled_core.proofs.Freed.OwnAlike.{alike_below, own_alike, part_alike, path_inside}
 use Rattle.sled_core.proofs.Freed.ReadsAlike.{ReadsAlike, one_alike}
 use Rattle.sled_core.proofs.Freed.TornUnread.{SlotReads, one_place}
-use Rattle.sled_core.proofs.OwnLog.Placed.{asked_now}
 use Rattle.sled_core.proofs.Read.GivesLemmas.{one_len}
 use Rattle.sled_core.proofs.Read.PathLemmas.{zeros_empty}
 use Rattle.sled_core.proofs.Tail.LogFileLemmas.{record_moved}
@@ -69,11 +68,9 @@ module _ (sum : List ℕ → ℕ) (size : ℕ) (a b : List ℕ) (slot place : �
   next_stands zero from (m ∷ ms) stop few (room, at_place, (h, body, stands, says), path) = (h, body, m.len, stands)
   next_stands (suc n) from (m ∷ ms) stop few path = next_stands n from ms stop (omega (arith, few)) path
 
-module _ (sum : List ℕ → ℕ) (size : ℕ) (some : 256 ≤ size) (s : State) (m : Machine) (line : List SegmentView) (least base : ℕ) (H : History)
-    (hides : Hides sum size s m line least base H) (slot from : ℕ) (asked now left : List ℕ)
-    (only_own : NoForeignLog sum size (after_write s.log.bytes (slot * size + from) asked now) (asked_now (slot * size + from) asked ∷ s.placed) left)
-    (place : ℕ) (reach : slot * size + size < 2 ^ 64) (taken : is_free (slot_at m slot).state ≡ false) (its : (slot_at m slot).lsn ≡ place)
-    (mark : ℤ) (header : IsHeader sum (part left (slot * size) 20) (pos place) mark)
+module _ {sum : List ℕ → ℕ} {size : ℕ} {s : State} {m : Machine} {line : List SegmentView} {least base : ℕ} {H : History} {slot from : ℕ} {asked : List ℕ}
+    {place until : ℕ} (w : WritesSlot sum size s m line least base H slot from asked place until) {now left : List ℕ}
+    (l : LeavesOwn sum size s (slot * size + from) asked now left) (mark : ℤ) (header : IsHeader sum (part left (slot * size) 20) (pos place) mark)
     (own_header : PlacedHeader sum size s (cleared size m line s.log.bytes) (slot * size + from) asked now (slot * size) (part left (slot * size) 20)) where
   abbrev shown : List ℕ
   shown = cleared size m line s.log.bytes
@@ -89,6 +86,9 @@ module _ (sum : List ℕ → ℕ) (size : ℕ) (some : 256 ≤ size) (s : State)
 
   abbrev Own : ℕ → ℕ → List ℕ → Type 0
   Own = PlacedRecord sum size s shown at asked now
+
+  some : 256 ≤ size
+  some = w.known.some
 
   aligned : slot * size % size ≡ 0
   aligned = mul-mod_left slot size
@@ -107,9 +107,9 @@ module _ (sum : List ℕ → ℕ) (size : ℕ) (some : 256 ≤ size) (s : State)
         let one = one_place sum size left slot lsn place mark' mark is header in
         let read = subst (λ n. Reads sum size (n / size) (part left (slot * size) size) 20 here len) one r in
         subst (λ n. Own (n / size) (slot * size + here) (part left (slot * size + here) len)) (sym one) (
-          (only_own.records slot place mark here len header read).0,
+          (l.only_own.records slot place mark here len header read).0,
           whole_there (slot * size + here) (part left (slot * size + here) len)
-              (read_where sum size s m line least base H hides at asked now left only_own slot place mark header taken its here len read),
+              (read_where sum size s m line least base H w.known.hides at asked now left l.only_own slot place mark header w.taken w.its here len read),
         );
   }
 
@@ -124,8 +124,8 @@ module _ (sum : List ℕ → ℕ) (size : ℕ) (some : 256 ≤ size) (s : State)
 
     read_as_left : SlotReads sum size s shown at asked now left H least base slot file
     read_as_left = record {
-      own = own_alike sum size (omega (arith, some)) file left slot place reach mark header_in same_header met stop why read read_left alike cap Header Own
-          own_left;
+      own = own_alike sum size (omega (arith, some)) file left slot place w.reach mark header_in same_header met stop why read read_left alike cap Header
+          Own own_left;
       reads = λ p mark' is.
           subst (ReadsAlike sum size file left slot) (sym (one_place sum size file slot p place mark' mark is header_in))
           (one_alike sum size file left slot place same_header met stop why read read_left alike);
@@ -134,8 +134,7 @@ module _ (sum : List ℕ → ℕ) (size : ℕ) (some : 256 ≤ size) (s : State)
 
   -- Where all is written the records go on from an offset of the segment. Up to there what is left is read as where all is written, and so is what lies behind
   -- the write.
-  module _ (until : ℕ) (covers : from + length asked ≤ until) (clean : (i : ℕ) → slot * size + from ≤ i → i < slot * size + until → get_or shown i 0 ≡ 0)
-      (same_header : part left (slot * size) 20 ≡ part new (slot * size) 20) (first : ℕ) (low : 20 ≤ first) (later : from ≤ first)
+  module _ (same_header : part left (slot * size) 20 ≡ part new (slot * size) 20) (first : ℕ) (low : 20 ≤ first) (later : from ≤ first)
       (reaches : first ≡ from → slot * size + from ≤ length shown) (before : List ScannedRecord)
       (path_before : IsPath sum size new (slot * size) place 20 before first) (alike_before : AlikeAlong new left (slot * size) 20 before)
       (more : List ScannedRecord) (stop : ℕ) (why : ScanEnd) (clear : AreClear size until first more)
@@ -147,8 +146,9 @@ module _ (sum : List ℕ → ℕ) (size : ℕ) (some : 256 ≤ size) (s : State)
         → (h : MessageHeader) (body : List ℕ) (len : ℕ) → StandsAt sum size left (slot * size + here) (place / size) h body len
         → part new (slot * size + here) len ≡ part left (slot * size + here) len
     same here above room near comes h body len stands =
-        laid_there sum size shown slot from asked left until covers clean place here (omega (arith, above, later)) near h body len stands
-        (shown_or_asked sum size s m line least base H hides at asked now left only_own slot place mark header taken its here comes room h body len stands)
+        laid_there sum size shown slot from asked left until w.covers w.clean place here (omega (arith, above, later)) near h body len stands
+        (shown_or_asked sum size s m line least base H w.known.hides at asked now left l.only_own slot place mark header w.taken w.its here comes room h
+        body len stands)
 
     path_left : IsPath sum size left (slot * size) place 20 before first
     path_left = path_alike sum size new left (slot * size) place 20 before first path_before alike_before
@@ -161,106 +161,106 @@ module _ (sum : List ℕ → ℕ) (size : ℕ) (some : 256 ≤ size) (s : State)
         (comes_along sum size left (slot * size) aligned place 20 before first path_left at_start) path end
 
     -- What is met in what is left.
-    module _ (w : Front) where
+    module _ (f : Front) where
       abbrev met : List ScannedRecord
-      met = before ++ take w.count more
+      met = before ++ take f.count more
 
-      met_left : IsPath sum size left (slot * size) place 20 met w.end
-      met_left = paths_joined sum size left (slot * size) place 20 before first (take w.count more) w.end path_left w.path
+      met_left : IsPath sum size left (slot * size) place 20 met f.end
+      met_left = paths_joined sum size left (slot * size) place 20 before first (take f.count more) f.end path_left f.path
 
-      met_new : IsPath sum size new (slot * size) place 20 met w.end
-      met_new = paths_joined sum size new (slot * size) place 20 before first (take w.count more) w.end path_before
-          (path_taken sum size new left (slot * size) place w.count first more stop w.end path w.path)
+      met_new : IsPath sum size new (slot * size) place 20 met f.end
+      met_new = paths_joined sum size new (slot * size) place 20 before first (take f.count more) f.end path_before
+          (path_taken sum size new left (slot * size) place f.count first more stop f.end path f.path)
 
       met_alike : AlikeAlong new left (slot * size) 20 met
-      met_alike = alike_joined new left (slot * size) sum size new place 20 before first (take w.count more) path_before alike_before w.alike
+      met_alike = alike_joined new left (slot * size) sum size new place 20 before first (take f.count more) path_before alike_before f.alike
 
-      scan_left : IsScan sum size left (slot * size) place met w.end w.ending
+      scan_left : IsScan sum size left (slot * size) place met f.end f.ending
       unfolding IsScan
-      scan_left = (met_left, w.ends)
+      scan_left = (met_left, f.ends)
 
-      above : first ≤ w.end
-      above = (meets_within sum size new left (slot * size) place first more stop why w).0
+      above : first ≤ f.end
+      above = (meets_within sum size new left (slot * size) place first more stop why f).0
 
-      clear_there : IsClear size until w.end
-      clear_there = clear_taken sum size new left (slot * size) place until w.count first more w.end clear w.path
+      clear_there : IsClear size until f.end
+      clear_there = clear_taken sum size new left (slot * size) place until f.count first more f.end clear f.path
 
-      comes_left : ComesTo sum size left (slot * size) place w.end
-      comes_left = comes_along sum size left (slot * size) aligned place 20 met w.end met_left at_start
+      comes_left : ComesTo sum size left (slot * size) place f.end
+      comes_left = comes_along sum size left (slot * size) aligned place 20 met f.end met_left at_start
 
-      comes_new : ComesTo sum size new (slot * size) place w.end
-      comes_new = comes_along sum size new (slot * size) aligned place 20 met w.end met_new at_start
+      comes_new : ComesTo sum size new (slot * size) place f.end
+      comes_new = comes_along sum size new (slot * size) aligned place 20 met f.end met_new at_start
 
       -- All of the records are met, and the reading ends as where all is written.
-      module _ (ends : w.end ≡ stop) (is : w.ending ≡ why) where
-        end_new : IsEnd sum size new (slot * size) place w.end w.ending
-        end_new = subst (λ n. IsEnd sum size new (slot * size) place n w.ending) (sym ends) (subst (IsEnd sum size new (slot * size) place stop) (sym is) end)
+      module _ (ends : f.end ≡ stop) (is : f.ending ≡ why) where
+        end_new : IsEnd sum size new (slot * size) place f.end f.ending
+        end_new = subst (λ n. IsEnd sum size new (slot * size) place n f.ending) (sym ends) (subst (IsEnd sum size new (slot * size) place stop) (sym is) end)
 
-        scan_new : IsScan sum size new (slot * size) place met w.end w.ending
+        scan_new : IsScan sum size new (slot * size) place met f.end f.ending
         unfolding IsScan
         scan_new = (met_new, end_new)
 
-        cap_there : w.ending ≡ Capped → (h : MessageHeader) (body : List ℕ) (len : ℕ) → StandsAt sum size new (slot * size + w.end) (place / size) h body len
-            → (part left (slot * size + w.end) len ≡ part new (slot * size + w.end) len) × (slot * size + w.end + len ≤ length left)
+        cap_there : f.ending ≡ Capped → (h : MessageHeader) (body : List ℕ) (len : ℕ) → StandsAt sum size new (slot * size + f.end) (place / size) h body len
+            → (part left (slot * size + f.end) len ≡ part new (slot * size + f.end) len) × (slot * size + f.end + len ≤ length left)
         unfolding EndsThere
         cap_there capped h body len stands =
-            let is_end = subst (IsEnd sum size left (slot * size) place w.end) capped w.ends in
+            let is_end = subst (IsEnd sum size left (slot * size) place f.end) capped f.ends in
             let room = is_end.0 in
             let (h', body', len', stands', is_cap) = is_end.1 in
-            let alike = same w.end above room (clear_there room) comes_left h' body' len' stands' in
+            let alike = same f.end above room (clear_there room) comes_left h' body' len' stands' in
             let there = stands'.in_file in
-            let some' = long_enough sum size left (slot * size + w.end) (place / size) h' body' len' stands' in
-            let whole = all_there sum size left (slot * size + w.end) (place / size) h' body' len' stands' in
-            let also = record_moved sum size left new (slot * size + w.end) (place / size) h' body' len' alike
-            (in_this_file sum size new left (slot * size + w.end) len' (omega (arith, some')) whole alike) stands' in
-            let one : len' ≡ len = one_len sum size new (slot * size + w.end) (place / size) h' h body' body len' len also stands in (
-              subst (λ n. part left (slot * size + w.end) n ≡ part new (slot * size + w.end) n) one (sym alike),
+            let some' = long_enough sum size left (slot * size + f.end) (place / size) h' body' len' stands' in
+            let whole = all_there sum size left (slot * size + f.end) (place / size) h' body' len' stands' in
+            let also = record_moved sum size left new (slot * size + f.end) (place / size) h' body' len' alike
+            (in_this_file sum size new left (slot * size + f.end) len' (omega (arith, some')) whole alike) stands' in
+            let one : len' ≡ len = one_len sum size new (slot * size + f.end) (place / size) h' h body' body len' len also stands in (
+              subst (λ n. part left (slot * size + f.end) n ≡ part new (slot * size + f.end) n) one (sym alike),
               omega (arith, there, one),
             )
 
         all_slot : SlotReads sum size s shown at asked now left H least base slot new
-        all_slot = read_as_left new same_header met w.end w.ending scan_new scan_left met_alike cap_there
+        all_slot = read_as_left new same_header met f.end f.ending scan_new scan_left met_alike cap_there
 
       -- One more stands there where all is written, but not in what is left.
-      module _ (broken : w.ending ≡ Broken) (h : MessageHeader) (body : List ℕ) (len : ℕ)
-          (stands : StandsAt sum size new (slot * size + w.end) (place / size) h body len) where
-        end_left : IsEnd sum size left (slot * size) place w.end Broken
-        end_left = subst (IsEnd sum size left (slot * size) place w.end) broken w.ends
+      module _ (broken : f.ending ≡ Broken) (h : MessageHeader) (body : List ℕ) (len : ℕ)
+          (stands : StandsAt sum size new (slot * size + f.end) (place / size) h body len) where
+        end_left : IsEnd sum size left (slot * size) place f.end Broken
+        end_left = subst (IsEnd sum size left (slot * size) place f.end) broken f.ends
 
-        in_write : w.end + 5 ≤ until
+        in_write : f.end + 5 ≤ until
         unfolding EndsThere
         in_write = elim (clear_there end_left.0) [
           | inl near ↦ near
           | inr far ↦ (
-              let alike = behind w.end far end_left.0 comes_new h body len stands in
-              let eight = long_enough sum size new (slot * size + w.end) (place / size) h body len stands in
-              let whole = all_there sum size new (slot * size + w.end) (place / size) h body len stands in
-              absurd (end_left.1 h body len (record_moved sum size new left (slot * size + w.end) (place / size) h body len alike
-              (in_this_file sum size left new (slot * size + w.end) len (omega (arith, eight)) whole alike) stands)))
+              let alike = behind f.end far end_left.0 comes_new h body len stands in
+              let eight = long_enough sum size new (slot * size + f.end) (place / size) h body len stands in
+              let whole = all_there sum size new (slot * size + f.end) (place / size) h body len stands in
+              absurd (end_left.1 h body len (record_moved sum size new left (slot * size + f.end) (place / size) h body len alike
+              (in_this_file sum size left new (slot * size + f.end) len (omega (arith, eight)) whole alike) stands)))
         ]
 
         -- So many bytes of the write are read.
         abbrev count : ℕ
-        count = w.end - from
+        count = f.end - from
 
         abbrev front_only : List ℕ
         front_only = overwritten shown at (take count asked)
 
-        reaches_there : at + count ≡ slot * size + w.end
+        reaches_there : at + count ≡ slot * size + f.end
         reaches_there = omega (arith, above, later)
 
-        below : (i : ℕ) → i < slot * size + w.end → get_or front_only i 0 ≡ get_or new i 0
+        below : (i : ℕ) → i < slot * size + f.end → get_or front_only i 0 ≡ get_or new i 0
         below i under = front_below shown at asked count i (omega (arith, under, reaches_there))
 
-        new_inside : slot * size + w.end ≤ length new
+        new_inside : slot * size + f.end ≤ length new
         new_inside =
             let whole = twenty sum size left (slot * size) (pos place) mark header in
-            path_inside sum size new (slot * size) place 20 met w.end
+            path_inside sum size new (slot * size) place 20 met f.end
             (in_this_file sum size new left (slot * size) 20 (omega arith) whole (sym same_header)) met_new
 
-        inside : slot * size + w.end ≤ length front_only
+        inside : slot * size + f.end ≤ length front_only
         inside = elim (cases_lt count (length asked)) [
-          | inr all ↦ subst (λ (l : List ℕ). slot * size + w.end ≤ length (overwritten shown at l)) (sym (take_all count asked all)) new_inside
+          | inr all ↦ subst (λ (l : List ℕ). slot * size + f.end ≤ length (overwritten shown at l)) (sym (take_all count asked all)) new_inside
           | inl less ↦ elim (cases_lt 0 count) [
             | inl more_bytes ↦ (
                 let long = length-take count asked in
@@ -283,27 +283,27 @@ module _ (sum : List ℕ → ℕ) (size : ℕ) (some : 256 ≤ size) (s : State)
             (λ i over under. below i (omega (arith, under, above, low))))
 
         front_alike : AlikeAlong new front_only (slot * size) 20 met
-        front_alike = alike_below sum size new front_only (slot * size) place w.end inside below 20 met w.end met_new (omega arith)
+        front_alike = alike_below sum size new front_only (slot * size) place f.end inside below 20 met f.end met_new (omega arith)
 
-        front_ends : IsEnd sum size front_only (slot * size) place w.end Broken
+        front_ends : IsEnd sum size front_only (slot * size) place f.end Broken
         unfolding EndsThere
         front_ends = (
           end_left.0,
-          zeros_empty sum size front_only (slot * size + w.end) (place / size)
-              (front_above shown at asked count (slot * size + w.end + 4) (omega (arith, reaches_there))
-              ∙ clean (slot * size + w.end + 4) (omega (arith, above, later)) (omega (arith, in_write))),
+          zeros_empty sum size front_only (slot * size + f.end) (place / size)
+              (front_above shown at asked count (slot * size + f.end + 4) (omega (arith, reaches_there))
+              ∙ w.clean (slot * size + f.end + 4) (omega (arith, above, later)) (omega (arith, in_write))),
         )
 
-        front_scan : IsScan sum size front_only (slot * size) place met w.end Broken
+        front_scan : IsScan sum size front_only (slot * size) place met f.end Broken
         unfolding IsScan
-        front_scan = (path_alike sum size new front_only (slot * size) place 20 met w.end met_new front_alike, front_ends)
+        front_scan = (path_alike sum size new front_only (slot * size) place 20 met f.end met_new front_alike, front_ends)
 
-        left_scan : IsScan sum size left (slot * size) place met w.end Broken
+        left_scan : IsScan sum size left (slot * size) place met f.end Broken
         unfolding IsScan
         left_scan = (met_left, end_left)
 
         front_slot : SlotReads sum size s shown at asked now left H least base slot front_only
-        front_slot = read_as_left front_only front_header met w.end Broken front_scan left_scan
+        front_slot = read_as_left front_only front_header met f.end Broken front_scan left_scan
             (alike_between new front_only left (slot * size) 20 met front_alike met_alike)
             (λ capped. absurd (let never : Broken ≡ Capped = capped in cc))
 
@@ -313,10 +313,10 @@ module _ (sum : List ℕ → ℕ) (size : ℕ) (some : 256 ≤ size) (s : State)
 
       by_front : ReadsFront
       unfolding EndsThere
-      by_front = elim w.how [
+      by_front = elim f.how [
         | inr (few, broken) ↦ (
-            let next = next_stands sum size new left (slot * size) place w.count w.end more stop few w.rest in
-            (w.end - from, front_slot broken next.0 next.1 next.2 next.3))
+            let next = next_stands sum size new left (slot * size) place f.count f.end more stop few f.rest in
+            (f.end - from, front_slot broken next.0 next.1 next.2 next.3))
         | inl (all, ends, alike) ↦ elim alike [
           | inl is ↦ (
             length asked,
@@ -328,7 +328,7 @@ module _ (sum : List ℕ → ℕ) (size : ℕ) (some : 256 ≤ size) (s : State)
               let is_end = subst (λ n. IsEnd sum size new (slot * size) place n Capped) (sym ends)
               (subst (IsEnd sum size new (slot * size) place stop) capped end) in
               let cap = is_end.1 in
-              (w.end - from, front_slot broken cap.0 cap.1 cap.2 cap.3))
+              (f.end - from, front_slot broken cap.0 cap.1 cap.2 cap.3))
         ]
       ]
 

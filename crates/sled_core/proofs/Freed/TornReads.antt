@@ -1,6 +1,6 @@
 -- While the write of a buffer is under way: each content that a crash may leave of the log file reads as one that it could leave of what is shown with the same
 -- write under way, but for segments that are gone.
-use Rattle.std.proofs.Common.{◌≡◌, ◌≢◌, ◌⊎◌, ◌∙◌, ◌<◌, ◌+◌, ◌*◌, ◌/◌, ◌^◌, ◌≤◌, ℕ, ℤ, pos, false, List, ◌∷◌, length, take, get_or, refl, sym, ap, subst, arith, inl, inr, length-take}
+use Rattle.std.proofs.Common.{◌≡◌, ◌≢◌, ◌⊎◌, ◌∙◌, ◌+◌, ◌*◌, ◌/◌, ◌≤◌, ℕ, ℤ, pos, List, ◌∷◌, length, take, refl, sym, ap, subst, arith, inl, inr, length-take}
 use Rattle.std.proofs.Math.Nat.{mul-mod_left}
 use Rattle.std.proofs.lemmas.Bool.{cases_eq}
 use Rattle.sled_codec.specs.History.{History}
@@ -8,18 +8,19 @@ use Rattle.sled_codec.specs.Places.{part}
 use Rattle.sled_codec.specs.Record.{IsHeader}
 use Rattle.sled_codec.proofs.Segments.{one_header}
 use Rattle.sled_store.specs.Device.{LeavesLog, State, overwritten}
-use Rattle.sled_store.specs.Foreign.{HeaderWasPlaced, NoForeignLog, RecordWasPlaced}
-use Rattle.sled_store.specs.SegmentStates.{Machine, is_free, slot_at}
+use Rattle.sled_store.specs.Foreign.{NoForeignLog}
+use Rattle.sled_store.specs.SegmentStates.{Machine}
 use Rattle.sled_core.specs.Begun.{SegmentView}
 use Rattle.sled_core.specs.Recoverable.{NoHeaderOfZeros}
 use Rattle.sled_core.specs.inside.Cleared.{cleared}
-use Rattle.sled_core.specs.inside.Hides.{Hides, IsGoneSegment, ReadsShown}
-use Rattle.sled_core.specs.inside.OwnLog.{HasOwnSlot, ReadsOwn}
+use Rattle.sled_core.specs.inside.Hides.{IsGoneSegment}
+use Rattle.sled_core.specs.inside.OwnLog.{ReadsOwn}
 use Rattle.sled_core.specs.inside.Slots.{marked_at}
 use Rattle.sled_core.proofs.Freed.BesideReads.{beside_write, header_beside, left_as_old}
 use Rattle.sled_core.proofs.Freed.FrontWritten.{PlacedHeader, PlacedRecord, beside_reads_own, front_leaves, none_foreign_behind}
 use Rattle.sled_core.proofs.Freed.GoneAlone.{HeadersOwnBelow}
-use Rattle.sled_core.proofs.Freed.LeftOwn.{PlacesNumber, header_shown, header_where, shown_or_asked}
+use Rattle.sled_core.proofs.Freed.Known.{LeavesOwn, WritesSlot}
+use Rattle.sled_core.proofs.Freed.LeftOwn.{header_shown, header_where, shown_or_asked}
 use Rattle.sled_core.proofs.Freed.LeftRecovers.{ReadsBy}
 use Rattle.sled_core.proofs.Freed.ReadsAlike.{ReadsAlike, alike_joined, reads_as}
 use Rattle.sled_core.proofs.Freed.ReadsAs.{both_alike, shown_kept}
@@ -41,18 +42,9 @@ pub record LeftReads (sum : List ℕ → ℕ) (size : ℕ) (s : State) (shown : 
   pub own : NoForeignLog sum size (after_write shown at asked now) (asked_now at asked ∷ s.placed) (overwritten shown at (take n asked))
   pub reads : ReadsBy sum size s shown least base H (overwritten shown at (take n asked)) left
 
-module _ (sum : List ℕ → ℕ) (none : NoHeaderOfZeros sum) (size : ℕ) (some : 256 ≤ size) (s : State) (m : Machine) (line : List SegmentView) (least base : ℕ)
-    (H : History)
-    (hides : Hides sum size s m line least base H) (reads : ReadsShown sum size m (cleared size m line s.log.bytes) s.log.bytes)
-    (own_shown : (slot : ℕ) → HasOwnSlot sum size (HeaderWasPlaced s.placed) (RecordWasPlaced sum size s.placed) (cleared size m line s.log.bytes) slot)
-    (slot from : ℕ) (asked : List ℕ) (inside : from + length asked ≤ size)
-    (place : ℕ) (reach : slot * size + size < 2 ^ 64) (taken : is_free (slot_at m slot).state ≡ false) (its : (slot_at m slot).lsn ≡ place)
-    (held : base ≤ place) (places : PlacesNumber sum size (slot * size + from) asked (place / size))
-    (until : ℕ) (covers : from + length asked ≤ until)
-    (clean : (i : ℕ) → slot * size + from ≤ i → i < slot * size + until → get_or (cleared size m line s.log.bytes) i 0 ≡ 0)
-    (lies : LiesIn sum size (cleared size m line s.log.bytes) slot from asked place until)
-    (reads_after : ReadsShown sum size m (overwritten (cleared size m line s.log.bytes) (slot * size + from) asked)
-    (overwritten s.log.bytes (slot * size + from) asked)) where
+module _ {sum : List ℕ → ℕ} (none : NoHeaderOfZeros sum) {size : ℕ} {s : State} {m : Machine} {line : List SegmentView} {least base : ℕ} {H : History}
+    {slot from : ℕ} {asked : List ℕ} {place until : ℕ} (w : WritesSlot sum size s m line least base H slot from asked place until)
+    (lies : LiesIn sum size (cleared size m line s.log.bytes) slot from asked place until) where
   abbrev log : List ℕ
   log = s.log.bytes
 
@@ -62,29 +54,29 @@ module _ (sum : List ℕ → ℕ) (none : NoHeaderOfZeros sum) (size : ℕ) (som
   abbrev at : ℕ
   at = slot * size + from
 
-  module _ (now left : List ℕ) (no_more : length now ≤ length asked) (leaves : LeavesLog (after_write log at asked now) left)
-      (only_own : NoForeignLog sum size (after_write log at asked now) (asked_now at asked ∷ s.placed) left) where
+  some : 256 ≤ size
+  some = w.known.some
+
+  module _ {now left : List ℕ} (l : LeavesOwn sum size s at asked now left) where
     abbrev Slot : ℕ → Type 0
     Slot n = SlotReads sum size s shown at asked now left H least base slot (overwritten shown at (take n asked))
 
     in_slot : (n : ℕ) × Slot n
-    in_slot = write_slot sum none size some s m line least base H hides reads slot from asked now left inside no_more leaves
-        only_own place reach taken its held places
-        (own_shown slot) until covers clean reads_after lies
+    in_slot = write_slot none w l lies
 
     -- Each slot lies beside the write, or is its slot.
     beside : (k : ℕ) → k ≢ slot → (k * size + size ≤ at) ⊎ (at + length asked ≤ k * size)
-    beside k other = beside_write sum size some log slot from asked now left inside no_more leaves k other
+    beside k other = beside_write sum size some log slot from asked now left w.inside l.no_more l.leaves k other
 
     -- A segment that is shown in another one is read in what is left as it is shown: what is own of it there is shown.
     shown_as_left : (k : ℕ) → k ≢ slot → (p : ℕ) (mark : ℤ) → IsHeader sum (part shown (k * size) 20) (pos p) mark → ReadsAlike sum size shown left k p
     shown_as_left k other p mark is = both_alike sum size shown left k p same_header
-        (shown_kept sum size m shown log reads k p mark is left same) (λ here room comes h body len stands.
+        (shown_kept sum size m shown log w.known.reads k p mark is left same) (λ here room comes h body len stands.
         let fits = in_segment sum size left (k * size) (mul-mod_left k size) here (p / size) h body len (omega (arith, room)) stands in
         let whole = all_there sum size left (k * size + here) (p / size) h body len stands in
         let eight = long_enough sum size left (k * size + here) (p / size) h body len stands in
-        let slots = reads.slots k p mark is in
-        elim (shown_or_asked sum size s m line least base H hides at asked now left only_own k p mark in_left slots.0 slots.1
+        let slots = w.known.reads.slots k p mark is in
+        elim (shown_or_asked sum size s m line least base H w.known.hides at asked now left l.only_own k p mark in_left slots.0 slots.1
         here comes room h body len stands) [
           | inl shows ↦ shows
           | inr covers ↦ (
@@ -93,17 +85,17 @@ module _ (sum : List ℕ → ℕ) (none : NoHeaderOfZeros sum) (size : ℕ) (som
               absurd (elim (beside k other) [ inl before ↦ omega (arith, before, begins, fits, eight) | inr past ↦ omega (arith, past, ends, whole, eight) ]))
         ]) where
           in_log : part log (k * size) 20 ≡ part shown (k * size) 20
-          in_log = reads.headers k p mark is
+          in_log = w.known.reads.headers k p mark is
 
           same_header : part left (k * size) 20 ≡ part shown (k * size) 20
-          same_header = header_beside sum size some log slot from asked now left inside no_more leaves k other (pos p) mark
+          same_header = header_beside sum size some log slot from asked now left w.inside l.no_more l.leaves k other (pos p) mark
               (subst (λ (l : List ℕ). IsHeader sum l (pos p) mark) (sym in_log) is) ∙ in_log
 
           in_left : IsHeader sum (part left (k * size) 20) (pos p) mark
           in_left = subst (λ (l : List ℕ). IsHeader sum l (pos p) mark) (sym same_header) is
 
           same : SameIn size log left k
-          same lid len low high there = part_left log at asked now left no_more leaves lid len there
+          same lid len low high there = part_left log at asked now left l.no_more l.leaves lid len there
               (elim (beside k other) [ inl before ↦ inl (omega (arith, before, high)) | inr past ↦ inr (omega (arith, past, low)) ])
 
     -- A header in another one isn't that with which the write begins.
@@ -116,7 +108,7 @@ module _ (sum : List ℕ → ℕ) (none : NoHeaderOfZeros sum) (size : ℕ) (som
 
     -- Each header was own, or is that of the segment that the write begins.
     headed : HeadersOwnBelow sum size s base left
-    headed k p mark is = elim (header_where sum size s m line least base H hides at asked now left only_own k p mark is) [
+    headed k p mark is = elim (header_where sum size s m line least base H w.known.hides at asked now left l.only_own k p mark is) [
       | inl its ↦ inl its
       | inr (here, new) ↦ elim (cases_eq k slot) [
         | inr other ↦ absurd (not_beside k p mark other is here new)
@@ -125,6 +117,7 @@ module _ (sum : List ℕ → ℕ) (none : NoHeaderOfZeros sum) (size : ℕ) (som
           | inl b ↦ inr (
               let its_place = pos_injective p place (one_header sum (part left (k * size) 20) (pos p) mark (pos place) b.mark is
               (subst (λ (l : List ℕ). IsHeader sum l (pos place) b.mark) new b.header)).0 in
+              let held = w.held in
               omega (arith, its_place, held))
         ]
       ]
@@ -140,14 +133,13 @@ module _ (sum : List ℕ → ℕ) (none : NoHeaderOfZeros sum) (size : ℕ) (som
       -- Each header that is shown stands there.
       header_stays : (k p : ℕ) (mark : ℤ) → IsHeader sum (part shown (k * size) 20) (pos p) mark → part front (k * size) 20 ≡ part shown (k * size) 20
       header_stays k p mark is = elim (cases_eq k slot) [
-        | inr other ↦ header_beside sum size some shown slot from asked now front inside no_more leaves_front k other (pos p) mark is
+        | inr other ↦ header_beside sum size some shown slot from asked now front w.inside l.no_more leaves_front k other (pos p) mark is
         | inl same ↦ subst (λ j. part front (j * size) 20 ≡ part shown (j * size) 20) (sym same)
             (here (subst (λ j. IsHeader sum (part shown (j * size) 20) (pos p) mark) same is))
       ] where
         here : IsHeader sum (part shown (slot * size) 20) (pos p) mark → part front (slot * size) 20 ≡ part shown (slot * size) 20
         here header = elim (begins_or_behind sum size shown slot from asked place until lies) [
-          | inl b ↦ absurd (none_shown sum none size some s m line least base H hides reads slot from asked now left inside no_more leaves
-              only_own place reach taken its held places (own_shown slot) until covers clean reads_after b (pos p) mark header)
+          | inl b ↦ absurd (none_shown none w l b (pos p) mark header)
           | inr behind ↦ (
               let there = in_this_file sum size shown shown (slot * size) 20 (omega arith) (twenty sum size shown (slot * size) (pos p) mark header) refl in
               part_kept sum size shown at (take n asked) (slot * size) 20 there (inl (omega (arith, behind))))
@@ -157,7 +149,7 @@ module _ (sum : List ℕ → ℕ) (none : NoHeaderOfZeros sum) (size : ℕ) (som
       own_slot k = elim (cases_eq k slot) [
         | inl same ↦ subst (ReadsOwn sum size (PlacedHeader sum size s shown at asked now) (PlacedRecord sum size s shown at asked now) front)
             (sym same) its_slot.own
-        | inr other ↦ beside_reads_own sum size s shown at asked now (omega (arith, some)) k (own_shown k) (take n asked) (elim (beside k other) [
+        | inr other ↦ beside_reads_own sum size s shown at asked now (omega (arith, some)) k (w.known.own k) (take n asked) (elim (beside k other) [
           | inl before ↦ inl before
           | inr past ↦ inr (omega (arith, past, length-take n asked))
         ])
@@ -171,7 +163,7 @@ module _ (sum : List ℕ → ℕ) (none : NoHeaderOfZeros sum) (size : ℕ) (som
         | inl same ↦ subst (λ j. ReadsAlike sum size front left j p) (sym same)
             (its_slot.reads p mark (subst (λ j. IsHeader sum (part front (j * size) 20) (pos p) mark) same is))
         | inr other ↦ (
-            let first = left_as_old sum size some shown slot from asked now front inside no_more leaves_front k other own_front p mark is in
+            let first = left_as_old sum size some shown slot from asked now front w.inside l.no_more leaves_front k other own_front p mark is in
             let is_shown = subst (λ (l : List ℕ). IsHeader sum l (pos p) mark) (sym first.header) is in
             alike_joined sum size front shown left k p first (shown_as_left k other p mark is_shown))
       ]
@@ -182,10 +174,10 @@ module _ (sum : List ℕ → ℕ) (none : NoHeaderOfZeros sum) (size : ℕ) (som
         | inl same ↦ subst (λ j. IsHeader sum (part front (j * size) 20) (pos p) mark ⊎ IsGoneSegment sum size left H base (marked_at (j * size) p mark))
             (sym same)
             (its_slot.others p mark low (subst (λ j. IsHeader sum (part left (j * size) 20) (pos p) mark) same is))
-        | inr other ↦ elim (header_shown sum size s m line least base H hides at asked now left only_own
-            (omega (arith, some)) place held places k p mark low is) [
+        | inr other ↦ elim (header_shown sum size s m line least base H w.known.hides at asked now left l.only_own
+            (omega (arith, some)) place w.held w.places k p mark low is) [
               | inl shows ↦ inl (subst (λ (l : List ℕ). IsHeader sum l (pos p) mark)
-                  (sym (header_beside sum size some shown slot from asked now front inside no_more leaves_front k other (pos p) mark shows)) shows)
+                  (sym (header_beside sum size some shown slot from asked now front w.inside l.no_more leaves_front k other (pos p) mark shows)) shows)
               | inr (inl gone) ↦ inr gone
               | inr (inr (here, new)) ↦ absurd (not_beside k p mark other is here new)
             ]

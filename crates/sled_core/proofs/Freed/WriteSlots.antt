@@ -1,14 +1,14 @@
 -- A write of a buffer to the slot of its segment, wherever it lies there: what a crash leaves of it reads in the slot as what was shown, with as much of the
 -- write as a reader comes to.
-use Rattle.std.proofs.Common.{◌≡◌, ◌⊎◌, ◌∙◌, ◌<◌, ◌+◌, ◌-◌, ◌*◌, ◌/◌, ◌%◌, ◌^◌, ◌≤◌, ℕ, ℤ, pos, false, List, [], ◌∷◌, length, take, drop, get_or, refl, sym, ap, subst, arith, inl, inr, length-take}
+use Rattle.std.proofs.Common.{◌≡◌, ◌⊎◌, ◌∙◌, ◌<◌, ◌+◌, ◌-◌, ◌*◌, ◌/◌, ◌%◌, ◌≤◌, ℕ, ℤ, pos, List, [], length, take, drop, refl, sym, ap, subst, arith, inl, inr, length-take}
 use Rattle.std.proofs.Math.Nat.{mul-mod_left}
 use Rattle.sled_codec.specs.declared.serialization.message.MessageHeader.{MessageHeader}
 use Rattle.sled_codec.specs.History.{History}
 use Rattle.sled_codec.specs.Places.{part}
 use Rattle.sled_codec.specs.Record.{IsHeader}
-use Rattle.sled_store.specs.Device.{LeavesLog, State, overwritten}
-use Rattle.sled_store.specs.Foreign.{Covers, HeaderWasPlaced, IsWhole, NoForeignLog, RecordWasPlaced}
-use Rattle.sled_store.specs.SegmentStates.{Machine, is_free, slot_at}
+use Rattle.sled_store.specs.Device.{State, overwritten}
+use Rattle.sled_store.specs.Foreign.{Covers, IsWhole}
+use Rattle.sled_store.specs.SegmentStates.{Machine}
 use Rattle.sled_store.proofs.Crashes.ForeignLemmas.{take_again}
 use Rattle.sled_store.proofs.LogFile.LooseLemmas.{end_of-le}
 use Rattle.sled_store.proofs.LogFile.OverwrittenLemmas.{length-overwritten}
@@ -21,17 +21,14 @@ use Rattle.sled_core.specs.declared.iterator.scan.ScanEnd.TheVariants.{Full, Bro
 use Rattle.sled_core.specs.Reading.{StandsAt}
 use Rattle.sled_core.specs.Scan.{IsEnd, IsPath, IsScan}
 use Rattle.sled_core.specs.inside.Cleared.{cleared}
-use Rattle.sled_core.specs.inside.Hides.{Hides, ReadsShown}
-use Rattle.sled_core.specs.inside.OwnLog.{HasOwnSlot}
 use Rattle.sled_core.proofs.Freed.FrontWritten.{front_leaves}
-use Rattle.sled_core.proofs.Freed.LeftOwn.{PlacesNumber}
+use Rattle.sled_core.proofs.Freed.Known.{LeavesOwn, WritesSlot}
 use Rattle.sled_core.proofs.Freed.OwnAlike.{path_inside}
 use Rattle.sled_core.proofs.Freed.TornFront.{alike_between, front_reads}
 use Rattle.sled_core.proofs.Freed.TornUnread.{SlotReads, alike_before, header_left, header_same, headless_slot, unread_slot}
-use Rattle.sled_core.proofs.OwnLog.Placed.{asked_now}
 use Rattle.sled_core.proofs.Reached.LeftBeside.{alike_apart}
 use Rattle.sled_core.proofs.Tail.LogFileLemmas.{part_kept, part_laid}
-use Rattle.sled_core.proofs.Torn.TornLemmas.{after_write, part_left}
+use Rattle.sled_core.proofs.Torn.TornLemmas.{part_left}
 use Rattle.sled_core.proofs.Torn.TornRecords.{long_enough, record_read, same_or_not}
 use Rattle.sled_core.proofs.Torn.WrittenBegun.{none_in_zeros}
 use Rattle.sled_core.proofs.Torn.WrittenParts.{ComesTo, all_there, in_this_file, path_whole, twenty}
@@ -94,19 +91,9 @@ begins_or_behind sum size shown slot from asked place until (inr (inl f)) = inr 
 begins_or_behind sum size shown slot from asked place until (inr (inr (inl u))) = inr u.behind
 begins_or_behind sum size shown slot from asked place until (inr (inr (inr w))) = inr w.behind
 
-module _ (sum : List ℕ → ℕ) (none : NoHeaderOfZeros sum) (size : ℕ) (some : 256 ≤ size) (s : State) (m : Machine) (line : List SegmentView) (least base : ℕ)
-    (H : History)
-    (hides : Hides sum size s m line least base H) (reads : ReadsShown sum size m (cleared size m line s.log.bytes) s.log.bytes)
-    (slot from : ℕ) (asked now left : List ℕ) (inside : from + length asked ≤ size) (no_more : length now ≤ length asked)
-    (leaves : LeavesLog (after_write s.log.bytes (slot * size + from) asked now) left)
-    (only_own : NoForeignLog sum size (after_write s.log.bytes (slot * size + from) asked now) (asked_now (slot * size + from) asked ∷ s.placed) left)
-    (place : ℕ) (reach : slot * size + size < 2 ^ 64) (taken : is_free (slot_at m slot).state ≡ false) (its : (slot_at m slot).lsn ≡ place)
-    (held : base ≤ place) (places : PlacesNumber sum size (slot * size + from) asked (place / size))
-    (own_shown : HasOwnSlot sum size (HeaderWasPlaced s.placed) (RecordWasPlaced sum size s.placed) (cleared size m line s.log.bytes) slot)
-    (until : ℕ) (covers : from + length asked ≤ until)
-    (clean : (i : ℕ) → slot * size + from ≤ i → i < slot * size + until → get_or (cleared size m line s.log.bytes) i 0 ≡ 0)
-    (reads_after : ReadsShown sum size m (overwritten (cleared size m line s.log.bytes) (slot * size + from) asked)
-    (overwritten s.log.bytes (slot * size + from) asked)) where
+module _ {sum : List ℕ → ℕ} (none : NoHeaderOfZeros sum) {size : ℕ} {s : State} {m : Machine} {line : List SegmentView} {least base : ℕ} {H : History}
+    {slot from : ℕ} {asked : List ℕ} {place until : ℕ} (w : WritesSlot sum size s m line least base H slot from asked place until) {now left : List ℕ}
+    (l : LeavesOwn sum size s (slot * size + from) asked now left) where
   abbrev log : List ℕ
   log = s.log.bytes
 
@@ -125,6 +112,9 @@ module _ (sum : List ℕ → ℕ) (none : NoHeaderOfZeros sum) (size : ℕ) (som
   aligned : slot * size % size ≡ 0
   aligned = mul-mod_left slot size
 
+  covers : from + length asked ≤ until
+  covers = w.covers
+
   -- What is read behind the write, where all of it is done, stands in what is left.
   behind_kept : (mark : ℤ) → IsHeader sum (part new (slot * size) 20) (pos place) mark → (here : ℕ) → until ≤ here → here + 32 ≤ size
       → ComesTo sum size new (slot * size) place here → (h : MessageHeader) (body : List ℕ) (len : ℕ)
@@ -132,14 +122,14 @@ module _ (sum : List ℕ → ℕ) (none : NoHeaderOfZeros sum) (size : ℕ) (som
       → part left (slot * size + here) len ≡ part new (slot * size + here) len
   behind_kept mark header here far room comes h body len stands =
       let lid : ℕ = slot * size + here in
-      let same = reads_after.records slot place mark here len header
+      let same = w.reads_after.records slot place mark here len header
       (record_read sum size new (record { place = place; slot = slot * size }) aligned (place / size) 20 here h body len room stands comes) in
       let eight = long_enough sum size new lid (place / size) h body len stands in
       let whole = all_there sum size new lid (place / size) h body len stands in
       let in_new = in_this_file sum size (overwritten log at asked) new lid len (omega (arith, eight)) whole same in
       let there : lid + len ≤ length log =
       omega (arith, in_new, eight, far, covers, length-overwritten log at asked, end_of-le at (length asked) (length asked) (omega arith)) in
-      part_left log at asked now left no_more leaves lid len there (inr (omega (arith, far, covers)))
+      part_left log at asked now left l.no_more l.leaves lid len there (inr (omega (arith, far, covers)))
       ∙ sym (part_kept sum size log at asked lid len there (inr (omega (arith, far, covers)))) ∙ same
 
   -- It begins the segment.
@@ -151,7 +141,8 @@ module _ (sum : List ℕ → ℕ) (none : NoHeaderOfZeros sum) (size : ℕ) (som
     long = omega (arith, twenty sum size asked 0 (pos place) b.mark b.header, length-take 20 asked)
 
     pub none_shown : (lsn mark : ℤ) → IsHeader sum (part shown (slot * size) 20) lsn mark → ⊥
-    none_shown = none_in_zeros sum until none (omega (arith, long, covers)) shown (slot * size) (λ i above below. clean i (omega (arith, above, begins)) below)
+    none_shown = none_in_zeros sum until none (omega (arith, long, covers)) shown (slot * size)
+        (λ i above below. w.clean i (omega (arith, above, begins)) below)
 
     header_new : part new (slot * size) 20 ≡ take 20 asked
     header_new = ap (λ n. part new n 20) (sym (let same : at + 0 ≡ slot * size = omega (arith, begins) in same))
@@ -171,9 +162,8 @@ module _ (sum : List ℕ → ℕ) (none : NoHeaderOfZeros sum) (size : ℕ) (som
           same = ap (λ n. part asked n (length (part left (slot * size) 20))) back ∙ ap (λ n. part asked 0 n) whole ∙ sym same;
         } in
         let on = b.on in
-        front_reads sum size some s m line least base H hides slot from asked now left only_own place reach taken its b.mark header
-        ((only_own.headers slot (pos place) b.mark header).0, inr ((at, asked), in_first (at, asked) [], its_covers))
-        until covers clean (same ∙ sym header_new) 20 (omega arith) (let first = b.begins in omega (arith, first))
+        front_reads w l b.mark header ((l.only_own.headers slot (pos place) b.mark header).0, inr ((at, asked), in_first (at, asked) [], its_covers))
+        (same ∙ sym header_new) 20 (omega arith) (let first = b.begins in omega (arith, first))
         (λ first. absurd (let zero_from = b.begins in omega (arith, first, zero_from))) [] refl tt on.more on.stop on.why on.clear on.path on.end
         (behind_kept b.mark in_new)
 
@@ -182,8 +172,7 @@ module _ (sum : List ℕ → ℕ) (none : NoHeaderOfZeros sum) (size : ℕ) (som
       | inl same ↦ begun same
       | inr other ↦ (
         0,
-        headless_slot sum size some s m line least base H hides slot from asked now left only_own place held places own_shown none_shown
-            (λ here is. other (sym is)),
+        headless_slot w l none_shown (λ here is. other (sym is)),
       )
     ]
 
@@ -196,32 +185,28 @@ module _ (sum : List ℕ → ℕ) (none : NoHeaderOfZeros sum) (size : ℕ) (som
     new_header = part_kept sum size shown at asked (slot * size) 20 shown_inside (inl (let low = f.behind in omega (arith, low)))
 
     left_same : part left (slot * size) 20 ≡ part shown (slot * size) 20
-    left_same = header_same sum size some s m line least base H hides slot from asked now left only_own place held places own_shown reads inside no_more
-        leaves f.behind f.mark f.header
+    left_same = header_same w l f.behind f.mark f.header
 
     left_header : IsHeader sum (part left (slot * size) 20) (pos place) f.mark
-    left_header = header_left sum size some s m line least base H hides slot from asked now left only_own place held places own_shown reads inside no_more
-        leaves f.behind f.mark f.header
+    left_header = header_left w l f.behind f.mark f.header
 
     kept : AlikeAlong shown left (slot * size) 20 f.met
-    kept = alike_before sum size some s m line least base H hides slot from asked now left only_own place held places own_shown reads inside no_more
-        leaves f.behind f.mark f.header f.met from (omega arith) f.before
+    kept = alike_before w l f.behind f.mark f.header f.met from (omega arith) f.before
 
     kept_new : AlikeAlong shown new (slot * size) 20 f.met
-    kept_new = alike_apart sum size some shown slot from asked asked new inside (omega arith) (front_leaves shown at asked asked asked (omega arith))
-        (slot * size) place aligned
-        20 f.met from (inl (omega arith)) f.before
+    kept_new = alike_apart sum size w.known.some shown slot from asked asked new w.inside (omega arith) (front_leaves shown at asked asked asked (omega arith))
+        (slot * size) place aligned 20 f.met from (inl (omega arith)) f.before
 
     follows_slot : (n : ℕ) × Reads (overwritten shown at (take n asked))
     unfolding IsWhole
     follows_slot =
         let on = f.on in
         let in_new = subst (λ (l : List ℕ). IsHeader sum l (pos place) f.mark) (sym new_header) f.header in
-        front_reads sum size some s m line least base H hides slot from asked now left only_own place reach taken its f.mark left_header (
-          (only_own.headers slot (pos place) f.mark left_header).0,
+        front_reads w l f.mark left_header (
+          (l.only_own.headers slot (pos place) f.mark left_header).0,
           inl (subst (λ (t : List ℕ). part shown (slot * size) (length t) ≡ t) (sym left_same) (take_again 20 (drop (slot * size) shown))),
         )
-        until covers clean (left_same ∙ sym new_header) from f.behind (omega arith)
+        (left_same ∙ sym new_header) from f.behind (omega arith)
         (λ first. path_inside sum size shown (slot * size) place 20 f.met from shown_inside f.before) f.met
         (path_whole sum size shown at asked (slot * size) place aligned 20 f.met from (inl (omega arith)) f.before)
         (alike_between shown new left (slot * size) 20 f.met kept_new kept) on.more on.stop on.why on.clear on.path on.end
@@ -231,13 +216,5 @@ module _ (sum : List ℕ → ℕ) (none : NoHeaderOfZeros sum) (size : ℕ) (som
   pub write_slot : LiesIn sum size shown slot from asked place until → (n : ℕ) × Reads (overwritten shown at (take n asked))
   write_slot (inl b) = begins_slot b
   write_slot (inr (inl f)) = follows_slot f
-  write_slot (inr (inr (inl u))) = (
-    0,
-    unread_slot sum size some s m line least base H hides slot from asked now left only_own place held places own_shown reads inside no_more leaves
-        u.behind u.mark u.header taken its u.met u.low u.why u.scan u.before u.stops,
-  )
-  write_slot (inr (inr (inr w))) = (
-    0,
-    headless_slot sum size some s m line least base H hides slot from asked now left only_own place held places own_shown w.none
-        (λ here is. absurd (let low = w.behind in omega (arith, here, low))),
-  )
+  write_slot (inr (inr (inl u))) = (0, unread_slot w l u.behind u.mark u.header u.met u.low u.why u.scan u.before u.stops)
+  write_slot (inr (inr (inr h))) = (0, headless_slot w l h.none (λ here is. absurd (let low = h.behind in omega (arith, here, low))))

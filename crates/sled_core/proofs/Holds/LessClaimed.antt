@@ -19,11 +19,18 @@ use Rattle.sled_core.specs.invariants.Recoverable.{Recoverable}
 use Rattle.sled_core.specs.invariants.Running.{Fits, Ready}
 use Rattle.sled_core.specs.inside.Running.{FitsIn, FitsLine, NamesFit}
 use Rattle.sled_core.proofs.Flush.Settled.{recoverable_less}
+use Rattle.sled_core.proofs.Holds.FitsAnew.{fits_anew}
 
 module _ (sum : List ℕ → ℕ) (size f lower : ℕ) (low : lower ≤ f) where
   -- Snapshots that pass a floor pass a lower one,
-  snapshots_low : (H : History) (snapshots : ℤ → Option (List ℕ)) (first : SnapshotModel) → AreRecoverableSnapshots sum size snapshots H f first → AreRecoverableSnapshots sum size snapshots H lower first
-  snapshots_low H snapshots first are = record { begins = are.begins; listed = are.listed; not_below = (let above = are.not_below in omega (arith, above, low)); active = are.active }
+  snapshots_low : (H : History) (snapshots : ℤ → Option (List ℕ)) (first : SnapshotModel)
+      → AreRecoverableSnapshots sum size snapshots H f first → AreRecoverableSnapshots sum size snapshots H lower first
+  snapshots_low H snapshots first are = record {
+    begins = are.begins;
+    listed = are.listed;
+    not_below = (let above = are.not_below in omega (arith, above, low));
+    active = are.active;
+  }
 
   -- whatever a crash leaves of them,
   names_low : (H : History) (names : NamesState) (first : SnapshotModel) → NamesFit sum size names H f first → NamesFit sum size names H lower first
@@ -45,7 +52,13 @@ module _ (sum : List ℕ → ℕ) (size f lower : ℕ) (low : lower ≤ f) where
     unfolding Recoverable
     recoverable_claimed content is =
         let fewer = recoverable_less sum size content H less A f le is in
-        record { first = fewer.first; cut = fewer.cut; snapshots = snapshots_low H content.snapshots fewer.first fewer.snapshots; log = fewer.log; blobs = fewer.blobs }
+        record {
+          first = fewer.first;
+          cut = fewer.cut;
+          snapshots = snapshots_low H content.snapshots fewer.first fewer.snapshots;
+          log = fewer.log;
+          blobs = fewer.blobs;
+        }
 
     -- and so can what a crash leaves,
     recovering_claimed : (device : State) → LeavesRecovering sum size H A f device → LeavesRecovering sum size H less lower device
@@ -84,7 +97,8 @@ module _ (sum : List ℕ → ℕ) (size f lower : ℕ) (low : lower ≤ f) where
 
 module _ (sum : List ℕ → ℕ) (H : History) (A less f lower : ℕ) (U : List Message) (le : less ≤ A) (low : lower ≤ f) where
   -- What segments fit they fit,
-  fits_in_claimed : (parts : LogParts) (behind : List SegmentParts) (reach pins : ℕ) → FitsIn sum parts behind reach pins H A f U → FitsIn sum parts behind reach pins H less lower U
+  fits_in_claimed : (parts : LogParts) (behind : List SegmentParts) (reach pins : ℕ) → FitsIn sum parts behind reach pins H A f U
+      → FitsIn sum parts behind reach pins H less lower U
   fits_in_claimed parts behind reach pins fits = record {
     holds = fits.holds;
     reached = fits.reached;
@@ -100,25 +114,16 @@ module _ (sum : List ℕ → ℕ) (H : History) (A less f lower : ℕ) (U : List
     left = (let stable = stable_below reach H.batches in recovering_claimed sum parts.size f lower low H stable stable (omega arith) parts.device fits.left);
   }
 
-  fits_line_claimed : (size : ℕ) (device : State) (fault : Option IoError) (line : List SegmentView) (reach pins : ℕ) → FitsLine sum size device fault line reach pins H A f U → FitsLine sum size device fault line reach pins H less lower U
+  fits_line_claimed : (size : ℕ) (device : State) (fault : Option IoError) (line : List SegmentView) (reach pins : ℕ)
+      → FitsLine sum size device fault line reach pins H A f U → FitsLine sum size device fault line reach pins H less lower U
   fits_line_claimed size device fault [] reach pins fits = fits
-  fits_line_claimed size device fault (v ∷ vs) reach pins fits = fits_in_claimed (log_parts size v.parts.site device fault v.parts.bytes v.parts.written_len v.parts.sealed v.parts.reserved) (map parts_in vs) reach pins fits
+  fits_line_claimed size device fault (v ∷ vs) reach pins fits =
+      fits_in_claimed (log_parts size v.parts.site device fault v.parts.bytes v.parts.written_len v.parts.sealed v.parts.reserved) (map parts_in vs) reach pins
+      fits
 
   -- and so does a log.
   pub fits_claimed : {D C : Type 0} (trace : D → Trace) (log : Log D C) → Fits trace sum log H A f U → Fits trace sum log H less lower U
   unfolding Fits
-  fits_claimed trace log fits = record {
-    shows = record {
-      reach = fits.shows.reach;
-      parts = fits_line_claimed log.config.config.segment_size (shown_of trace log) log.fault.kept (line_of log) fits.shows.reach log.pins fits.shows.parts;
-      batches = fits.shows.batches;
-      slots = fits.shows.slots;
-      whole = fits.shows.whole;
-      own = fits.shows.own;
-      account = fits.shows.account;
-      numbers = fits.shows.numbers;
-      in_slots = fits.shows.in_slots;
-    };
-    file = fits.file;
-    hides = fits.hides;
-  }
+  fits_claimed trace log fits =
+      fits_anew fits log.pins less lower
+      (fits_line_claimed log.config.config.segment_size (shown_of trace log) log.fault.kept (line_of log) fits.shows.reach log.pins fits.shows.parts)

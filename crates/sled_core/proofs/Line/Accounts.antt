@@ -7,10 +7,11 @@ use Rattle.std.proofs.lemmas.List.Elements.{filter-append}
 use Rattle.sled_codec.specs.History.{AddsMessage, ChangesPage, History, Message, begins_page}
 use Rattle.sled_codec.specs.Snapshots.{stable_place}
 use Rattle.sled_store.specs.Marks.{Completes, IsFormerState, IsNewPlace, info_of}
-use Rattle.sled_store.specs.Outdated.{AreInActive, AreOutdated, IsInActive, NamesNoOutdated, NoneShares}
+use Rattle.sled_store.specs.Outdated.{AreOutdated, NoneShares}
 use Rattle.sled_store.specs.SegmentStates.{Machine, MayMark, SlotState, handed_out, linked, replaced, slot_at}
 use Rattle.sled_store.specs.Tracked.{IsNoEntry, IsTracked}
 use Rattle.sled_store.specs.declared.segment.slot.CacheInfo.{CacheInfo}
+use Rattle.sled_store.specs.inside.Outdated.{AreInActive, IsInActive, NamesNoOutdated}
 use Rattle.sled_store.proofs.Histories.Ascending.{Ascends, filter_ascends, from_filter, in_first, in_rest, later_above}
 use Rattle.sled_store.proofs.Histories.TableParts.{earlier_below, split_at}
 use Rattle.sled_store.proofs.Marks.AccountSteps.{handed_out_account, linked_account, replaced_account, same_account}
@@ -47,7 +48,8 @@ apart_places a b apart = ⊎_elim (λ same. absurd (apart same.1)) (λ other. ot
 none_left : (place : ℕ) (U : List Message) → is_among (but_for place U) place ≡ false
 none_left place [] = refl
 none_left place (u ∷ U) = by (u.place == place) refl (none_left place U) where
-  by : (b : Bool) → (u.place == place) ≡ b → is_among (but_for place U) place ≡ false → is_among (if not b then u ∷ but_for place U else but_for place U) place ≡ false
+  by : (b : Bool) → (u.place == place) ≡ b → is_among (but_for place U) place ≡ false
+      → is_among (if not b then u ∷ but_for place U else but_for place U) place ≡ false
   by true same rest = rest
   by false other rest = ap (λ (b : Bool). b || is_among (but_for place U) place) other ∙ rest
 
@@ -70,12 +72,15 @@ module _ (H : History) (x : Message) where
       let p : Message → Bool = λ m. not (is_among (x ∷ U) m.place) in
       let q : Message → Bool = λ m. not (is_among U m.place) in
       let out : p x ≡ false = ap (λ (b : Bool). not (b || is_among U x.place)) (eq-eqb x.place x.place refl) in
-      let other : (y : Message) → y.place ≢ x.place → p y ≡ q y = λ y apart. ap (λ (b : Bool). not (b || is_among U y.place)) (apart_places x.place y.place (λ e. apart (sym e))) in
+      let other : (y : Message) → y.place ≢ x.place → p y ≡ q y =
+      λ y apart. ap (λ (b : Bool). not (b || is_among U y.place)) (apart_places x.place y.place (λ e. apart (sym e))) in
       ap (filter p) adds.new
       ∙ filter-append p adds.before (x ∷ adds.after)
       ∙ ap (λ (b : Bool). filter p adds.before ++ (if b then x ∷ filter p adds.after else filter p adds.after)) out
-      ∙ ap (λ (l : List Message). l ++ filter p adds.after) (filter_alike p q adds.before (λ y found. other y (let low = adds.lower y found in λ e. absurd (omega (arith, low, e)))))
-      ∙ ap (λ (l : List Message). filter q adds.before ++ l) (filter_alike p q adds.after (λ y found. other y (let high = adds.higher y found in λ e. absurd (omega (arith, high, e)))))
+      ∙ ap (λ (l : List Message). l ++ filter p adds.after)
+      (filter_alike p q adds.before (λ y found. other y (let low = adds.lower y found in λ e. absurd (omega (arith, low, e)))))
+      ∙ ap (λ (l : List Message). filter q adds.before ++ l)
+      (filter_alike p q adds.after (λ y found. other y (let high = adds.higher y found in λ e. absurd (omega (arith, high, e)))))
       ∙ sym (filter-append q adds.before adds.after)
       ∙ ap (filter q) (sym adds.old)
 
@@ -124,8 +129,10 @@ module _ (H : History) (x : Message) where
       new = ap (filter q) split
           ∙ filter-append q front (x ∷ back)
           ∙ ap (λ (b : Bool). filter q front ++ (if b then x ∷ filter q back else filter q back)) kept
-          ∙ ap (λ (l : List Message). l ++ x ∷ filter q back) (filter_alike q p front (λ y found. alike y (let low = lower y found in λ e. absurd (omega (arith, low, e)))))
-          ∙ ap (λ (l : List Message). filter p front ++ x ∷ l) (filter_alike q p back (λ y found. alike y (let high = higher y found in λ e. absurd (omega (arith, high, e)))));
+          ∙ ap (λ (l : List Message). l ++ x ∷ filter q back)
+          (filter_alike q p front (λ y found. alike y (let low = lower y found in λ e. absurd (omega (arith, low, e)))))
+          ∙ ap (λ (l : List Message). filter p front ++ x ∷ l)
+          (filter_alike q p back (λ y found. alike y (let high = higher y found in λ e. absurd (omega (arith, high, e)))));
       lower = λ y found. lower y (from_filter p front y found).0;
       higher = λ y found. higher y (from_filter p back y found).0;
       batches = refl;
@@ -133,12 +140,14 @@ module _ (H : History) (x : Message) where
 
 -- Accounts.
 
-module _ (sum : List ℕ → ℕ) (size : ℕ) (snapshots : ℤ → Option (List ℕ)) (H : History) (U : List Message) (m : Machine) (has : HasAccount sum size snapshots H U m) where
+module _ (sum : List ℕ → ℕ) (size : ℕ) (snapshots : ℤ → Option (List ℕ)) (H : History) (U : List Message) (m : Machine)
+    (has : HasAccount sum size snapshots H U m) where
   abbrev base : ℕ
   base = stable_place has.first.stable
 
   -- the account is that of the same messages
-  same_marked : (G : History) (V : List Message) → (without V G).messages ≡ (without U H).messages → AreOutdated size G m → AreInActive size m V → HasAccount sum size snapshots G V m
+  same_marked : (G : History) (V : List Message) → (without V G).messages ≡ (without U H).messages → AreOutdated size G m → AreInActive size m V
+      → HasAccount sum size snapshots G V m
   same_marked G V same outdated unmarked = record {
     first = has.first;
     begins = has.begins;
@@ -148,9 +157,11 @@ module _ (sum : List ℕ → ℕ) (size : ℕ) (snapshots : ℤ → Option (List
   }
 
   -- A message is completed that lies in an active segment, and names no blob that goes.
-  pub account_completed : (H' : History) (x : Message) → AddsMessage H x H' → NamesNoOutdated m x → IsInActive size m x → HasAccount sum size snapshots H' (x ∷ U) m
+  pub account_completed : (H' : History) (x : Message) → AddsMessage H x H' → NamesNoOutdated m x → IsInActive size m x
+      → HasAccount sum size snapshots H' (x ∷ U) m
   account_completed H' x adds none active =
-      same_marked H' (x ∷ U) (completed_same H x H' U adds) (completed_outdated size H x H' m adds none has.outdated) (in_active_more size m x U active has.unmarked)
+      same_marked H' (x ∷ U) (completed_same H x H' U adds) (completed_outdated size H x H' m adds none has.outdated)
+      (in_active_more size m x U active has.unmarked)
 
   pub account_noted : (H' : History) → H'.messages ≡ H.messages → HasAccount sum size snapshots H' U m
   account_noted H' same =
@@ -177,7 +188,8 @@ module _ (sum : List ℕ → ℕ) (size : ℕ) (snapshots : ℤ → Option (List
     unmarked = in_active_same size m n U U (subst (SameSegments m.slots) (sym slots) (λ j. same_segment (slot_at m j))) (λ e there. there) has.unmarked;
   }
 
-  module _ (some : 0 < size) (order : Ascends H.messages) (x : Message) (V : List Message) (takes : TakesMark H U x V) (may : MayMark size m (info_of x) []) where
+  module _ (some : 0 < size) (order : Ascends H.messages) (x : Message) (V : List Message) (takes : TakesMark H U x V)
+      (may : MayMark size m (info_of x) []) where
     abbrev marked : ChangesPage x.kind → Completes (without U H) x (without V H)
     marked changes = completes_marked H x U V order takes changes
 
@@ -197,13 +209,16 @@ module _ (sum : List ℕ → ℕ) (size : ℕ) (snapshots : ℤ → Option (List
       unmarked = in_active_same size m (linked size x.page (info_of x) m) U V (linked_same size m (info_of x) may.lies.taken x.page) fewer has.unmarked;
     }
 
-    pub account_replaced : ChangesPage x.kind → (old : List CacheInfo) → MayMark size m (info_of x) old → begins_page x.kind ≡ true → IsFormerState (without U H) x.page old → NoneShares H x old
+    pub account_replaced : ChangesPage x.kind → (old : List CacheInfo) → MayMark size m (info_of x) old → begins_page x.kind ≡ true
+        → IsFormerState (without U H) x.page old → NoneShares H x old
         → HasAccount sum size snapshots H V (replaced size x.page (info_of x) old m)
     account_replaced changes old may_old begins former none = record {
       first = has.first;
       begins = has.begins;
       account = replaced_account size base (without U H) m some ordered has.account x (without V H) (marked changes) may old begins former;
       outdated = replaced_outdated size H m order x takes.there begins old
-          (former_there H (without U H) x.page old (λ e there. (from_filter (λ (y : Message). not (is_among U y.place)) H.messages e there).0) former) none may_old has.outdated;
-      unmarked = in_active_same size m (replaced size x.page (info_of x) old m) U V (replaced_segments size x.page (info_of x) old m may_old) fewer has.unmarked;
+          (former_there H (without U H) x.page old (λ e there. (from_filter (λ (y : Message). not (is_among U y.place)) H.messages e there).0) former) none
+          may_old has.outdated;
+      unmarked = in_active_same size m (replaced size x.page (info_of x) old m) U V (replaced_segments size x.page (info_of x) old m may_old) fewer
+          has.unmarked;
     }

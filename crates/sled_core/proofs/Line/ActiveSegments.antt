@@ -10,8 +10,8 @@ use Rattle.sled_codec.specs.Pointers.{lid_of}
 use Rattle.sled_codec.specs.Snapshots.{SnapshotModel, stable_place}
 use Rattle.sled_store.specs.Device.{State}
 use Rattle.sled_store.specs.Marks.{slot_with}
-use Rattle.sled_store.specs.Outdated.{IsInActive}
 use Rattle.sled_store.specs.SegmentStates.{Machine, is_active, slot_at}
+use Rattle.sled_store.specs.inside.Outdated.{IsInActive}
 use Rattle.sled_store.proofs.Names.OneBegin.{one_begin}
 use Rattle.sled_core.specs.declared.iobuf.Reserved.{Reserved}
 use Rattle.sled_core.specs.Begun.{SegmentView}
@@ -69,7 +69,8 @@ module _ (sum : List ℕ → ℕ) (size : ℕ) (device : State) (fault : Option 
         } where
           here : slot_with size x ≡ slot.number
           here =
-              ap (λ (y : Message). lid_of y.pointer / size) is ∙ ap (λ n. n / size) (lid_as r.blob (v.parts.site.slot + r.from) ∙ ap (λ n. n + r.from) slot.lies)
+              ap (λ (y : Message). lid_of y.pointer / size) is
+              ∙ ap (λ n. n / size) (lid_as r.blob (v.parts.site.slot + r.from) ∙ ap (λ n. n + r.from) slot.lies)
               ∙ div-mul-add slot.number size r.from inside
 
           place : x.place ≡ v.parts.site.place + r.from

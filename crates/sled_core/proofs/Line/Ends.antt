@@ -8,8 +8,8 @@ use Rattle.sled_codec.specs.History.{Batch, AddsMessage, History, Message}
 use Rattle.sled_codec.specs.Snapshots.{stable_place}
 use Rattle.sled_store.specs.Foreign.{HeaderWasPlaced, RecordWasPlaced}
 use Rattle.sled_store.specs.Device.{State}
-use Rattle.sled_store.specs.Outdated.{NamesNoOutdated}
 use Rattle.sled_store.specs.SegmentStates.{Machine}
+use Rattle.sled_store.specs.inside.Outdated.{NamesNoOutdated}
 use Rattle.sled_core.specs.Logged.{logged, in_log}
 use Rattle.sled_core.specs.Manifests.{is_manifest}
 use Rattle.sled_core.specs.declared.iobuf.ReservationState.TheVariants.{Open, Canceled, Completed}
@@ -53,9 +53,14 @@ use Rattle.sled_core.proofs.Line.Accounts.{account_completed}
 use Rattle.sled_core.proofs.Line.ActiveSegments.{inside_segment, lies_active}
 
 -- What the one that is set has as the one before it had it, each has as before.
-pub set_keeps : {T X : Type 0} (f : T → X) (xs : List T) (n : ℕ) (x y : T) → slice_get xs n ≡ Some x → f y ≡ f x → (k : ℕ) (a b : T) → slice_get xs k ≡ Some a → slice_get (set xs n y) k ≡ Some b → f b ≡ f a
+pub set_keeps : {T X : Type 0} (f : T → X) (xs : List T) (n : ℕ) (x y : T) → slice_get xs n ≡ Some x → f y ≡ f x → (k : ℕ) (a b : T) → slice_get xs k ≡ Some a
+    → slice_get (set xs n y) k ≡ Some b → f b ≡ f a
 set_keeps f [] n x y there same k a b at_a at_b = cc
-set_keeps f (z ∷ zs) zero x y there same zero a b at_a at_b = let is_x : z ≡ x = cc in let is_a : z ≡ a = cc in let is_b : y ≡ b = cc in sym (ap f is_b) ∙ same ∙ sym (ap f is_x) ∙ ap f is_a
+set_keeps f (z ∷ zs) zero x y there same zero a b at_a at_b =
+    let is_x : z ≡ x = cc in
+    let is_a : z ≡ a = cc in
+    let is_b : y ≡ b = cc in
+    sym (ap f is_b) ∙ same ∙ sym (ap f is_x) ∙ ap f is_a
 set_keeps f (z ∷ zs) zero x y there same (suc k) a b at_a at_b = let both : a ≡ b = cc in sym (ap f both)
 set_keeps f (z ∷ zs) (suc n) x y there same zero a b at_a at_b = let both : a ≡ b = cc in sym (ap f both)
 set_keeps f (z ∷ zs) (suc n) x y there same (suc k) a b at_a at_b = set_keeps f zs n x y there same k a b at_a at_b
@@ -69,22 +74,30 @@ module _ (sum : List ℕ → ℕ) (size : ℕ) (device : State) (fault : Option 
   parts_of v = log_parts size v.parts.site device fault v.parts.bytes v.parts.written_len v.parts.sealed v.parts.reserved
 
   -- Each of the segments that hold a history holds a part of it, with all batches.
-  pub with_part : {P : Type 0} (line : List SegmentView) (n : ℕ) (v : SegmentView) (H : History) → HoldsLine sum size device fault line H → slice_get line n ≡ Some v
+  pub with_part : {P : Type 0} (line : List SegmentView) (n : ℕ) (v : SegmentView) (H : History) → HoldsLine sum size device fault line H
+      → slice_get line n ≡ Some v
       → ((stays : Message → Type 0) (own : List Message) → HoldsSegment sum (parts_of v) stays (record { messages = own; batches = H.batches }) → P) → P
   with_part [] n v H holds there go = cc
   with_part {P} (w ∷ ws) zero v H holds there go =
       let same : w ≡ v = cc in
-      subst (λ (x : SegmentView). ((stays : Message → Type 0) (own : List Message) → HoldsSegment sum (parts_of x) stays (record { messages = own; batches = H.batches }) → P) → P) same (λ given. given _ holds.head holds.own) go
+      subst (λ (x : SegmentView).
+      ((stays : Message → Type 0) (own : List Message) → HoldsSegment sum (parts_of x) stays (record { messages = own; batches = H.batches }) → P) → P) same
+      (λ given. given _ holds.head holds.own) go
   with_part {P} (w ∷ ws) (suc k) v H holds there go =
-      let its : HoldsIn sum (parts_of w) (map parts_in (take k ws) ++ v.parts ∷ map parts_in (drop (suc k) ws)) H = subst (λ (l : List SegmentParts). HoldsIn sum (parts_of w) l H) (parts_split ws k v there) holds in
-      go _ _ (held_here sum size w.parts.site device fault w.parts.bytes w.parts.written_len w.parts.sealed w.parts.reserved H (map parts_in (take k ws)) v.parts (map parts_in (drop (suc k) ws)) its).segment
+      let its : HoldsIn sum (parts_of w) (map parts_in (take k ws) ++ v.parts ∷ map parts_in (drop (suc k) ws)) H =
+      subst (λ (l : List SegmentParts). HoldsIn sum (parts_of w) l H) (parts_split ws k v there) holds in
+      go _ _ (held_here sum size w.parts.site device fault w.parts.bytes w.parts.written_len w.parts.sealed w.parts.reserved H (map parts_in (take k ws))
+      v.parts (map parts_in (drop (suc k) ws)) its).segment
 
-  pub with_segment : {P : Type 0} (line : List SegmentView) (n : ℕ) (v : SegmentView) (H : History) → HoldsLine sum size device fault line H → slice_get line n ≡ Some v
+  pub with_segment : {P : Type 0} (line : List SegmentView) (n : ℕ) (v : SegmentView) (H : History) → HoldsLine sum size device fault line H
+      → slice_get line n ≡ Some v
       → ((stays : Message → Type 0) (own : History) → HoldsSegment sum (parts_of v) stays own → P) → P
-  with_segment line n v H holds there go = with_part line n v H holds there (λ stays own segment. go stays (record { messages = own; batches = H.batches }) segment)
+  with_segment line n v H holds there go =
+      with_part line n v H holds there (λ stays own segment. go stays (record { messages = own; batches = H.batches }) segment)
 
   -- Segments that fit a history hold it.
-  pub line_holds : (line : List SegmentView) (reach pins : ℕ) (H : History) (A f : ℕ) (U : List Message) → FitsLine sum size device fault line reach pins H A f U → HoldsLine sum size device fault line (logged H)
+  pub line_holds : (line : List SegmentView) (reach pins : ℕ) (H : History) (A f : ℕ) (U : List Message)
+      → FitsLine sum size device fault line reach pins H A f U → HoldsLine sum size device fault line (logged H)
   line_holds [] reach pins H A f U fits = fits
   line_holds (v ∷ vs) reach pins H A f U fits = fits.holds
 
@@ -100,125 +113,179 @@ module _ (sum : List ℕ → ℕ) (size : ℕ) (device : State) (fault : Option 
     m = message_in v.parts.site v.parts.bytes r
 
     -- It is aborted: the segments hold what they held.
-    pub abort_holds : (line : List SegmentView) (n : ℕ) {place : ℕ} (H : History) → slice_get line n ≡ Some v → IsSegment size place v → HoldsLine sum size device fault line H → HoldsLine sum size device fault (set line n canceled) H
+    pub abort_holds : (line : List SegmentView) (n : ℕ) {place : ℕ} (H : History) → slice_get line n ≡ Some v → IsSegment size place v
+        → HoldsLine sum size device fault line H → HoldsLine sum size device fault (set line n canceled) H
     abort_holds [] n H there facts holds = cc
     abort_holds (w ∷ ws) zero H there facts holds =
         let same : w ≡ v = cc in
         let its : HoldsLine sum size device fault (v ∷ ws) H = subst (λ (x : SegmentView). HoldsLine sum size device fault (x ∷ ws) H) same holds in
-        holds-aborted sum size v.parts.site device fault v.parts.bytes v.parts.written_len v.parts.sealed v.parts.reserved H its i r at is_open (written_inside v facts) facts.are _ _ _ _ refl refl refl refl
+        holds-aborted sum size v.parts.site device fault v.parts.bytes v.parts.written_len v.parts.sealed v.parts.reserved H its i r at is_open
+        (written_inside v facts) facts.are _ _ _ _ refl refl refl refl
     abort_holds (w ∷ ws) (suc k) H there facts holds =
-        let its : HoldsIn sum (parts_of w) (map parts_in (take k ws) ++ v.parts ∷ map parts_in (drop (suc k) ws)) H = subst (λ (l : List SegmentParts). HoldsIn sum (parts_of w) l H) (parts_split ws k v there) holds in
+        let its : HoldsIn sum (parts_of w) (map parts_in (take k ws) ++ v.parts ∷ map parts_in (drop (suc k) ws)) H =
+        subst (λ (l : List SegmentParts). HoldsIn sum (parts_of w) l H) (parts_split ws k v there) holds in
         subst (λ (l : List SegmentParts). HoldsIn sum (parts_of w) l H) (sym (parts_set ws k v canceled there))
-        (behind-aborted sum size w.parts.site device fault w.parts.bytes w.parts.written_len w.parts.sealed w.parts.reserved H (map parts_in (take k ws)) v.parts (map parts_in (drop (suc k) ws)) its i r at is_open)
+        (behind-aborted sum size w.parts.site device fault w.parts.bytes w.parts.written_len w.parts.sealed w.parts.reserved H (map parts_in (take k ws))
+        v.parts (map parts_in (drop (suc k) ws)) its i r at is_open)
 
     -- and they fit what they fitted
-    pub abort_fits : (line : List SegmentView) (n : ℕ) {place : ℕ} (reach pins : ℕ) (H : History) (A f : ℕ) (U : List Message) → slice_get line n ≡ Some v → IsSegment size place v
+    pub abort_fits : (line : List SegmentView) (n : ℕ) {place : ℕ} (reach pins : ℕ) (H : History) (A f : ℕ) (U : List Message) → slice_get line n ≡ Some v
+        → IsSegment size place v
         → FitsLine sum size device fault line reach pins H A f U → FitsLine sum size device fault (set line n canceled) reach pins H A f U
     abort_fits [] n reach pins H A f U there facts fits = cc
     abort_fits (w ∷ ws) zero reach pins H A f U there facts fits =
         let same : w ≡ v = cc in
-        let its : FitsLine sum size device fault (v ∷ ws) reach pins H A f U = subst (λ (x : SegmentView). FitsLine sum size device fault (x ∷ ws) reach pins H A f U) same fits in
+        let its : FitsLine sum size device fault (v ∷ ws) reach pins H A f U =
+        subst (λ (x : SegmentView). FitsLine sum size device fault (x ∷ ws) reach pins H A f U) same fits in
         fits-moved sum size v.parts.site device fault v.parts.bytes v.parts.written_len v.parts.sealed v.parts.reserved pins H A f U its _ _ _ _ refl
-        (holds-aborted sum size v.parts.site device fault v.parts.bytes v.parts.written_len v.parts.sealed v.parts.reserved (logged H) its.holds i r at is_open (written_inside v facts) facts.are _ _ _ _ refl refl refl refl)
+        (holds-aborted sum size v.parts.site device fault v.parts.bytes v.parts.written_len v.parts.sealed v.parts.reserved (logged H) its.holds i r at is_open
+        (written_inside v facts) facts.are _ _ _ _ refl refl refl refl)
     abort_fits (w ∷ ws) (suc k) reach pins H A f U there facts fits =
-        let its : FitsIn sum (parts_of w) (map parts_in (take k ws) ++ v.parts ∷ map parts_in (drop (suc k) ws)) reach pins H A f U = subst (λ (l : List SegmentParts). FitsIn sum (parts_of w) l reach pins H A f U) (parts_split ws k v there) fits in
+        let its : FitsIn sum (parts_of w) (map parts_in (take k ws) ++ v.parts ∷ map parts_in (drop (suc k) ws)) reach pins H A f U =
+        subst (λ (l : List SegmentParts). FitsIn sum (parts_of w) l reach pins H A f U) (parts_split ws k v there) fits in
         subst (λ (l : List SegmentParts). FitsIn sum (parts_of w) l reach pins H A f U) (sym (parts_set ws k v canceled there))
-        (behind-fits-aborted sum size w.parts.site device fault w.parts.bytes w.parts.written_len w.parts.sealed w.parts.reserved pins H A f U (map parts_in (take k ws)) v.parts (map parts_in (drop (suc k) ws)) its i r at is_open)
+        (behind-fits-aborted sum size w.parts.site device fault w.parts.bytes w.parts.written_len w.parts.sealed w.parts.reserved pins H A f U
+        (map parts_in (take k ws)) v.parts (map parts_in (drop (suc k) ws)) its i r at is_open)
 
     -- It is completed: the segments hold the history with its message,
-    pub complete_holds : is_manifest r.log_kind r.page ≡ false → (line : List SegmentView) (n place : ℕ) (H : History) → slice_get line n ≡ Some v → ((k : ℕ) (x : SegmentView) → slice_get line k ≡ Some x → IsSegment size (place + k * size) x)
+    pub complete_holds : is_manifest r.log_kind r.page ≡ false → (line : List SegmentView) (n place : ℕ) (H : History) → slice_get line n ≡ Some v
+        → ((k : ℕ) (x : SegmentView) → slice_get line k ≡ Some x → IsSegment size (place + k * size) x)
         → HoldsLine sum size device fault line H → (H' : History) × AddsMessage H m H' × HoldsLine sum size device fault (set line n completed) H'
     complete_holds none [] n place H there facts holds = cc
     complete_holds none (w ∷ ws) zero place H there facts holds =
         let same : w ≡ v = cc in
         let its : HoldsLine sum size device fault (v ∷ ws) H = subst (λ (x : SegmentView). HoldsLine sum size device fault (x ∷ ws) H) same holds in
         let own = facts zero v there in
-        holds-complete sum size v.parts.site device fault v.parts.bytes v.parts.written_len v.parts.sealed v.parts.reserved H its i r at is_open (written_inside v own) own.are own.short none
+        holds-complete sum size v.parts.site device fault v.parts.bytes v.parts.written_len v.parts.sealed v.parts.reserved H its i r at is_open
+        (written_inside v own) own.are own.short none
     complete_holds none (w ∷ ws) (suc k) place H there facts holds =
-        let its : HoldsIn sum (parts_of w) (map parts_in (take k ws) ++ v.parts ∷ map parts_in (drop (suc k) ws)) H = subst (λ (l : List SegmentParts). HoldsIn sum (parts_of w) l H) (parts_split ws k v there) holds in
+        let its : HoldsIn sum (parts_of w) (map parts_in (take k ws) ++ v.parts ∷ map parts_in (drop (suc k) ws)) H =
+        subst (λ (l : List SegmentParts). HoldsIn sum (parts_of w) l H) (parts_split ws k v there) holds in
         let short : length w.parts.bytes ≤ size = (facts zero w refl).short in (
-          completed_history sum size w.parts.site device fault w.parts.bytes w.parts.written_len w.parts.sealed w.parts.reserved H (map parts_in (take k ws)) v.parts (map parts_in (drop (suc k) ws)) its short i r at is_open none,
-          adds_here sum size w.parts.site device fault w.parts.bytes w.parts.written_len w.parts.sealed w.parts.reserved H (map parts_in (take k ws)) v.parts (map parts_in (drop (suc k) ws)) its short i r at is_open none,
-          subst (λ (l : List SegmentParts). HoldsIn sum (parts_of w) l (completed_history sum size w.parts.site device fault w.parts.bytes w.parts.written_len w.parts.sealed w.parts.reserved H (map parts_in (take k ws)) v.parts (map parts_in (drop (suc k) ws)) its short i r at is_open none))
+          completed_history sum size w.parts.site device fault w.parts.bytes w.parts.written_len w.parts.sealed w.parts.reserved H (map parts_in (take k ws))
+              v.parts (map parts_in (drop (suc k) ws)) its short i r at is_open none,
+          adds_here sum size w.parts.site device fault w.parts.bytes w.parts.written_len w.parts.sealed w.parts.reserved H (map parts_in (take k ws)) v.parts
+              (map parts_in (drop (suc k) ws)) its short i r at is_open none,
+          subst (λ (l : List SegmentParts). HoldsIn sum (parts_of w) l
+              (completed_history sum size w.parts.site device fault w.parts.bytes w.parts.written_len w.parts.sealed w.parts.reserved H
+              (map parts_in (take k ws)) v.parts (map parts_in (drop (suc k) ws)) its short i r at is_open none))
               (sym (parts_set ws k v completed there))
-              (behind-complete sum size w.parts.site device fault w.parts.bytes w.parts.written_len w.parts.sealed w.parts.reserved H (map parts_in (take k ws)) v.parts (map parts_in (drop (suc k) ws)) its short i r at is_open none),
+              (behind-complete sum size w.parts.site device fault w.parts.bytes w.parts.written_len w.parts.sealed w.parts.reserved H (map parts_in (take k ws))
+              v.parts (map parts_in (drop (suc k) ws)) its short i r at is_open none),
         )
 
     -- and they fit it, where a pin is out.
-    pub complete_fits : (x : Message) → in_log x ≡ m → BlobIsBelow x x.pointer → KeepsItem sum device.blobs x x.pointer → is_manifest r.log_kind r.page ≡ false → (line : List SegmentView) (n place reach pins : ℕ) (H : History) (A f : ℕ) (U : List Message) → 256 ≤ size → fault ≡ None → 0 < pins → slice_get line n ≡ Some v
+    pub complete_fits : (x : Message) → in_log x ≡ m → BlobIsBelow x x.pointer → KeepsItem sum device.blobs x x.pointer → is_manifest r.log_kind r.page ≡ false
+        → (line : List SegmentView) (n place reach pins : ℕ) (H : History) (A f : ℕ) (U : List Message) → 256 ≤ size → fault ≡ None → 0 < pins
+        → slice_get line n ≡ Some v
         → ((k : ℕ) (x : SegmentView) → slice_get line k ≡ Some x → IsSegment size (place + k * size) x)
-        → FitsLine sum size device fault line reach pins H A f U → (H' : History) × AddsMessage H x H' × FitsLine sum size device fault (set line n completed) reach pins H' A f (x ∷ U)
+        → FitsLine sum size device fault line reach pins H A f U
+        → (H' : History) × AddsMessage H x H' × FitsLine sum size device fault (set line n completed) reach pins H' A f (x ∷ U)
     complete_fits x its_message below stored none [] n place reach pins H A f U least ok out there facts fits = cc
     complete_fits x its_message below stored none (w ∷ ws) zero place reach pins H A f U least ok out there facts fits =
         let same : w ≡ v = cc in
-        let its : FitsLine sum size device fault (v ∷ ws) reach pins H A f U = subst (λ (x : SegmentView). FitsLine sum size device fault (x ∷ ws) reach pins H A f U) same fits in
+        let its : FitsLine sum size device fault (v ∷ ws) reach pins H A f U =
+        subst (λ (x : SegmentView). FitsLine sum size device fault (x ∷ ws) reach pins H A f U) same fits in
         let own = facts zero v there in
         let short = own.short in
         let first : History = record { messages = its.holds.head; batches = H.batches } in
-        let of_log = holds-complete sum size v.parts.site device fault v.parts.bytes v.parts.written_len v.parts.sealed v.parts.reserved (logged H) its.holds i r at is_open (written_inside v own) own.are short none in
-        let done = put_real (HoldsIn sum _ (map parts_in ws)) H x of_log.0 (subst (λ (y : Message). AddsMessage (logged H) y of_log.0) (sym its_message) of_log.1) of_log.2 in
+        let of_log =
+        holds-complete sum size v.parts.site device fault v.parts.bytes v.parts.written_len v.parts.sealed v.parts.reserved (logged H) its.holds i r at is_open
+        (written_inside v own) own.are short none in
+        let done = put_real (HoldsIn sum _ (map parts_in ws)) H x of_log.0
+        (subst (λ (y : Message). AddsMessage (logged H) y of_log.0) (sym its_message) of_log.1) of_log.2 in
         let put = adds_logged H x done.0 done.1 in
         let placed = ap (λ (y : Message). y.place) its_message in
-        let long : length (written v.parts.bytes r.from (completing r)) ≡ length v.parts.bytes = ended_long sum size device fault v.parts first its.holds.own i r at is_open r.sum r.kind in
-        let near = ends_within sum size v.parts.site device fault v.parts.bytes v.parts.written_len v.parts.sealed v.parts.reserved i r first its.holds.own at is_open in
-        let above = behind_written sum size v.parts.site device fault v.parts.bytes v.parts.written_len v.parts.sealed v.parts.reserved i r first its.holds.own at in (
+        let long : length (written v.parts.bytes r.from (completing r)) ≡ length v.parts.bytes =
+        ended_long sum size device fault v.parts first its.holds.own i r at is_open r.sum r.kind in
+        let near =
+        ends_within sum size v.parts.site device fault v.parts.bytes v.parts.written_len v.parts.sealed v.parts.reserved i r first its.holds.own at is_open in
+        let above =
+        behind_written sum size v.parts.site device fault v.parts.bytes v.parts.written_len v.parts.sealed v.parts.reserved i r first its.holds.own at in (
           done.0,
           done.1,
-          fits-completed sum size v.parts.site device fault v.parts.bytes v.parts.written_len v.parts.sealed v.parts.reserved pins H A f U its _ _ _ _ done.0 x refl least (omega (arith, long, short)) ok done.2 done.1
-              (of_head sum size v.parts.site device fault _ _ _ _ (logged done.0) done.2 (in_log x) (added_there (logged H) (logged done.0) (in_log x) put) (omega (arith, near, short, placed))) (omega (arith, above, placed)) own.fresh own.are below stored out,
+          fits-completed sum size v.parts.site device fault v.parts.bytes v.parts.written_len v.parts.sealed v.parts.reserved pins H A f U its _ _ _ _ done.0 x
+              refl least (omega (arith, long, short)) ok done.2 done.1
+              (of_head sum size v.parts.site device fault _ _ _ _ (logged done.0) done.2 (in_log x) (added_there (logged H) (logged done.0) (in_log x) put)
+              (omega (arith, near, short, placed))) (omega (arith, above, placed)) own.fresh own.are below stored out,
         )
     complete_fits x its_message below stored none (w ∷ ws) (suc k) place reach pins H A f U least ok out there facts fits =
-        let its : FitsIn sum (parts_of w) (map parts_in (take k ws) ++ v.parts ∷ map parts_in (drop (suc k) ws)) reach pins H A f U = subst (λ (l : List SegmentParts). FitsIn sum (parts_of w) l reach pins H A f U) (parts_split ws k v there) fits in
+        let its : FitsIn sum (parts_of w) (map parts_in (take k ws) ++ v.parts ∷ map parts_in (drop (suc k) ws)) reach pins H A f U =
+        subst (λ (l : List SegmentParts). FitsIn sum (parts_of w) l reach pins H A f U) (parts_split ws k v there) fits in
         let short : length w.parts.bytes ≤ size = (facts zero w refl).short in
-        let done = behind-fits-completed sum size w.parts.site device fault w.parts.bytes w.parts.written_len w.parts.sealed w.parts.reserved pins H A f U (map parts_in (take k ws)) v.parts (map parts_in (drop (suc k) ws)) its i r at is_open x its_message below stored none least short ok (facts (suc k) v there).fresh out in
-        (done.0, done.1, subst (λ (l : List SegmentParts). FitsIn sum (parts_of w) l reach pins done.0 A f (x ∷ U)) (sym (parts_set ws k v completed there)) done.2)
+        let done =
+        behind-fits-completed sum size w.parts.site device fault w.parts.bytes w.parts.written_len w.parts.sealed w.parts.reserved pins H A f U
+        (map parts_in (take k ws)) v.parts (map parts_in (drop (suc k) ws)) its i r at is_open x its_message below stored none least short ok
+        (facts (suc k) v there).fresh out in (
+          done.0,
+          done.1,
+          subst (λ (l : List SegmentParts). FitsIn sum (parts_of w) l reach pins done.0 A f (x ∷ U)) (sym (parts_set ws k v completed there)) done.2,
+        )
 
 -- The slots are those that they were.
-pub slots_set : (size : ℕ) (line : List SegmentView) (log : List ℕ) (fault : Option IoError) (m : Machine) (n : ℕ) (v w : SegmentView) → slice_get line n ≡ Some v → w.parts.site ≡ v.parts.site → HasSlots size line log fault m → HasSlots size (set line n w) log fault m
+pub slots_set : (size : ℕ) (line : List SegmentView) (log : List ℕ) (fault : Option IoError) (m : Machine) (n : ℕ) (v w : SegmentView)
+    → slice_get line n ≡ Some v → w.parts.site ≡ v.parts.site → HasSlots size line log fault m → HasSlots size (set line n w) log fault m
 slots_set size line log fault m n v w there site slots =
     let its : HasSlot size m v = at_there (HasSlot size m) line n v there slots.taken in
     record {
-      taken = All-set (HasSlot size m) line n w (record { number = its.number; lies = ap (λ (p : SegmentPosition). p.slot) site ∙ its.lies; taken = its.taken; is = its.is ∙ ap (λ (p : SegmentPosition). p.place) (sym site) }) slots.taken;
+      taken = All-set (HasSlot size m) line n w (record {
+        number = its.number;
+        lies = ap (λ (p : SegmentPosition). p.slot) site ∙ its.lies;
+        taken = its.taken;
+        is = its.is ∙ ap (λ (p : SegmentPosition). p.place) (sym site);
+      }) slots.taken;
       zeros = slots.zeros;
       own = subst (λ e. HaveOwn size e m) (sym (end_set size line n v w there site)) slots.own;
     }
 
 -- So is what is written of the first segment.
-pub written_set : (line : List SegmentView) (n : ℕ) (v w : SegmentView) → slice_get line n ≡ Some v → w.parts.site ≡ v.parts.site → w.parts.written_len ≡ v.parts.written_len → written_to (set line n w) ≡ written_to line
+pub written_set : (line : List SegmentView) (n : ℕ) (v w : SegmentView) → slice_get line n ≡ Some v → w.parts.site ≡ v.parts.site
+    → w.parts.written_len ≡ v.parts.written_len → written_to (set line n w) ≡ written_to line
 written_set [] n v w there site from = refl
-written_set (x ∷ xs) zero v w there site from = let same : x ≡ v = cc in (λ i. (site i).place + from i) ∙ ap (λ (y : SegmentView). y.parts.site.place + y.parts.written_len) (sym same)
+written_set (x ∷ xs) zero v w there site from =
+    let same : x ≡ v = cc in (λ i. (site i).place + from i) ∙ ap (λ (y : SegmentView). y.parts.site.place + y.parts.written_len) (sym same)
 written_set (x ∷ xs) (suc n) v w there site from = refl
 
 -- What a log holds and fits where one of its reservations has ended.
-module _ (sum : List ℕ → ℕ) (size : ℕ) (device : State) (fault : Option IoError) (line : List SegmentView) (n : ℕ) (v : SegmentView) (there : slice_get line n ≡ Some v) (place : ℕ)
-    (facts : (k : ℕ) (x : SegmentView) → slice_get line k ≡ Some x → IsSegment size (place + k * size) x) (i : ℕ) (r : Reserved) (at : slice_get v.parts.reserved i ≡ Some r) (is_open : r.state ≡ Open) (machine : Machine) (noted : List Batch) where
-  batches_set : (w : SegmentView) → w.parts.site ≡ v.parts.site → w.parts.written_len ≡ v.parts.written_len → (H : History) → FitsBatches (written_to line) (line_end size line) noted H → FitsBatches (written_to (set line n w)) (line_end size (set line n w)) noted H
+module _ (sum : List ℕ → ℕ) (size : ℕ) (device : State) (fault : Option IoError) (line : List SegmentView) (n : ℕ) (v : SegmentView)
+    (there : slice_get line n ≡ Some v) (place : ℕ)
+    (facts : (k : ℕ) (x : SegmentView) → slice_get line k ≡ Some x → IsSegment size (place + k * size) x) (i : ℕ) (r : Reserved)
+    (at : slice_get v.parts.reserved i ≡ Some r) (is_open : r.state ≡ Open) (machine : Machine) (noted : List Batch) where
+  batches_set : (w : SegmentView) → w.parts.site ≡ v.parts.site → w.parts.written_len ≡ v.parts.written_len → (H : History)
+      → FitsBatches (written_to line) (line_end size line) noted H → FitsBatches (written_to (set line n w)) (line_end size (set line n w)) noted H
   batches_set w site from H fits =
       batches_up (written_to line) (written_to (set line n w)) (line_end size line) (line_end size (set line n w)) noted H
       (let same = written_set line n v w there site from in omega (arith, same)) (let same = end_set size line n v w there site in omega (arith, same)) fits
 
   -- The message lies beside all batches.
-  beside : (H : History) → HoldsLine sum size device fault line H → (b : Batch) → Contains H.batches b → (b.low ≤ v.parts.site.place + r.from) ⊎ (v.parts.site.place + r.from + r.len ≤ b.low)
+  beside : (H : History) → HoldsLine sum size device fault line H → (b : Batch) → Contains H.batches b
+      → (b.low ≤ v.parts.site.place + r.from) ⊎ (v.parts.site.place + r.from + r.len ≤ b.low)
   beside H holds b among = with_part sum size device fault line n v H holds there
-      (λ stays own segment. batch_beside sum size v.parts.site device fault v.parts.bytes v.parts.written_len v.parts.sealed v.parts.reserved (record { messages = own; batches = H.batches }) segment i r at is_open (facts n v there).short b among)
+      (λ stays own segment. batch_beside sum size v.parts.site device fault v.parts.bytes v.parts.written_len v.parts.sealed v.parts.reserved
+      (record { messages = own; batches = H.batches }) segment i r at is_open (facts n v there).short b among)
 
-  pub holds_aborted : (H : History) → HoldsWith sum noted size device fault line machine H → HoldsWith sum noted size device fault (set line n (ended_now i r (canceling sum v.parts.bytes r) Canceled v)) machine H
+  pub holds_aborted : (H : History) → HoldsWith sum noted size device fault line machine H
+      → HoldsWith sum noted size device fault (set line n (ended_now i r (canceling sum v.parts.bytes r) Canceled v)) machine H
   holds_aborted H holds = record {
     holds = abort_holds sum size device fault v i r at is_open line n H there (facts n v there) holds.holds;
     batches = batches_set (ended_now i r (canceling sum v.parts.bytes r) Canceled v) refl refl H holds.batches;
     slots = slots_set size line device.log.bytes fault machine n v (ended_now i r (canceling sum v.parts.bytes r) Canceled v) there refl holds.slots;
   }
 
-  pub fits_aborted : (pins : ℕ) (H : History) (A f : ℕ) (U : List Message) → FitsWith sum noted size device fault line machine pins H A f U → FitsWith sum noted size device fault (set line n (ended_now i r (canceling sum v.parts.bytes r) Canceled v)) machine pins H A f U
+  pub fits_aborted : (pins : ℕ) (H : History) (A f : ℕ) (U : List Message) → FitsWith sum noted size device fault line machine pins H A f U
+      → FitsWith sum noted size device fault (set line n (ended_now i r (canceling sum v.parts.bytes r) Canceled v)) machine pins H A f U
   fits_aborted pins H A f U fits = record {
     reach = fits.reach;
     parts = abort_fits sum size device fault v i r at is_open line n fits.reach pins H A f U there (facts n v there) fits.parts;
     batches = batches_set (ended_now i r (canceling sum v.parts.bytes r) Canceled v) refl refl (logged H) fits.batches;
     slots = slots_set size line device.log.bytes fault machine n v (ended_now i r (canceling sum v.parts.bytes r) Canceled v) there refl fits.slots;
-    whole = λ none zeros. subst (λ p. AreWhole sum size device.log.bytes (logged H) p machine) (sym (first_set line n v (ended_now i r (canceling sum v.parts.bytes r) Canceled v) there refl)) (fits.whole none zeros);
-    own = λ none zeros. own_ended sum size (HeaderWasPlaced device.placed) (RecordWasPlaced sum size device.placed) device.log.bytes line n v i r (canceling sum v.parts.bytes r) Canceled there (fits.own none zeros);
+    whole = λ none zeros. subst (λ p. AreWhole sum size device.log.bytes (logged H) p machine)
+        (sym (first_set line n v (ended_now i r (canceling sum v.parts.bytes r) Canceled v) there refl)) (fits.whole none zeros);
+    own = λ none zeros. own_ended sum size (HeaderWasPlaced device.placed) (RecordWasPlaced sum size device.placed) device.log.bytes line n v i r
+        (canceling sum v.parts.bytes r) Canceled there (fits.own none zeros);
     account = fits.account;
-    numbers = λ zeros. subst (HasNumbers sum size 0 device machine) (sym (end_set size line n v (ended_now i r (canceling sum v.parts.bytes r) Canceled v) there refl)) (fits.numbers zeros);
+    numbers = λ zeros. subst (HasNumbers sum size 0 device machine)
+        (sym (end_set size line n v (ended_now i r (canceling sum v.parts.bytes r) Canceled v) there refl)) (fits.numbers zeros);
     in_slots = fits.in_slots;
   }
 
@@ -227,13 +294,23 @@ module _ (sum : List ℕ → ℕ) (size : ℕ) (device : State) (fault : Option 
   first_before = let low = first_below size place line (from_each size place line facts) n v there in omega (arith, low)
 
   pub holds_completed : is_manifest r.log_kind r.page ≡ false → (H : History) → HoldsWith sum noted size device fault line machine H
-      → (H' : History) × AddsMessage H (message_in v.parts.site v.parts.bytes r) H' × HoldsWith sum noted size device fault (set line n (ended_now i r (completing r) Completed v)) machine H'
+      → (H' : History) × AddsMessage H (message_in v.parts.site v.parts.bytes r) H'
+      × HoldsWith sum noted size device fault (set line n (ended_now i r (completing r) Completed v)) machine H'
   holds_completed none H holds =
-      let done = complete_holds sum size device fault v i r at is_open none line n place H there facts holds.holds in
-      (done.0, done.1, record { holds = done.2; batches = batches_set (ended_now i r (completing r) Completed v) refl refl done.0 (batches_completed (written_to line) (line_end size line) noted H done.0 (message_in v.parts.site v.parts.bytes r) done.1 (beside H holds.holds) holds.batches); slots = slots_set size line device.log.bytes fault machine n v (ended_now i r (completing r) Completed v) there refl holds.slots })
+      let done = complete_holds sum size device fault v i r at is_open none line n place H there facts holds.holds in (
+        done.0,
+        done.1,
+        record {
+          holds = done.2;
+          batches = batches_set (ended_now i r (completing r) Completed v) refl refl done.0 (batches_completed (written_to line) (line_end size line) noted H
+              done.0 (message_in v.parts.site v.parts.bytes r) done.1 (beside H holds.holds) holds.batches);
+          slots = slots_set size line device.log.bytes fault machine n v (ended_now i r (completing r) Completed v) there refl holds.slots;
+        },
+      )
 
   -- What tables need is in the slots with that message, too.
-  slots_completed : (H : History) (reach : ℕ) (x : Message) → in_log x ≡ message_in v.parts.site v.parts.bytes r → HoldsLine sum size device fault line (logged H)
+  slots_completed : (H : History) (reach : ℕ) (x : Message) → in_log x ≡ message_in v.parts.site v.parts.bytes r
+      → HoldsLine sum size device fault line (logged H)
       → HasSlots size line device.log.bytes fault machine → (H' : History) → AddsMessage H x H'
       → HaveSlotsFrom sum size device.snapshots.file H (stable_below reach H.batches) machine
       → HaveSlotsFrom sum size device.snapshots.file H' (stable_below reach H'.batches) machine
@@ -244,33 +321,46 @@ module _ (sum : List ℕ → ℕ) (size : ℕ) (device : State) (fault : Option 
       let unwritten = line_unwritten size v i r at (facts n v there) line n place there facts in
       let here = ap (λ (y : Message). y.place) is in
       subst (λ (bs : List Batch). HaveSlots sum size (stable_place first.stable) H' (stable_below reach bs) machine) (sym adds.batches)
-      (slots_added sum size (stable_place first.stable) (stable_below reach H.batches) H machine (has first begins) H' x adds (omega (arith, low, unwritten, here))
+      (slots_added sum size (stable_place first.stable) (stable_below reach H.batches) H machine (has first begins) H' x adds
+      (omega (arith, low, unwritten, here))
       (message_in_slot sum size machine v its aligned (facts n v there) i r at x is))
 
-  pub fits_completed : (x : Message) → in_log x ≡ message_in v.parts.site v.parts.bytes r → BlobIsBelow x x.pointer → KeepsItem sum device.blobs x x.pointer → NamesNoOutdated machine x → is_manifest r.log_kind r.page ≡ false → (pins : ℕ) (H : History) (A f : ℕ) (U : List Message) → 256 ≤ size → fault ≡ None → 0 < pins
+  pub fits_completed : (x : Message) → in_log x ≡ message_in v.parts.site v.parts.bytes r → BlobIsBelow x x.pointer → KeepsItem sum device.blobs x x.pointer
+      → NamesNoOutdated machine x → is_manifest r.log_kind r.page ≡ false → (pins : ℕ) (H : History) (A f : ℕ) (U : List Message) → 256 ≤ size → fault ≡ None
+      → 0 < pins
       → FitsWith sum noted size device fault line machine pins H A f U
-      → (H' : History) × AddsMessage H x H' × FitsWith sum noted size device fault (set line n (ended_now i r (completing r) Completed v)) machine pins H' A f (x ∷ U)
+      → (H' : History) × AddsMessage H x H'
+      × FitsWith sum noted size device fault (set line n (ended_now i r (completing r) Completed v)) machine pins H' A f (x ∷ U)
   fits_completed x its_message below stored fresh none pins H A f U least ok out fits =
-      let done = complete_fits sum size device fault v i r at is_open x its_message below stored none line n place fits.reach pins H A f U least ok out there facts fits.parts in
+      let done =
+      complete_fits sum size device fault v i r at is_open x its_message below stored none line n place fits.reach pins H A f U least ok out there facts
+      fits.parts in
       let held = line_holds sum size device fault line fits.reach pins H A f U fits.parts in
       let put = adds_logged H x done.0 done.1 in
-      let apart : (b : Batch) → Contains H.batches b → (b.low ≤ x.place) ⊎ (x.place + x.size ≤ b.low) = λ b among. subst (λ (y : Message). (b.low ≤ y.place) ⊎ (y.place + y.size ≤ b.low)) (sym its_message) (beside (logged H) held b among) in
+      let apart : (b : Batch) → Contains H.batches b → (b.low ≤ x.place) ⊎ (x.place + x.size ≤ b.low) =
+      λ b among. subst (λ (y : Message). (b.low ≤ y.place) ⊎ (y.place + y.size ≤ b.low)) (sym its_message) (beside (logged H) held b among) in
       let past : first_place line ≤ x.place = subst (λ (y : Message). first_place line ≤ y.place) (sym its_message) first_before in (
         done.0,
         done.1,
         record {
           reach = fits.reach;
           parts = done.2;
-          batches = batches_set (ended_now i r (completing r) Completed v) refl refl (logged done.0) (batches_completed (written_to line) (line_end size line) noted (logged H) (logged done.0) (in_log x) put apart fits.batches);
+          batches = batches_set (ended_now i r (completing r) Completed v) refl refl (logged done.0)
+              (batches_completed (written_to line) (line_end size line) noted (logged H) (logged done.0) (in_log x) put apart fits.batches);
           slots = slots_set size line device.log.bytes fault machine n v (ended_now i r (completing r) Completed v) there refl fits.slots;
-          whole = λ none zeros. subst (λ p. AreWhole sum size device.log.bytes (logged done.0) p machine) (sym (first_set line n v (ended_now i r (completing r) Completed v) there refl))
+          whole = λ none zeros.
+              subst (λ p. AreWhole sum size device.log.bytes (logged done.0) p machine)
+              (sym (first_set line n v (ended_now i r (completing r) Completed v) there refl))
               (whole_grown sum size least device.log.bytes (logged H) (logged done.0) x.place (first_place line) machine
               (message_grows (logged H) (logged done.0) (in_log x) put) past (fits.whole none zeros));
-          own = λ none zeros. own_ended sum size (HeaderWasPlaced device.placed) (RecordWasPlaced sum size device.placed) device.log.bytes line n v i r (completing r) Completed there (fits.own none zeros);
+          own = λ none zeros. own_ended sum size (HeaderWasPlaced device.placed) (RecordWasPlaced sum size device.placed) device.log.bytes line n v i r
+              (completing r) Completed there (fits.own none zeros);
           account = account_completed sum size device.snapshots.file H U machine fits.account done.0 x done.1 fresh
-              (lies_active sum size device fault line fits.reach pins H A f U fits.parts machine fits.account (omega (arith, least)) v (first_below size place line (from_each size place line facts) n v there)
+              (lies_active sum size device fault line fits.reach pins H A f U fits.parts machine fits.account (omega (arith, least)) v
+              (first_below size place line (from_each size place line facts) n v there)
               (at_there (HasSlot size machine) line n v there fits.slots.taken) x v.parts.bytes r its_message (inside_segment (facts n v there) i r at));
-          numbers = λ zeros. subst (HasNumbers sum size 0 device machine) (sym (end_set size line n v (ended_now i r (completing r) Completed v) there refl)) (fits.numbers zeros);
+          numbers = λ zeros. subst (HasNumbers sum size 0 device machine) (sym (end_set size line n v (ended_now i r (completing r) Completed v) there refl))
+              (fits.numbers zeros);
           in_slots = slots_completed H fits.reach x its_message held fits.slots done.0 done.1 fits.in_slots;
         },
       )

@@ -16,12 +16,13 @@ use Rattle.sled_core.specs.OpenBatches.{stable_below}
 use Rattle.sled_core.specs.Running.{end_below}
 use Rattle.sled_core.specs.inside.Fits.{HoldsLine, HoldsShown, HoldsWith}
 use Rattle.sled_core.specs.inside.FreeSlots.{HasSlot, HasSlots}
-use Rattle.sled_core.specs.inside.Running.{FitsLine, FitsShown, FitsWith}
+use Rattle.sled_core.specs.inside.Running.{FitsShown, FitsWith}
 use Rattle.sled_core.specs.inside.Hides.{HidesFrom}
 use Rattle.sled_core.specs.inside.Shown.{IsAsShown, shown}
 use Rattle.sled_core.specs.Tail.{least_place}
 use Rattle.sled_core.proofs.Cleared.Offsets.{LineRises, OthersBeside, cleared_itself, segments_apart}
 use Rattle.sled_core.proofs.Cleared.Shown.{ShowsSame, as_shown_same, shown_is, shown_same}
+use Rattle.sled_core.proofs.Holds.FitsAnew.{fits_anew}
 use Rattle.sled_core.proofs.Holds.RunningLemmas.{fits-acknowledged, fits-pinned}
 use Rattle.sled_core.proofs.Line.Ends.{line_holds, with_part}
 use Rattle.sled_core.proofs.Line.Segments.{AreSegments, nth_segment}
@@ -128,29 +129,10 @@ module _ (sum : List ℕ → ℕ) (size : ℕ) (some : 0 < size) (t : Trace) (m 
 -- Of segments of which there is one: another count of pins fits, where one is out while there are messages that aren't marked,
 module _ (sum : List ℕ → ℕ) (noted : List Batch) (size : ℕ) (device : State) (fault : Option IoError) (v : SegmentView) (vs : List SegmentView) (m : Machine)
     (pins : ℕ) (H : History) (A f : ℕ) (U : List Message) (fits : FitsShown sum noted size device fault (v ∷ vs) m pins H A f U) where
-  -- (as what the segments fit over what is shown is all that changes)
-  fits_line : (now B : ℕ) → FitsLine sum size (shown size fault m (v ∷ vs) device) fault (v ∷ vs) fits.shows.reach now H B f U
-      → FitsShown sum noted size device fault (v ∷ vs) m now H B f U
-  fits_line now B parts = record {
-    shows = record {
-      reach = fits.shows.reach;
-      parts = parts;
-      batches = fits.shows.batches;
-      slots = fits.shows.slots;
-      whole = fits.shows.whole;
-      own = fits.shows.own;
-      account = fits.shows.account;
-      numbers = fits.shows.numbers;
-      in_slots = fits.shows.in_slots;
-    };
-    file = fits.file;
-    hides = fits.hides;
-  }
-
   pub fits_pins : (now : ℕ) → (U ≢ [] → 0 < now) → FitsShown sum noted size device fault (v ∷ vs) m now H A f U
-  fits_pins now out = fits_line now A (fits-pinned _ _ _ _ _ _ _ _ _ _ H A f U fits.shows.parts now U out)
+  fits_pins now out = fits_anew fits now A f (fits-pinned _ _ _ _ _ _ _ _ _ _ H A f U fits.shows.parts now U out)
 
   -- and all below the stable end counts as acknowledged.
   pub fits_acknowledges : FitsShown sum noted size device fault (v ∷ vs) m pins H
       (max A (end_below (stable_below (v.parts.site.place + v.parts.written_len) noted) H)) f U
-  fits_acknowledges = fits_line pins _ (fits-acknowledged _ _ _ _ _ _ _ _ _ _ H A f U fits.shows.parts _ _ fits.shows.batches)
+  fits_acknowledges = fits_anew fits pins _ f (fits-acknowledged _ _ _ _ _ _ _ _ _ _ H A f U fits.shows.parts _ _ fits.shows.batches)

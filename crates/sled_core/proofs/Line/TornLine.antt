@@ -41,6 +41,7 @@ use Rattle.sled_core.proofs.Cleared.Offsets.{LineRises, OthersBeside, between_is
 use Rattle.sled_core.proofs.Cleared.Calls.{cleared_write}
 use Rattle.sled_core.proofs.Freed.ClearedShows.{laid_shown, stale_in}
 use Rattle.sled_core.proofs.Freed.FrontWritten.{front_leaves}
+use Rattle.sled_core.proofs.Freed.Known.{WritesSlot}
 use Rattle.sled_core.proofs.Freed.LeftOwn.{PlacesNumber}
 use Rattle.sled_core.proofs.Freed.LeftRecovers.{KeepsHeaders, ReadsBy, leaves_as_shown, rest_recovers, shown_device}
 use Rattle.sled_core.proofs.Line.Quiet.{quiet_shown, stands_each, waits}
@@ -290,16 +291,24 @@ module _ (sum : List ℕ → ℕ) (none : NoHeaderOfZeros sum) (size : ℕ) (som
         → (c : ℕ) × LeftReads sum size s shown (x + from) asked now left H (least_place size first) base c
 
     torn_there : Torn (slot * size)
-    torn_there =
+    torn_there now left no_more leaves only_own =
         let at_slot = has.lies in
         let small = facts.slot_small in
         let low = first_below size v.parts.site.place line are n u at_n in
-        torn_reads sum none size some s m line (least_place size first) base H hides reads_now own_shown slot from asked (omega (arith, ends, lies))
-        u.parts.site.place
-        (omega (arith, small, at_slot)) has.taken has.is (omega (arith, held, low))
-        (subst (λ x. PlacesNumber sum size (x + from) asked (u.parts.site.place / size)) at_slot number_placed)
-        b.end (omega (arith, ends)) clean (lies_in k there)
-        (subst (λ x. ReadsShown sum size m (overwritten shown (x + from) asked) (overwritten log (x + from) asked)) at_slot reads_after)
+        let w : WritesSlot sum size s m line (least_place size first) base H slot from asked u.parts.site.place b.end = record {
+          known = record { some = some; hides = hides; reads = reads_now; own = own_shown };
+          inside = omega (arith, ends, lies);
+          reach = omega (arith, small, at_slot);
+          taken = has.taken;
+          its = has.is;
+          held = omega (arith, held, low);
+          places = subst (λ x. PlacesNumber sum size (x + from) asked (u.parts.site.place / size)) at_slot number_placed;
+          covers = omega (arith, ends);
+          clean = clean;
+          reads_after =
+              subst (λ x. ReadsShown sum size m (overwritten shown (x + from) asked) (overwritten log (x + from) asked)) at_slot reads_after;
+        } in
+        torn_reads none w (lies_in k there) (record { no_more = no_more; leaves = leaves; only_own = only_own })
 
     -- What a crash leaves of the write reads as what was shown, with the first bytes of the write.
     pub torn_line_reads : Torn u.parts.site.slot

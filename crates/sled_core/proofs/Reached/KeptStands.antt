@@ -1,4 +1,5 @@
--- What has the segments in some slots of another log file, with the bytes that lay there, stands up to the same place, where these slots have each segment that is found and each that a table needs.
+-- What has the segments in some slots of another log file, with the bytes that lay there, stands up to the same place, where these slots have each segment that
+-- is found and each that a table needs.
 use Rattle.std.proofs.Common.{◌≡◌, ◌≢◌, ◌∙◌, ◌+◌, ◌*◌, ◌/◌, ◌%◌, ◌<◌, ◌≤◌, ℕ, pos, List, [], ◌∷◌, length, refl, sym, ap, subst, arith}
 use Rattle.std.specs.List.{Contains}
 use Rattle.sled_codec.specs.declared.result.DiskPtr.{DiskPtr}
@@ -14,7 +15,7 @@ use Rattle.sled_core.specs.declared.iterator.scan.ScannedRecord.{ScannedRecord}
 use Rattle.sled_core.specs.declared.iterator.scan.ScanEnd.{ScanEnd}
 use Rattle.sled_core.specs.declared.iterator.scan.ScanEnd.TheVariants.{Full, Capped, Broken}
 use Rattle.sled_core.specs.Reading.{StandsAt}
-use Rattle.sled_core.specs.inside.Hides.{IsReading}
+use Rattle.sled_core.specs.inside.Hides.{IsTrueReading}
 use Rattle.sled_core.specs.inside.Recoverable.{StandsInline, IsReachedIn, IsReadOn, IsSegmentOf}
 use Rattle.sled_core.specs.inside.Scan.{IsFoundSegment}
 use Rattle.sled_core.specs.Scan.{IsMet, IsPath, IsEnd, EndsThere, IsScan}
@@ -49,7 +50,8 @@ module _ (sum : List ℕ → ℕ) (size : ℕ) (old left : List ℕ) (slot : ℕ
       (alike, in_this_file sum size left old (slot + from) len (omega (arith, some)) (all_there sum size old (slot + from) number h body len s) alike)
 
   -- what is met is met with the same bytes
-  pub path_kept : (place from : ℕ) (ms : List ScannedRecord) (next : ℕ) → IsPath sum size old slot place from ms next → IsPath sum size left slot place from ms next
+  pub path_kept : (place from : ℕ) (ms : List ScannedRecord) (next : ℕ) → IsPath sum size old slot place from ms next
+      → IsPath sum size left slot place from ms next
   unfolding IsMet
   path_kept place from [] next path = path
   path_kept place from (m ∷ ms) next (room, at_place, (h, body, stands, says), path) =
@@ -86,7 +88,8 @@ module _ (sum : List ℕ → ℕ) (size : ℕ) (old left : List ℕ) (slot : ℕ
       }
 
   -- and has its item.
-  pub item_kept : (s : Segment) → s.slot ≡ slot → (n : Message) → IsReachedIn sum size old s n → StandsInline sum size old n n.pointer → StandsInline sum size left n n.pointer
+  pub item_kept : (s : Segment) → s.slot ≡ slot → (n : Message) → IsReachedIn sum size old s n → StandsInline sum size old n n.pointer
+      → StandsInline sum size left n n.pointer
   item_kept s here n r = by n.pointer refl where
     by : (p : DiskPtr) → n.pointer ≡ p → StandsInline sum size old n p → StandsInline sum size left n p
     by (Inline lid) pointer stands =
@@ -94,7 +97,8 @@ module _ (sum : List ℕ → ℕ) (size : ℕ) (old left : List ℕ) (slot : ℕ
         let room = r.room in
         let moved = subst (λ k. StandsAt sum size old k (n.place / size) stands.header n.bytes n.size) at stands.stands in
         let kept = record_kept r.at (n.place / size) (omega (arith, room)) stands.header n.bytes n.size moved in
-        message_moved sum size old left lid (n.place / size) n (subst (λ k. part left k n.size ≡ part old k n.size) (sym at) kept.0) (omega (arith, at, kept.1)) stands
+        message_moved sum size old left lid (n.place / size) n (subst (λ k. part left k n.size ≡ part old k n.size) (sym at) kept.0) (omega (arith, at, kept.1))
+        stands
     by (Blob lid place) pointer stands = tt
 
   -- where the reading ended and led on, it does so
@@ -123,7 +127,8 @@ module _ (sum : List ℕ → ℕ) (size : ℕ) (old left : List ℕ) (slot : ℕ
         truth = truth_alike sum size old left H slot t.segment.place 20 t.met t.stop (alike_kept t.segment.place 20 t.met t.stop path) again on.truth;
       }
 
-module _ (sum : List ℕ → ℕ) (size : ℕ) (Used : ℕ → Type 0) (old left : List ℕ) (keeps : KeepsSlots sum size Used old left) (same : SameInUsed size Used old left) where
+module _ (sum : List ℕ → ℕ) (size : ℕ) (Used : ℕ → Type 0) (old left : List ℕ) (keeps : KeepsSlots sum size Used old left)
+    (same : SameInUsed size Used old left) where
   -- One segment in a used slot.
   module _ (least : ℕ) (s : Segment) (found : IsFoundSegment sum size old least s) (used : Used (s.slot / size)) where
     abbrev here : s.slot ≡ s.slot / size * size
@@ -139,14 +144,16 @@ module _ (sum : List ℕ → ℕ) (size : ℕ) (Used : ℕ → Type 0) (old left
         same (s.slot / size) used lid len (omega (arith, low, begins)) (omega (arith, high, begins)) there
 
     -- and read as before
-    pub scan_kept : (met : List ScannedRecord) (stop : ℕ) (why : ScanEnd) → IsScan sum size old s.slot s.place met stop why → IsScan sum size left s.slot s.place met stop why
+    pub scan_kept : (met : List ScannedRecord) (stop : ℕ) (why : ScanEnd) → IsScan sum size old s.slot s.place met stop why
+        → IsScan sum size left s.slot s.place met stop why
     scan_kept met stop why scan =
         let header = subst (λ n. IsHeader sum (part left n 20) (pos s.place) s.mark) here found_kept.header in
         let before = subst (λ n. IsScan sum size old n s.place met stop why) here scan in
         subst (λ n. IsScan sum size left n s.place met stop why) (sym here) (keeps.met (s.slot / size) used s.place s.mark header met stop why before)
 
   -- What a table needs is there.
-  needed_kept : (H : History) (cut : ℕ) (m : Message) (of : IsSegmentOf sum size old H cut m) → Used (of.segment.slot / size) → StandsInline sum size old m m.pointer
+  needed_kept : (H : History) (cut : ℕ) (m : Message) (of : IsSegmentOf sum size old H cut m) → Used (of.segment.slot / size)
+      → StandsInline sum size old m m.pointer
       → IsSegmentOf sum size left H cut m × StandsInline sum size left m m.pointer
   needed_kept H cut m of used item =
       let s : Segment = of.segment in
@@ -166,9 +173,11 @@ module _ (sum : List ℕ → ℕ) (size : ℕ) (Used : ℕ → Type 0) (old left
   -- These segments are found in it, each in a used slot, and so is each that is held: the log file stands up to the same place. One in front of the segments
   -- that are held may be gone.
   module _ (H : History) (A : ℕ) (first : SnapshotModel) (reach : ℕ) (is : StandsTo sum size old H A first reach)
-      (ordering : List Segment) (numbers : IsOrdering sum size left (least_place size first) ordering) (listed : (s : Segment) → Contains ordering s → Used (s.slot / size))
+      (ordering : List Segment) (numbers : IsOrdering sum size left (least_place size first) ordering)
+      (listed : (s : Segment) → Contains ordering s → Used (s.slot / size))
       (held : (s : Segment) → Contains is.ordering s → is.from / size * size ≤ s.place → Used (s.slot / size))
-      (entered : (cut : ℕ) (low : is.from ≤ cut) (high : cut ≤ reach) (page : ℕ) (m : Message) (entry : Contains (table H cut page) m) → Used ((is.needed cut low high page m entry).0.segment.slot / size)) where
+      (entered : (cut : ℕ) (low : is.from ≤ cut) (high : cut ≤ reach) (page : ℕ) (m : Message) (entry : Contains (table H cut page) m)
+      → Used ((is.needed cut low high page m entry).0.segment.slot / size)) where
     abbrev least : ℕ
     least = least_place size first
 
@@ -183,7 +192,7 @@ module _ (sum : List ℕ → ℕ) (size : ℕ) (Used : ℕ → Type 0) (old left
         let had = known t there in
         scan_kept least t.segment ((is.numbers.found t.segment).0 had.0) used t.met t.stop t.why had.1
 
-    reading_of : (t : Scanned) → Contains is.scanned t → Used (t.segment.slot / size) → IsReading sum size left H t.segment
+    reading_of : (t : Scanned) → Contains is.scanned t → Used (t.segment.slot / size) → IsTrueReading sum size left H t.segment
     unfolding IsScan
     reading_of t there used =
         let had = known t there in
@@ -199,10 +208,10 @@ module _ (sum : List ℕ → ℕ) (size : ℕ) (Used : ℕ → Type 0) (old left
           caps = is.caps t there;
         }
 
-    each : (s : Segment) → Contains ordering s → IsReading sum size left H s
+    each : (s : Segment) → Contains ordering s → IsTrueReading sum size left H s
     each s there =
         let t = scan_there sum size old is.ordering is.scanned is.reads s (was s there) in
-        subst (IsReading sum size left H) t.2 (reading_of t.0 t.1 (subst (λ (x : Segment). Used (x.slot / size)) (sym t.2) (listed s there)))
+        subst (IsTrueReading sum size left H) t.2 (reading_of t.0 t.1 (subst (λ (x : Segment). Used (x.slot / size)) (sym t.2) (listed s there)))
 
     as_far : (t : Scanned) → Contains is.scanned t → is.from / size * size ≤ t.segment.place → IsAsFar sum size left ordering t
     as_far t there low =
@@ -217,15 +226,20 @@ module _ (sum : List ℕ → ℕ) (size : ℕ) (Used : ℕ → Type 0) (old left
           leads = λ goes. goes;
         }
 
-    needed : (cut : ℕ) → is.from ≤ cut → cut ≤ reach → (page : ℕ) (m : Message) → Contains (table H cut page) m → IsSegmentOf sum size left H cut m × StandsInline sum size left m m.pointer
+    needed : (cut : ℕ) → is.from ≤ cut → cut ≤ reach → (page : ℕ) (m : Message) → Contains (table H cut page) m
+        → IsSegmentOf sum size left H cut m × StandsInline sum size left m m.pointer
     needed cut low high page m entry = let had = is.needed cut low high page m entry in needed_kept H cut m had.0 (entered cut low high page m entry) had.1
 
     pub kept_among : 256 ≤ size → StandsFrom sum size left H A first reach is.from
-    kept_among some = stands_still sum size old left H A first reach is ordering numbers each (λ s there. is.marks s (was s there)) as_far some (λ s there. is.marks_below s (was s there)) needed
+    kept_among some =
+        stands_still sum size old left H A first reach is ordering numbers each (λ s there. is.marks s (was s there)) as_far some
+        (λ s there. is.marks_below s (was s there)) needed
 
   -- So it does where all that were found are in used slots.
-  module _ (H : History) (A : ℕ) (first : SnapshotModel) (reach : ℕ) (is : StandsTo sum size old H A first reach) (listed : (s : Segment) → Contains is.ordering s → Used (s.slot / size))
-      (entered : (cut : ℕ) (low : is.from ≤ cut) (high : cut ≤ reach) (page : ℕ) (m : Message) (entry : Contains (table H cut page) m) → Used ((is.needed cut low high page m entry).0.segment.slot / size)) where
+  module _ (H : History) (A : ℕ) (first : SnapshotModel) (reach : ℕ) (is : StandsTo sum size old H A first reach)
+      (listed : (s : Segment) → Contains is.ordering s → Used (s.slot / size))
+      (entered : (cut : ℕ) (low : is.from ≤ cut) (high : cut ≤ reach) (page : ℕ) (m : Message) (entry : Contains (table H cut page) m)
+      → Used ((is.needed cut low high page m entry).0.segment.slot / size)) where
     same_numbers : IsOrdering sum size left (least_place size first) is.ordering
     same_numbers = record {
       ascending = is.numbers.ascending;

@@ -1,4 +1,5 @@
--- What a write to one slot leaves apart from it is of the history as before, in other slots and in its own below the write, and the messages that a reader comes to there are reached.
+-- What a write to one slot leaves apart from it is of the history as before, in other slots and in its own below the write, and the messages that a reader
+-- comes to there are reached.
 use Rattle.std.proofs.Common.{◌≡◌, ◌≢◌, ◌⊎◌, ◌∙◌, ◌+◌, ◌*◌, ◌/◌, ◌%◌, ◌≤◌, ℕ, pos, min, List, [], ◌∷◌, length, refl, sym, ap, subst, arith, inl, inr}
 use Rattle.std.specs.List.{Contains}
 use Rattle.std.proofs.Math.Nat.{mul-mod_left}
@@ -25,29 +26,34 @@ use Rattle.sled_core.proofs.Torn.WrittenBeside as other_slots
 use Rattle.sled_core.specs.Tail.{Scanned, IsScanned}
 use Rattle.sled_core.proofs.Tail.Multiples.{apart}
 use Rattle.sled_core.proofs.Tail.Moved.{slot_index, message_moved, of_left}
-use Rattle.sled_core.specs.inside.Hides.{IsReading}
+use Rattle.sled_core.specs.inside.Hides.{IsTrueReading}
 
 -- In other slots than this one a file has the segments that another one has, and all is met in them as there.
 pub record IsSameBeside (sum : List ℕ → ℕ) (size : ℕ) (old left : List ℕ) (slot : ℕ) : Type 0 where
   pub found : (least : ℕ) (s : Segment) → s.slot ≢ slot → IsFoundSegment sum size left least s → IsFoundSegment sum size old least s
-  pub scans : (least : ℕ) (t : Scanned) → IsFoundSegment sum size old least t.segment → t.segment.slot ≢ slot → IsScanned sum size old t → IsScanned sum size left t
+  pub scans : (least : ℕ) (t : Scanned) → IsFoundSegment sum size old least t.segment → t.segment.slot ≢ slot → IsScanned sum size old t
+      → IsScanned sum size left t
 
 -- Records that have the bytes that they have in another file are of the history as there.
-pub truth_alike : (sum : List ℕ → ℕ) (size : ℕ) (old log : List ℕ) (H : History) (slot place from : ℕ) (ms : List ScannedRecord) (next : ℕ) → AlikeAlong old log slot from ms → IsPath sum size log slot place from ms next
+pub truth_alike : (sum : List ℕ → ℕ) (size : ℕ) (old log : List ℕ) (H : History) (slot place from : ℕ) (ms : List ScannedRecord) (next : ℕ)
+    → AlikeAlong old log slot from ms → IsPath sum size log slot place from ms next
     → ((x : ScannedRecord) → Contains ms x → IsOfHistory sum size old H x) → (x : ScannedRecord) → Contains ms x → IsOfHistory sum size log H x
 truth_alike sum size old log H slot place from [] next alike path truth x there = absurd (in_nothing x there)
 truth_alike sum size old log H slot place from (m ∷ ms) next alike path truth x there = elim (in_cases m x ms there) [
-  | inl same ↦ subst (IsOfHistory sum size log H) same (of_left sum size old log H (slot + from) (place / size) m (sym alike.0) alike.1 path.2 (truth m (in_first m ms)))
+  | inl same ↦ subst (IsOfHistory sum size log H) same
+      (of_left sum size old log H (slot + from) (place / size) m (sym alike.0) alike.1 path.2 (truth m (in_first m ms)))
   | inr later ↦ truth_alike sum size old log H slot place (from + m.len) ms next alike.2 path.3 (λ y at_y. truth y (in_rest m y ms at_y)) x later
 ]
 
-module _ (sum : List ℕ → ℕ) (size : ℕ) (some : 256 ≤ size) (old : List ℕ) (slot from : ℕ) (asked now left : List ℕ) (inside : from + length asked ≤ size) (no_more : length now ≤ length asked)
+module _ (sum : List ℕ → ℕ) (size : ℕ) (some : 256 ≤ size) (old : List ℕ) (slot from : ℕ) (asked now left : List ℕ) (inside : from + length asked ≤ size)
+    (no_more : length now ≤ length asked)
     (leaves : LeavesLog (after_write old (slot * size + from) asked now) left) where
   abbrev pub at : ℕ
   at = slot * size + from
 
   -- What is met apart from the write has the bytes that it had.
-  pub alike_apart : (a place : ℕ) → a % size ≡ 0 → (here : ℕ) (ms : List ScannedRecord) (next : ℕ) → (a + min next size ≤ at) ⊎ (at + length asked ≤ a) → IsPath sum size old a place here ms next → AlikeAlong old left a here ms
+  pub alike_apart : (a place : ℕ) → a % size ≡ 0 → (here : ℕ) (ms : List ScannedRecord) (next : ℕ) → (a + min next size ≤ at) ⊎ (at + length asked ≤ a)
+      → IsPath sum size old a place here ms next → AlikeAlong old left a here ms
   unfolding IsMet
   alike_apart a place aligned here [] next beside path = tt
   alike_apart a place aligned here (m ∷ ms) next beside (room, at_place, (h, body, stands, says), path) =
@@ -55,7 +61,8 @@ module _ (sum : List ℕ → ℕ) (size : ℕ) (some : 256 ≤ size) (old : List
       let within = in_segment sum size old a aligned here (place / size) h body m.len (omega (arith, room)) stands in
       let there = stands.in_file in
       let grown = left_grows old at asked now left no_more leaves in
-      let apart_here : (a + here + m.len ≤ at) ⊎ (at + length asked ≤ a + here) = elim beside [ inl before ↦ inl (omega (arith, before, ends, within)) | inr past ↦ inr (omega (arith, past)) ] in (
+      let apart_here : (a + here + m.len ≤ at) ⊎ (at + length asked ≤ a + here) =
+      elim beside [ inl before ↦ inl (omega (arith, before, ends, within)) | inr past ↦ inr (omega (arith, past)) ] in (
         part_left old at asked now left no_more leaves (a + here) m.len there apart_here,
         omega (arith, there, grown),
         alike_apart a place aligned (here + m.len) ms next beside path,
@@ -66,13 +73,16 @@ module _ (sum : List ℕ → ℕ) (size : ℕ) (some : 256 ≤ size) (old : List
   beside a aligned other = elim (cases_order a (slot * size)) [
     | inl same ↦ absurd (other same)
     | inr (inl lower) ↦ (let far = apart size (omega (arith, some)) a (slot * size) aligned (mul-mod_left slot size) lower in inl (omega (arith, far)))
-    | inr (inr higher) ↦ (let far = apart size (omega (arith, some)) (slot * size) a (mul-mod_left slot size) aligned higher in inr (omega (arith, far, inside)))
+    | inr (inr higher) ↦ (
+        let far = apart size (omega (arith, some)) (slot * size) a (mul-mod_left slot size) aligned higher in inr (omega (arith, far, inside)))
   ]
 
   -- and have the bytes that they had
-  pub bytes_beside : (a : ℕ) → a % size ≡ 0 → a ≢ slot * size → (lid len : ℕ) → a ≤ lid → lid + len ≤ a + size → lid + len ≤ length old → part left lid len ≡ part old lid len
+  pub bytes_beside : (a : ℕ) → a % size ≡ 0 → a ≢ slot * size → (lid len : ℕ) → a ≤ lid → lid + len ≤ a + size → lid + len ≤ length old
+      → part left lid len ≡ part old lid len
   bytes_beside a aligned other lid len low high there =
-      let apart_here : (lid + len ≤ at) ⊎ (at + length asked ≤ lid) = elim (beside a aligned other) [ inl before ↦ inl (omega (arith, before, high)) | inr past ↦ inr (omega (arith, past, low)) ] in
+      let apart_here : (lid + len ≤ at) ⊎ (at + length asked ≤ lid) =
+      elim (beside a aligned other) [ inl before ↦ inl (omega (arith, before, high)) | inr past ↦ inr (omega (arith, past, low)) ] in
       part_left old at asked now left no_more leaves lid len there apart_here
 
   -- The messages that a reader comes to.
@@ -113,13 +123,16 @@ module _ (sum : List ℕ → ℕ) (size : ℕ) (some : 256 ≤ size) (old : List
             let grown = left_grows old at asked now left no_more leaves in
             let len = r.meets.len in
             let within = reached_inside in
-            let apart_here : (lid + n.size ≤ at) ⊎ (at + length asked ≤ lid) = elim lies [ inl low ↦ inl (omega (arith, low, here, len, within)) | inr past ↦ inr (omega (arith, past, here)) ] in
-            message_moved sum size old left lid (n.place / size) n (part_left old at asked now left no_more leaves lid n.size there apart_here) (omega (arith, there, grown)) stands
+            let apart_here : (lid + n.size ≤ at) ⊎ (at + length asked ≤ lid) =
+            elim lies [ inl low ↦ inl (omega (arith, low, here, len, within)) | inr past ↦ inr (omega (arith, past, here)) ] in
+            message_moved sum size old left lid (n.place / size) n (part_left old at asked now left no_more leaves lid n.size there apart_here)
+            (omega (arith, there, grown)) stands
         by (Blob lid place) pointer stands = tt
 
   -- Where each of them lies apart from the write, and what is read to its end still is, what a table needs is there.
   pub segment_left : (H : History) (cut : ℕ) → ((s : Segment) → IsFoundSegment sum size old 0 s → IsFoundSegment sum size left 0 s)
-      → ((s : Segment) → IsFoundSegment sum size old 0 s → (n : Message) (r : IsReachedIn sum size old s n) → (s.slot + min (r.at + r.met.len) size ≤ at) ⊎ (at + length asked ≤ s.slot))
+      → ((s : Segment) → IsFoundSegment sum size old 0 s → (n : Message) (r : IsReachedIn sum size old s n)
+      → (s.slot + min (r.at + r.met.len) size ≤ at) ⊎ (at + length asked ≤ s.slot))
       → ((s : Segment) → IsFoundSegment sum size old 0 s → IsReadOn sum size old H s → IsReadOn sum size left H s) → (m : Message)
       → IsSegmentOf sum size old H cut m × StandsInline sum size old m m.pointer → IsSegmentOf sum size left H cut m × StandsInline sum size left m m.pointer
   segment_left H cut found lies reads_on m (of, item) =
@@ -141,15 +154,18 @@ module _ (sum : List ℕ → ℕ) (size : ℕ) (some : 256 ≤ size) (old : List
   found_beside least s other is =
       let k : ℕ = s.slot / size in
       let here : s.slot ≡ k * size = slot_index size s.slot is.slot in
-      other_slots.found_stays sum size old slot from asked now left inside no_more leaves (omega (arith, some)) k (λ same. other (here ∙ ap (λ n. n * size) same)) least s here is
+      other_slots.found_stays sum size old slot from asked now left inside no_more leaves (omega (arith, some)) k
+      (λ same. other (here ∙ ap (λ n. n * size) same)) least s here is
 
   -- Where only what the log wrote passes as its own, that is all.
-  pub same_beside : {placed : List Placement} → NoForeignLog sum size (after_write old (slot * size + from) asked now) placed left → IsSameBeside sum size old left (slot * size)
+  pub same_beside : {placed : List Placement} → NoForeignLog sum size (after_write old (slot * size + from) asked now) placed left
+      → IsSameBeside sum size old left (slot * size)
   same_beside only_own = record {
     found = λ least s other is. (
         let k : ℕ = s.slot / size in
         let here : s.slot ≡ k * size = slot_index size s.slot is.slot in
-        other_slots.found_before sum size old slot from asked now left inside no_more leaves (omega (arith, some)) k (λ same. other (here ∙ ap (λ n. n * size) same)) only_own least s here is);
+        other_slots.found_before sum size old slot from asked now left inside no_more leaves (omega (arith, some)) k
+        (λ same. other (here ∙ ap (λ n. n * size) same)) only_own least s here is);
     scans = λ least t found other scan. (
         let k : ℕ = t.segment.slot / size in
         let here : t.segment.slot ≡ k * size = slot_index size t.segment.slot found.slot in
@@ -157,17 +173,20 @@ module _ (sum : List ℕ → ℕ) (size : ℕ) (some : 256 ≤ size) (old : List
         let header = subst (λ n. IsHeader sum (part left n 20) (pos t.segment.place) t.segment.mark) here stands.header in
         let before = subst (λ n. IsScan sum size old n t.segment.place t.met t.stop t.why) here scan in
         let after =
-        other_slots.scan_stays sum size old slot from asked now left inside no_more leaves (omega (arith, some)) k (λ same. other (here ∙ ap (λ n. n * size) same)) only_own t.segment.place t.segment.mark header t.met t.stop t.why before in
+        other_slots.scan_stays sum size old slot from asked now left inside no_more leaves (omega (arith, some)) k
+        (λ same. other (here ∙ ap (λ n. n * size) same)) only_own t.segment.place t.segment.mark header t.met t.stop t.why before in
         subst (λ n. IsScan sum size left n t.segment.place t.met t.stop t.why) (sym here) after);
   }
 
   -- The reading of a segment in another slot is that of before.
-  module _ (same : IsSameBeside sum size old left (slot * size)) (least : ℕ) (t : Scanned) (found : IsFoundSegment sum size old least t.segment) (other : t.segment.slot ≢ slot * size) (scan : IsScanned sum size old t) where
+  module _ (same : IsSameBeside sum size old left (slot * size)) (least : ℕ) (t : Scanned) (found : IsFoundSegment sum size old least t.segment)
+      (other : t.segment.slot ≢ slot * size) (scan : IsScanned sum size old t) where
     pub reading_beside : (H : History) → ((x : ScannedRecord) → Contains t.met x → IsOfHistory sum size old H x)
-        → (NothingBehind size H t.segment.place t.stop t.why) → IsReading sum size left H t.segment
+        → (NothingBehind size H t.segment.place t.stop t.why) → IsTrueReading sum size left H t.segment
     unfolding IsScan
     reading_beside H truth caps =
-        let lies : (t.segment.slot + min t.stop size ≤ at) ⊎ (at + length asked ≤ t.segment.slot) = elim (beside t.segment.slot found.slot other) [ inl before ↦ inl (omega (arith, before)) | inr past ↦ inr past ] in
+        let lies : (t.segment.slot + min t.stop size ≤ at) ⊎ (at + length asked ≤ t.segment.slot) =
+        elim (beside t.segment.slot found.slot other) [ inl before ↦ inl (omega (arith, before)) | inr past ↦ inr past ] in
         let alike = alike_apart t.segment.slot t.segment.place found.slot 20 t.met t.stop lies scan.0 in
         let read = same.scans least t found other scan in
         record {

@@ -5,7 +5,7 @@ use Rattle.sled_codec.specs.History.{Message, History, table}
 use Rattle.sled_codec.specs.Places.{part}
 use Rattle.sled_codec.specs.Snapshots.{SnapshotModel}
 use Rattle.sled_core.specs.declared.iterator.Segment.{Segment}
-use Rattle.sled_core.specs.inside.Hides.{IsReading}
+use Rattle.sled_core.specs.inside.Hides.{IsTrueReading}
 use Rattle.sled_core.specs.inside.Recoverable.{IsSegmentOf, StandsInline}
 use Rattle.sled_core.specs.inside.Scan.{IsFoundSegment}
 use Rattle.sled_core.specs.Scan.{IsScan}
@@ -19,7 +19,8 @@ use Rattle.sled_core.proofs.Reserve.Ranges.{part-append}
 use Rattle.sled_core.proofs.Tail.OneTail.{scan_there, segment_there}
 use Rattle.sled_core.proofs.Torn.WrittenBeside.{found_moved}
 
-module _ (sum : List ℕ → ℕ) (size : ℕ) (log more : List ℕ) (H : History) (A : ℕ) (first : SnapshotModel) (reach : ℕ) (is : StandsTo sum size log H A first reach)
+module _ (sum : List ℕ → ℕ) (size : ℕ) (log more : List ℕ) (H : History) (A : ℕ) (first : SnapshotModel) (reach : ℕ)
+    (is : StandsTo sum size log H A first reach)
     (again : (t : Scanned) → Contains is.scanned t → IsScanned sum size (log ++ more) t)
     (old_one : (x : Segment) → IsFoundSegment sum size (log ++ more) (least_place size first) x → IsFoundSegment sum size log (least_place size first) x) where
   abbrev left : List ℕ
@@ -45,7 +46,7 @@ module _ (sum : List ℕ → ℕ) (size : ℕ) (log more : List ℕ) (H : Histor
     placed = is.numbers.placed;
   }
 
-  reading_of : (t : Scanned) → Contains is.scanned t → IsReading sum size left H t.segment
+  reading_of : (t : Scanned) → Contains is.scanned t → IsTrueReading sum size left H t.segment
   unfolding IsScan
   reading_of t there =
       let had = known t there in
@@ -60,13 +61,14 @@ module _ (sum : List ℕ → ℕ) (size : ℕ) (log more : List ℕ) (H : Histor
         caps = is.caps t there;
       }
 
-  each : (s : Segment) → Contains is.ordering s → IsReading sum size left H s
-  each s there = let t = scan_there sum size log is.ordering is.scanned is.reads s there in subst (IsReading sum size left H) t.2 (reading_of t.0 t.1)
+  each : (s : Segment) → Contains is.ordering s → IsTrueReading sum size left H s
+  each s there = let t = scan_there sum size log is.ordering is.scanned is.reads s there in subst (IsTrueReading sum size left H) t.2 (reading_of t.0 t.1)
 
   as_far : (t : Scanned) → Contains is.scanned t → IsAsFar sum size left is.ordering t
   as_far t there = record { scan = t; segment = refl; there = (known t there).0; read = again t there; far = omega arith; leads = λ goes. goes }
 
-  needed : (cut : ℕ) → is.from ≤ cut → cut ≤ reach → (page : ℕ) (m : Message) → Contains (table H cut page) m → IsSegmentOf sum size left H cut m × StandsInline sum size left m m.pointer
+  needed : (cut : ℕ) → is.from ≤ cut → cut ≤ reach → (page : ℕ) (m : Message) → Contains (table H cut page) m
+      → IsSegmentOf sum size left H cut m × StandsInline sum size left m m.pointer
   needed cut low high page m entry =
       let had = is.needed cut low high page m entry in
       let of = had.0 in
@@ -84,4 +86,5 @@ module _ (sum : List ℕ → ℕ) (size : ℕ) (log more : List ℕ) (H : Histor
       )
 
   pub longer_stands : 256 ≤ size → StandsFrom sum size left H A first reach is.from
-  longer_stands some = stands_still sum size log left H A first reach is is.ordering numbers each is.marks (λ t there low. as_far t there) some is.marks_below needed
+  longer_stands some =
+      stands_still sum size log left H A first reach is is.ordering numbers each is.marks (λ t there low. as_far t there) some is.marks_below needed

@@ -1,4 +1,5 @@
--- A log file is read anew behind a write: where each segment that is held is read at least as far, and what is met is of the history, it stands up to the same place.
+-- A log file is read anew behind a write: where each segment that is held is read at least as far, and what is met is of the history, it stands up to the same
+-- place.
 use Rattle.std.proofs.Common.{◌≡◌, ◌≢◌, ◌⊎◌, ◌∙◌, ◌+◌, ◌*◌, ◌/◌, ◌%◌, ◌<◌, ◌≤◌, ℕ, List, [], ◌∷◌, refl, sym, ap, subst, arith, inl, inr}
 use Rattle.std.specs.List.{Contains}
 use Rattle.sled_codec.specs.History.{Message, History, table}
@@ -7,7 +8,7 @@ use Rattle.sled_store.proofs.Segments.Elements.{in_first, in_rest}
 use Rattle.sled_core.specs.declared.iterator.Segment.{Segment}
 use Rattle.sled_core.specs.declared.iterator.scan.ScannedRecord.{ScannedRecord}
 use Rattle.sled_core.specs.declared.iterator.scan.ScanEnd.TheVariants.{Broken}
-use Rattle.sled_core.specs.inside.Hides.{IsReading}
+use Rattle.sled_core.specs.inside.Hides.{IsTrueReading}
 use Rattle.sled_core.specs.inside.Recoverable.{NothingBehind, StandsInline, IsOfHistory, IsSegmentOf, IsMarkOf, IsMarkBelow}
 use Rattle.sled_core.specs.Tail.{Scanned, IsScanned, IsOrdering, AreScanned, least_place}
 use Rattle.sled_core.proofs.Tail.OneReading.{one_scan}
@@ -26,16 +27,17 @@ pub record IsAsFar (sum : List ℕ → ℕ) (size : ℕ) (log : List ℕ) (order
 
 module _ (sum : List ℕ → ℕ) (size : ℕ) (log : List ℕ) (H : History) where
   -- the readings of segments, in the order of these
-  pub scans_of : (ss : List Segment) → ((s : Segment) → Contains ss s → IsReading sum size log H s) → (xs : List Scanned) × AreScanned sum size log ss xs
+  pub scans_of : (ss : List Segment) → ((s : Segment) → Contains ss s → IsTrueReading sum size log H s) → (xs : List Scanned) × AreScanned sum size log ss xs
   scans_of [] each = ([], tt)
   scans_of (s ∷ ss) each =
       let one = each s (in_first s ss) in
       let rest = scans_of ss (λ t there. each t (in_rest s t ss there)) in
       (one.scan ∷ rest.0, (one.segment, one.read, rest.1))
 
-  module _ (ss : List Segment) (each : (s : Segment) → Contains ss s → IsReading sum size log H s) (xs : List Scanned) (are : AreScanned sum size log ss xs) where
+  module _ (ss : List Segment) (each : (s : Segment) → Contains ss s → IsTrueReading sum size log H s) (xs : List Scanned)
+      (are : AreScanned sum size log ss xs) where
     -- each of them is the one reading of its segment
-    the_reading : (t : Scanned) → Contains xs t → (r : IsReading sum size log H t.segment) × (r.scan ≡ t)
+    the_reading : (t : Scanned) → Contains xs t → (r : IsTrueReading sum size log H t.segment) × (r.scan ≡ t)
     the_reading t there =
         let known = segment_there sum size log ss xs are t there in
         let r = each t.segment known.0 in
@@ -50,7 +52,8 @@ module _ (sum : List ℕ → ℕ) (size : ℕ) (log : List ℕ) (H : History) wh
         subst (λ (u : Scanned). NothingBehind size H u.segment.place u.stop u.why) r.1 r.0.caps
 
 module _ (sum : List ℕ → ℕ) (size : ℕ) (old log : List ℕ) (H : History) (A : ℕ) (first : SnapshotModel) (reach : ℕ) (is : StandsTo sum size old H A first reach)
-    (ordering : List Segment) (numbers : IsOrdering sum size log (least_place size first) ordering) (each : (s : Segment) → Contains ordering s → IsReading sum size log H s)
+    (ordering : List Segment) (numbers : IsOrdering sum size log (least_place size first) ordering)
+    (each : (s : Segment) → Contains ordering s → IsTrueReading sum size log H s)
     (marks : (s : Segment) → Contains ordering s → IsMarkOf H s) where
   abbrev readings : (xs : List Scanned) × AreScanned sum size log ordering xs
   readings = scans_of sum size log H ordering each
@@ -66,7 +69,8 @@ module _ (sum : List ℕ → ℕ) (size : ℕ) (old log : List ℕ) (H : History
 
     -- What led on up to the place does so.
     gapless_still : (z : ℕ) → z % size ≡ 0 → is.from / size * size ≤ z → z < reach
-        → (t : Scanned) × Contains readings.0 t × (t.segment.place ≡ z) × ((reach ≤ z + t.stop) ⊎ ((t.why ≢ Broken) × (u : Segment) × Contains ordering u × (u.place ≡ z + size)))
+        → (t : Scanned) × Contains readings.0 t × (t.segment.place ≡ z)
+        × ((reach ≤ z + t.stop) ⊎ ((t.why ≢ Broken) × (u : Segment) × Contains ordering u × (u.place ≡ z + size)))
     gapless_still z aligned low under =
         let found = is.gapless z aligned low under in
         let u = on found.0 found.1 (omega (arith, low, found.2)) in
@@ -82,7 +86,9 @@ module _ (sum : List ℕ → ℕ) (size : ℕ) (old log : List ℕ) (H : History
 
     -- Up to the same place, and what is held counts from where it did.
     pub stands_still : 256 ≤ size → ((s : Segment) → Contains ordering s → IsMarkBelow size H A s.mark)
-        → ((cut : ℕ) → is.from ≤ cut → cut ≤ reach → (page : ℕ) (m : Message) → Contains (table H cut page) m → IsSegmentOf sum size log H cut m × StandsInline sum size log m m.pointer) → StandsFrom sum size log H A first reach is.from
+        → ((cut : ℕ) → is.from ≤ cut → cut ≤ reach → (page : ℕ) (m : Message) → Contains (table H cut page) m
+        → IsSegmentOf sum size log H cut m × StandsInline sum size log m m.pointer)
+        → StandsFrom sum size log H A first reach is.from
     stands_still some marks_below needed = (
       record {
         ordering = ordering;
@@ -101,7 +107,8 @@ module _ (sum : List ℕ → ℕ) (size : ℕ) (old log : List ℕ) (H : History
         from = is.from;
         from_low = is.from_low;
         from_high = is.from_high;
-        tail_from = tail_stays size some (least_place size first) (is.from / size * size) is.ordering ordering (λ s there. (is.marks s there).below) still_found is.tail_from;
+        tail_from = tail_stays size some (least_place size first) (is.from / size * size) is.ordering ordering (λ s there. (is.marks s there).below) still_found
+            is.tail_from;
         gapless = gapless_still;
         needed = needed;
       },

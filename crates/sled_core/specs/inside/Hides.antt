@@ -21,7 +21,7 @@ use Rattle.sled_core.specs.inside.Recoverable.{IsMarkOf, IsOfHistory, NothingBeh
 use Rattle.sled_core.specs.inside.Slots.{marked_at}
 
 -- What is met in a segment, all of it of the history. Behind a Cap nothing of that begins in the segment.
-pub record IsReading (sum : List ℕ → ℕ) (size : ℕ) (log : List ℕ) (H : History) (s : Segment) : Type 0 where
+pub record IsTrueReading (sum : List ℕ → ℕ) (size : ℕ) (log : List ℕ) (H : History) (s : Segment) : Type 0 where
   pub scan : Scanned
   pub segment : scan.segment ≡ s
   pub read : IsScanned sum size log scan
@@ -32,7 +32,7 @@ pub record IsReading (sum : List ℕ → ℕ) (size : ℕ) (log : List ℕ) (H :
 pub record IsGoneSegment (sum : List ℕ → ℕ) (size : ℕ) (log : List ℕ) (H : History) (base : ℕ) (s : Segment) : Type 0 where
   pub below : s.place + size ≤ base
   pub is_mark : IsMarkOf H s
-  pub reading : IsReading sum size log H s
+  pub reading : IsTrueReading sum size log H s
 
 -- a record of a number at an offset of the file is the log's own: it was placed there, and has stood since
 pub record IsOwnRecord (sum : List ℕ → ℕ) (size : ℕ) (s : State) (number at : ℕ) (text : List ℕ) : Type 0 where
@@ -70,7 +70,7 @@ pub record IsGone (sum : List ℕ → ℕ) (size : ℕ) (s : State) (m : Machine
   pub aligned : place % size ≡ 0
   pub below : place + size ≤ base
   pub is_mark : IsMarkOf H (marked_at (k * size) place mark)
-  pub reading : (log : List ℕ) → ReadsOwnIn sum size s k (place / size) log → IsReading sum size log H (marked_at (k * size) place mark)
+  pub reading : (log : List ℕ) → ReadsOwnIn sum size s k (place / size) log → IsTrueReading sum size log H (marked_at (k * size) place mark)
 
 -- What the log file has besides what is shown of it, at rest. Of headers it is said from a place on, that of the snapshot's segment: recovery passes over those
 -- below, and of their segments less is known.

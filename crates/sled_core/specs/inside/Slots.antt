@@ -2,10 +2,11 @@
 use Rattle.std.specs.Prelude.{◌≡◌, ◌+◌, ◌*◌, ◌/◌, ◌≤◌, ℕ, ℤ, false, List, Option, Contains}
 use Rattle.sled_codec.specs.History.{Message, History}
 use Rattle.sled_codec.specs.Snapshots.{SnapshotModel, stable_place}
-use Rattle.sled_store.specs.Outdated.{AreInActive, AreOutdated}
+use Rattle.sled_store.specs.Outdated.{AreOutdated}
 use Rattle.sled_store.specs.SegmentStates.{Machine, is_free, slot_at}
 use Rattle.sled_store.specs.SnapshotFiles.{BeginsFrom}
 use Rattle.sled_store.specs.Tracked.{IsAccountOf}
+use Rattle.sled_store.specs.inside.Outdated.{AreInActive}
 use Rattle.sled_core.specs.declared.iterator.Segment.{Segment}
 use Rattle.sled_core.specs.Unmarked.{without}
 use Rattle.sled_core.specs.inside.Recoverable.{IsReachedIn, IsReadOn}

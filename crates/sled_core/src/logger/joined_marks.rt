@@ -5,9 +5,8 @@ ghost use Rattle.std.specs.Prelude.{◌≡◌, ◌≤◌, ◌≤ℤ◌, if◌the
 ghost use Rattle.sled_core.specs.HeaderMark.{greater_mark, mark_at, mark_in};
 
 use sled_codec::result::Lsn;
-
-// All bits but the sign's: those of a place in a header are flipped.
-const MASK: u64 = 0x7FFF_FFFF_FFFF_FFFF;
+use sled_codec::serialization::{Checksum, SegmentHeader};
+use sled_store::segment::SEG_HEADER_LEN;
 
 /// Up to which place segments were left behind.
 #[derive(Debug, Clone, Copy)]
@@ -50,22 +49,22 @@ impl JoinedMarks {
 
 /// The mark of a buffer with these bytes, which begins at an offset of its segment: that of the segment, where it begins
 /// with the header.
-pub(crate) fn mark_at(from: usize, bytes: &[u8]) -> Option<Lsn>
+pub(crate) fn mark_at<C: Checksum>(checksum: &C, from: usize, bytes: &[u8]) -> Option<Lsn>
     requires { from ≡ 0 → 20 ≤ length bytes.now }
     ensures { result ≡ mark_at from bytes.now }
 {
     if from > 0 {
         return None;
     }
-    Some(mark_in(bytes))
+    Some(mark_in(checksum, bytes))
 }
 
-/// The mark of the header with which these bytes begin.
-fn mark_in(bytes: &[u8]) -> Lsn
+/// The mark of the header with which these bytes begin. The log made it, so whether its checksum fits isn't asked.
+fn mark_in<C: Checksum>(checksum: &C, bytes: &[u8]) -> Lsn
     requires { 20 ≤ length bytes.now }
     ensures { result ≡ mark_in bytes.now }
 {
-    let mut low = [0u8; 8];
-    low.copy_from_slice(&bytes[12..20]);
-    (u64::from_le_bytes(low) ^ MASK).cast_signed()
+    let mut first = [0u8; SEG_HEADER_LEN];
+    first.copy_from_slice(&bytes[..SEG_HEADER_LEN]);
+    SegmentHeader::from_bytes(&first, checksum).max_stable_lsn
 }

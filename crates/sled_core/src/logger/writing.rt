@@ -269,7 +269,7 @@ impl<D: Device, C: Checksum> Log<D, C> {
     {
         let s = self.segments.segment(n);
         let (from, to) = s.buffer.span(k);
-        mark_at(from, &s.buffer.bytes[from..to])
+        mark_at(&self.config.checksum, from, &s.buffer.bytes[from..to])
     }
 
     /// Writes the bytes of that buffer, and syncs them. It keeps a failure of the device.

@@ -34,7 +34,7 @@ use Rattle.sled_log.specs.ReadSteps.{FailsAt, ReadStep, ReadsAll, read_around, r
 use Rattle.sled_log.specs.RunStates.{DeviceView, HasAll, LogView, RunState, body_in, length_of, made_ready, message_at, opens, page_now, places_without, rewriting_at, sealed_around, spans_without, start_around, start_below, target_in, tickets_in, tickets_of, with_log, stable_of}
 use Rattle.sled_log.specs.Runs.{CrashStep, HaltStep, IsOwn, IsStep, Runs, StepBy, StopStep, told}
 use Rattle.sled_log.specs.RunPhases.{IsAt, SomeStands, StandsAt, StandsAtPhase, Unstored, seen, stands, traces}
-use Rattle.sled_log.specs.WriteSteps.{FailsTo, FlushStep, HasWrittenTo, KeepsFailing, StableStep, WriteStep, flushed, left_from, stable_from, target_by}
+use Rattle.sled_log.specs.WriteSteps.{FailsTo, FlushStep, HasWrittenTo, KeepsFailing, StableStep, WriteStep, view_flushed, left_from, stable_from, target_by}
 use Rattle.sled_log.specs.TicketSteps.{AbortStep, CompleteStep, EndStep, HasReserved, RefusedStep, ReserveStep, RewriteStep, batch_of, blank_manifest, giving_up, keeping, noting, spent}
 use Rattle.sled_log.proofs.Sessions.Reading.{sized}
 use Rattle.sled_log.proofs.Sessions.RunLemmas.{start_cause_of}
@@ -83,15 +83,18 @@ module _ (sum : List ℕ → ℕ) (size : ℕ) (device : DeviceView) (H : Histor
 
   -- The log is another, with the same tickets, with none, or with one that is spent.
   keeps : (log after : Option LogView) (new : DeviceView) (b : RunState) → b ≡ with_log (at_log log) new after
-      → (tickets_in after ≡ tickets_in log) ⊎ (tickets_in after ≡ []) ⊎ ((t : ℕ) × (tickets_in after ≡ set (tickets_in log) t None)) → Stays (at_log log) b × Led (at_log log) new b
+      → (tickets_in after ≡ tickets_in log) ⊎ (tickets_in after ≡ []) ⊎ ((t : ℕ) × (tickets_in after ≡ set (tickets_in log) t None))
+      → Stays (at_log log) b × Led (at_log log) new b
   keeps log after new b is tickets = (subst (Stays (at_log log)) (sym is) (tickets, refl), inr (ap (λ (x : RunState). x.device) is))
 
-  crash : (log : Option LogView) (choice : Choice) (r : Reply) (new : DeviceView) (b : RunState) → CrashStep (at_log log) choice r new b → Stays (at_log log) b × Led (at_log log) new b
+  crash : (log : Option LogView) (choice : Choice) (r : Reply) (new : DeviceView) (b : RunState) → CrashStep (at_log log) choice r new b
+      → Stays (at_log log) b × Led (at_log log) new b
   crash log choice (reply.Crashed taken) new b step = keeps log None new b step.1 (inr (inl refl))
   crash log choice (reply.Failed error.OutOfMemory) new b step = same log new b step.1
   crash log choice _ new b step = absurd step.0
 
-  stop : (log : Option LogView) (n : ℕ) (r : Reply) (new : DeviceView) (b : RunState) → StopStep (at_log log) n r new b → Stays (at_log log) b × Led (at_log log) new b
+  stop : (log : Option LogView) (n : ℕ) (r : Reply) (new : DeviceView) (b : RunState) → StopStep (at_log log) n r new b
+      → Stays (at_log log) b × Led (at_log log) new b
   stop log n reply.Armed new b step = keeps log log new b step.1 (inl refl)
   stop log n _ new b step = absurd step
 
@@ -101,7 +104,8 @@ module _ (sum : List ℕ → ℕ) (size : ℕ) (device : DeviceView) (H : Histor
 
   -- An opening of a device on which only what the log itself wrote passes as its own.
   module _ (own : IsOwn sum size (state_of device.trace) command.Open (reply.Failed error.OutOfMemory)) where
-    restores : (r : Reply) (new : DeviceView) (b : RunState) (opened : HasOpened sum size (at_log None) r new b) → Restores sum size (at_log None) opened.opens.snapshot b
+    restores : (r : Reply) (new : DeviceView) (b : RunState) (opened : HasOpened sum size (at_log None) r new b)
+        → Restores sum size (at_log None) opened.opens.snapshot b
     restores r new b opened =
         let goes = opened.good own in
         subst (λ (x : RunState). Restores sum size (at_log None) opened.opens.snapshot x) (sym goes.leads) (goes.good, none r, refl)
@@ -113,19 +117,26 @@ module _ (sum : List ℕ → ℕ) (size : ℕ) (device : DeviceView) (H : Histor
     opened_device : (r : Reply) (new : DeviceView) (b : RunState) → HasOpened sum size (at_log None) r new b → b.device ≡ new
     opened_device r new b opened = ap (λ (x : RunState). x.device) (opened.good own).leads
 
-    opening : (r : Reply) (new : DeviceView) (b : RunState) → OpenStep sum size (at_log None) r new b → Moves sum size (at_log None) command.Open r b × (b.device ≡ new)
+    opening : (r : Reply) (new : DeviceView) (b : RunState) → OpenStep sum size (at_log None) r new b
+        → Moves sum size (at_log None) command.Open r b × (b.device ≡ new)
     opening (reply.Opened stable active pages) new b step = (
       (step.opens.snapshot, step.opens.starts.0, restores (reply.Opened stable active pages) new b step),
       opened_device (reply.Opened stable active pages) new b step,
     )
     opening (reply.Failed e) new b (inl not) =
         let now : b.device ≡ new = ap (λ (x : RunState). x.device) not.leads in (
-          (subst (λ (d : DeviceView). IsStartCause e device.failures d.failures) (sym now) (start_cause_of e device.failures new.failures (not.cause own)), inl (keeps None None new b not.leads (inl refl)).0),
+          (
+            subst (λ (d : DeviceView). IsStartCause e device.failures d.failures) (sym now) (start_cause_of e device.failures new.failures (not.cause own)),
+            inl (keeps None None new b not.leads (inl refl)).0,
+          ),
           now,
         )
     opening (reply.Failed e) new b (inr only) =
         let now = opened_device (reply.Failed e) new b only in (
-          (subst (λ (d : DeviceView). IsStartCause e device.failures d.failures) (sym now) (only.good own).why, inr (only.opens.snapshot, restores (reply.Failed e) new b only)),
+          (
+            subst (λ (d : DeviceView). IsStartCause e device.failures d.failures) (sym now) (only.good own).why,
+            inr (only.opens.snapshot, restores (reply.Failed e) new b only),
+          ),
           now,
         )
     opening _ new b step = absurd step.opens.starts
@@ -148,20 +159,35 @@ module _ (sum : List ℕ → ℕ) (size : ℕ) (device : DeviceView) (H : Histor
     refused q (error.Held at) new b step = same (Some l) new b step.1
     refused q _ new b step = absurd step
 
-    reserves : (q : Position) (m : Message) (n : ℕ) (place : ℤ) (pointer : DiskPtr) (new : DeviceView) (b : RunState) → HasReserved size a l q m n place pointer new b
+    reserves : (q : Position) (m : Message) (n : ℕ) (place : ℤ) (pointer : DiskPtr) (new : DeviceView) (b : RunState)
+        → HasReserved size a l q m n place pointer new b
         → Reserves a m.kind m.page m.bytes (reply.Reserved n place pointer) b × Led a new b
     reserves q m n place pointer new b has = (
-      (m, refl, refl, refl, sym has.answer.0, sym has.answer.1, has.number, ap tickets_of has.leads, subst (λ (x : RunState). x ≡ record a { device = x.device; log = x.log }) (sym has.leads) refl),
+      (
+        m,
+        refl,
+        refl,
+        refl,
+        sym has.answer.0,
+        sym has.answer.1,
+        has.number,
+        ap tickets_of has.leads,
+        subst (λ (x : RunState). x ≡ record a { device = x.device; log = x.log }) (sym has.leads) refl,
+      ),
       inr (ap (λ (x : RunState). x.device) has.leads),
     )
 
-    reserve : (kind : LogKind) (page : ℕ) (bytes : List ℕ) (r : Reply) (new : DeviceView) (b : RunState) → ReserveStep size a l kind page bytes r new b → Reserves a kind page bytes r b × Led a new b
-    reserve kind page bytes (reply.Reserved n place pointer) new b has = reserves (target_in size l page (body_in size (length bytes))) (message_at size l kind page bytes) n place pointer new b has
+    reserve : (kind : LogKind) (page : ℕ) (bytes : List ℕ) (r : Reply) (new : DeviceView) (b : RunState) → ReserveStep size a l kind page bytes r new b
+        → Reserves a kind page bytes r b × Led a new b
+    reserve kind page bytes (reply.Reserved n place pointer) new b has =
+        reserves (target_in size l page (body_in size (length bytes))) (message_at size l kind page bytes) n place pointer new b has
     reserve kind page bytes (reply.Failed e) new b (inl step) = refused (target_in size l page (body_in size (length bytes))) e new b step
-    reserve kind page bytes (reply.Failed e) new b (inr blob) = keeps (Some l) (Some (made_ready l (target_in size l page (body_in size (length bytes))) blob.1.kept)) new b blob.1.leads (inl refl)
+    reserve kind page bytes (reply.Failed e) new b (inr blob) =
+        keeps (Some l) (Some (made_ready l (target_in size l page (body_in size (length bytes))) blob.1.kept)) new b blob.1.leads (inl refl)
     reserve kind page bytes _ new b step = absurd step
 
-    rewrite : (page : ℕ) (r : Reply) (new : DeviceView) (b : RunState) → RewriteStep size a l page r new b → Moves sum size a (command.Rewrite page) r b × Led a new b
+    rewrite : (page : ℕ) (r : Reply) (new : DeviceView) (b : RunState) → RewriteStep size a l page r new b
+        → Moves sum size a (command.Rewrite page) r b × Led a new b
     rewrite page (reply.Reserved n place pointer) new b has =
         let kept = reserves (target_in size l page 8) (rewriting_at size l page has.blob has.message.bytes) n place pointer new b has.reserved in
         ((has.message, has.is, kept.0), kept.1)
@@ -170,7 +196,8 @@ module _ (sum : List ℕ → ℕ) (size : ℕ) (device : DeviceView) (H : Histor
 
     -- Tickets are spent.
 
-    comes : (t : ℕ) (m : Message) (event : HistoryEvent) (H' : History) (log : LogView) (new : DeviceView) (b : RunState) → slice_get l.tickets t ≡ Some (Some m) → Step H event H' → log.tickets ≡ set l.tickets t None
+    comes : (t : ℕ) (m : Message) (event : HistoryEvent) (H' : History) (log : LogView) (new : DeviceView) (b : RunState)
+        → slice_get l.tickets t ≡ Some (Some m) → Step H event H' → log.tickets ≡ set l.tickets t None
         → b ≡ record a { device = new; history = H'; log = Some log } → Comes a t m event b × Led a new b
     comes t m event H' log new b there step spends leads = (
       (
@@ -184,14 +211,18 @@ module _ (sum : List ℕ → ℕ) (size : ℕ) (device : DeviceView) (H : Histor
 
     complete : (t : ℕ) (r : Reply) (new : DeviceView) (b : RunState) → CompleteStep a l t r new b → Moves sum size a (command.Complete t) r b × Led a new b
     complete t (reply.Done place pointer) new b has =
-        let came = comes t has.message (Completed has.message) has.history (spent l t (places_without has.message.place (opens l)) (if has.message.page == l.begun then l.begun + 1 else l.begun)) new b has.reserved has.step refl has.leads in
+        let came =
+        comes t has.message (Completed has.message) has.history
+        (spent l t (places_without has.message.place (opens l)) (if has.message.page == l.begun then l.begun + 1 else l.begun)) new b has.reserved has.step refl
+        has.leads in
         ((has.message, came.0), came.1)
     complete t (reply.Failed (error.Io e)) new b step = keeps (Some l) (Some (spent l t (opens l) l.begun)) new b step.1 (inr (inr (t, refl)))
     complete t (reply.Failed error.OutOfMemory) new b step = same (Some l) new b step.1
     complete t _ new b step = absurd step
 
     abort : (t : ℕ) (r : Reply) (new : DeviceView) (b : RunState) → AbortStep a l t r new b → Moves sum size a (command.Abort t) r b × Led a new b
-    abort t (reply.Done place pointer) new b has = keeps (Some l) (Some (giving_up has.message (spent l t (places_without has.message.place (opens l)) l.begun))) new b has.leads (inr (inr (t, refl)))
+    abort t (reply.Done place pointer) new b has =
+        keeps (Some l) (Some (giving_up has.message (spent l t (places_without has.message.place (opens l)) l.begun))) new b has.leads (inr (inr (t, refl)))
     abort t (reply.Failed (error.Io e)) new b fails = keeps (Some l) (Some (keeping e (spent l t (opens l) l.begun))) new b fails.leads (inr (inr (t, refl)))
     abort t _ new b step = absurd step
 
@@ -199,22 +230,27 @@ module _ (sum : List ℕ → ℕ) (size : ℕ) (device : DeviceView) (H : Histor
     end ends (reply.Done place pointer) new b has =
         let t : ℕ = has.begun.ticket in
         let m : Message = has.begun.message in
-        let came = comes t m (Batched (batch_of l m)) has.history (noting (batch_of l m) (spent l t (places_without m.place (opens l)) l.begun)) new b has.begun.reserved has.step refl has.leads in
+        let came =
+        comes t m (Batched (batch_of l m)) has.history (noting (batch_of l m) (spent l t (places_without m.place (opens l)) l.begun)) new b has.begun.reserved
+        has.step refl has.leads in
         let all : HasAll a (batch_of l m) = record {
           completed = λ x there. (let le = ends.completed x there in omega (arith, le));
           reserved = λ n x there. (let le = ends.reserved n x there in omega (arith, le));
         } in
         ((t, m, batch_of l m, has.begun.manifest, sym has.answer.0, refl, all, came.0), came.1)
-    end ends (reply.Failed (error.Io e)) new b step = keeps (Some l) (Some (spent l step.1.0.ticket (opens l) l.begun)) new b step.1.1 (inr (inr (step.1.0.ticket, refl)))
+    end ends (reply.Failed (error.Io e)) new b step =
+        keeps (Some l) (Some (spent l step.1.0.ticket (opens l) l.begun)) new b step.1.1 (inr (inr (step.1.0.ticket, refl)))
     end ends _ new b step = absurd step
 
     -- Writing.
 
-    written : (Meant : Message → Type 0) (to n : ℕ) (new : DeviceView) (b : RunState) → ((m : Message) → Contains H.messages m → Meant m → m.place < stable_from to l) → HasWrittenTo sum size a l to n new b
+    written : (Meant : Message → Type 0) (to n : ℕ) (new : DeviceView) (b : RunState)
+        → ((m : Message) → Contains H.messages m → Meant m → m.place < stable_from to l) → HasWrittenTo sum size a l to n new b
         → Acknowledges a Meant b × Led a new b
     written Meant to n new b low has =
         let end : ℕ = end_below (stable_from to l) H in
-        let here : Acknowledges a Meant (record a { device = new; acknowledged = max A end; log = Some (flushed l (left_from to l) (start_below to l) None) }) = (
+        let here : Acknowledges a Meant
+        (record a { device = new; acknowledged = max A end; log = Some (view_flushed l (left_from to l) (start_below to l) None) }) = (
           omega arith,
           λ m there meant. (let le = message_acknowledged (stable_from to l) H m there (low m there meant) in omega (arith, le)),
           refl,
@@ -223,21 +259,30 @@ module _ (sum : List ℕ → ℕ) (size : ℕ) (device : DeviceView) (H : Histor
         (subst (Acknowledges a Meant) (sym has.leads) here, inr (ap (λ (x : RunState). x.device) has.leads))
 
     fails_to : (to : ℕ) (e : Error) (new : DeviceView) (b : RunState) → FailsTo sum size a l to e new b → Stays a b × Led a new b
-    fails_to to e new b step = elim step.came.2 [ inl sealed ↦ keeps (Some l) _ new b sealed.0 (inl refl) | inr none ↦ keeps (Some l) _ new b none.3 (inl refl) ]
+    fails_to to e new b step = elim step.came.2 [
+      | inl sealed ↦ keeps (Some l) _ new b sealed.0 (inl refl)
+      | inr none ↦ keeps (Some l) _ new b none.3 (inl refl)
+    ]
 
     flush : EndsIn H l → (r : Reply) (new : DeviceView) (b : RunState) → FlushStep sum size a l r new b → Moves sum size a command.Flush r b × Led a new b
     flush ends (reply.Flushed n) new b has =
-        written (λ m. Unit {0}) l.end n new b (λ m there meant. (let some = ends.sized m there in let le = All-contains (λ (x : Message). x.place + x.size ≤ stable_from l.end l) H.messages m has.all there in omega (arith, some, le))) has.written
+        written (λ m. Unit {0}) l.end n new b (λ m there meant.
+        (let some = ends.sized m there in
+        let le = All-contains (λ (x : Message). x.place + x.size ≤ stable_from l.end l) H.messages m has.all there in omega (arith, some, le))) has.written
     flush ends (reply.Failed e) new b (inl kept) = keeping_on e new b kept
     flush ends (reply.Failed e) new b (inr fails) = fails_to l.end e new b fails
     flush ends _ new b step = absurd step
 
-    stable_fails : (place : ℤ) (e : Error) (new : DeviceView) (b : RunState) → KeepsFailing a l e new b ⊎ ((pos (stable_of l) ≤ℤ place) × (place <ℤ pos l.end) × FailsTo sum size a l (target_by l place) e new b) → Stays a b × Led a new b
+    stable_fails : (place : ℤ) (e : Error) (new : DeviceView) (b : RunState)
+        → KeepsFailing a l e new b ⊎ ((pos (stable_of l) ≤ℤ place) × (place <ℤ pos l.end) × FailsTo sum size a l (target_by l place) e new b)
+        → Stays a b × Led a new b
     stable_fails place e new b (inl kept) = keeping_on e new b kept
     stable_fails place e new b (inr fails) = fails_to (target_by l place) e new b fails.2
 
-    stable : (place : ℤ) (r : Reply) (new : DeviceView) (b : RunState) → StableStep sum size a l place r new b → Moves sum size a (command.Stable place) r b × Led a new b
-    stable place (reply.Flushed n) new b has = written (λ m. pos m.place ≤ℤ place) (target_by l place) n new b (λ m there meant. omega (arith, ints, meant, has.2)) has.1
+    stable : (place : ℤ) (r : Reply) (new : DeviceView) (b : RunState) → StableStep sum size a l place r new b
+        → Moves sum size a (command.Stable place) r b × Led a new b
+    stable place (reply.Flushed n) new b has =
+        written (λ m. pos m.place ≤ℤ place) (target_by l place) n new b (λ m there meant. omega (arith, ints, meant, has.2)) has.1
     stable place (reply.Failed (error.NotReserved at)) new b step = same (Some l) new b step.5
     stable place (reply.Failed e) new b step = stable_fails place e new b step
     stable place _ new b step = absurd step
@@ -252,7 +297,7 @@ module _ (sum : List ℕ → ℕ) (size : ℕ) (device : DeviceView) (H : Histor
 
     around : (o : LogView) (at : ℕ) → (read_around o at).tickets ≡ o.tickets
     around o at = by (nat_lt at o.synced) where
-      by : (x : Bool) → (if x then o else flushed o (spans_without at (sealed_around at o)) (start_around at o) o.fault).tickets ≡ o.tickets
+      by : (x : Bool) → (if x then o else view_flushed o (spans_without at (sealed_around at o)) (start_around at o) o.fault).tickets ≡ o.tickets
       by true = refl
       by false = refl
 
@@ -260,7 +305,8 @@ module _ (sum : List ℕ → ℕ) (size : ℕ) (device : DeviceView) (H : Histor
     reads o [] old new end all = ap (λ (x : LogView). x.tickets) all.2
     reads o (m ∷ ms) old new end all = reads (read_around o (read_at m)) ms all.0 new end all.2 ∙ around o (read_at m)
 
-    fails_at : (o : LogView) → o.tickets ≡ l.tickets → (at : ℕ) (e : Error) (old new : DeviceView) (b : RunState) → FailsAt sum size a o at e old new b → Stays a b × Led a new b
+    fails_at : (o : LogView) → o.tickets ≡ l.tickets → (at : ℕ) (e : Error) (old new : DeviceView) (b : RunState) → FailsAt sum size a o at e old new b
+        → Stays a b × Led a new b
     fails_at o is at e old new b step = elim step.came [
       | inl some ↦ elim some.1 [ inl none ↦ keeps (Some l) _ new b none.1 (inl is) | inr sealed ↦ keeps (Some l) _ new b sealed (inl is) ]
       | inr written ↦ keeps (Some l) _ new b written.2 (inl is)
@@ -272,11 +318,13 @@ module _ (sum : List ℕ → ℕ) (size : ℕ) (device : DeviceView) (H : Histor
     read ms (reply.Failed e) new b (inl kept) = keeping_on e new b kept
     read ms (reply.Failed error.OutOfMemory) new b (inr (inl none)) = same (Some l) new b none.2
     read ms (reply.Failed e) new b (inr (inl none)) = absurd none
-    read ms (reply.Failed e) new b (inr (inr step)) = fails_at step.log (reads l step.done device step.mid step.log step.so_far) (read_at step.message) e step.mid new b step.fails
+    read ms (reply.Failed e) new b (inr (inr step)) =
+        fails_at step.log (reads l step.done device step.mid step.log step.so_far) (read_at step.message) e step.mid new b step.fails
     read ms _ new b step = absurd step
 
   -- Each command.
-  by_log : (log : Option LogView) (c : Command) (r : Reply) (new : DeviceView) (b : RunState) → Known (at_log log) → IsOwn sum size (state_of device.trace) c r → StepBy sum size (at_log log) log c r new b
+  by_log : (log : Option LogView) (c : Command) (r : Reply) (new : DeviceView) (b : RunState) → Known (at_log log) → IsOwn sum size (state_of device.trace) c r
+      → StepBy sum size (at_log log) log c r new b
       → Moves sum size (at_log log) c r b × Led (at_log log) new b
   by_log log (command.Crash choice) r new b ends own step = crash log choice r new b step
   by_log log (command.Stop n) r new b ends own step = stop log n r new b step
@@ -296,14 +344,19 @@ module _ (sum : List ℕ → ℕ) (size : ℕ) (device : DeviceView) (H : Histor
   by_log (Some l) command.Halt r new b ends own step = halt (Some l) r new b step
   by_log log _ r new b ends own step = absurd step
 
-  led_by : (log : Option LogView) (r : Reply) (new : DeviceView) (b : RunState) → IsOwn sum size (state_of device.trace) command.Open r → StepBy sum size (at_log log) log command.Open r new b → b.device ≡ new
+  led_by : (log : Option LogView) (r : Reply) (new : DeviceView) (b : RunState) → IsOwn sum size (state_of device.trace) command.Open r
+      → StepBy sum size (at_log log) log command.Open r new b → b.device ≡ new
   led_by None r new b own step = (opening own r new b step).1
   led_by (Some l) r new b own step = absurd step
 
   -- A failure of a device that is stopped is told as that.
-  stop_told : (log : Option LogView) (c : Command) (e : IoError) (new : DeviceView) (b : RunState) → IsOwn sum size (state_of device.trace) c (reply.Failed (error.Io e)) → StepBy sum size (at_log log) log c (reply.Failed (error.Io e)) new b
+  stop_told : (log : Option LogView) (c : Command) (e : IoError) (new : DeviceView) (b : RunState)
+      → IsOwn sum size (state_of device.trace) c (reply.Failed (error.Io e)) → StepBy sum size (at_log log) log c (reply.Failed (error.Io e)) new b
       → new.is_stopped ≡ true → Moves sum size (at_log log) c (reply.Failed (error.Io e)) b → Moves sum size (at_log log) c reply.Stopped b
-  stop_told log command.Open e new b own step is moves = (subst (λ (d : DeviceView). IsTrue d.is_stopped) (sym (led_by log (reply.Failed (error.Io e)) new b own step)) is, moves.1)
+  stop_told log command.Open e new b own step is moves = (
+    subst (λ (d : DeviceView). IsTrue d.is_stopped) (sym (led_by log (reply.Failed (error.Io e)) new b own step)) is,
+    moves.1,
+  )
   stop_told log _ e new b own step is moves = moves
 
 -- What holds of a reply holds of how it is told, where it holds of a stop that a failure is told as.
@@ -319,7 +372,8 @@ module _ (sum : List ℕ → ℕ) (size : ℕ) where
   refused_moves p q command.EndBatch w stays = stays
   refused_moves p q _ w stays = stays
 
-  answered : (a : RunState) (c : Command) (came : Reply) (new : DeviceView) (b : RunState) → Known a → IsOwn sum size (state_of a.device.trace) c came → IsStep sum size a c came new b
+  answered : (a : RunState) (c : Command) (came : Reply) (new : DeviceView) (b : RunState) → Known a → IsOwn sum size (state_of a.device.trace) c came
+      → IsStep sum size a c came new b
       → Moves sum size a c (told new.is_stopped came) b × Led a new b
   answered a c (reply.Refused w) new b ends own is =
       let kept = same sum size a.device a.history a.acknowledged a.floor a.log new b is.1 in
@@ -327,12 +381,14 @@ module _ (sum : List ℕ → ℕ) (size : ℕ) where
   answered a c came new b ends own step =
       let moves = by_log sum size a.device a.history a.acknowledged a.floor a.log c came new b ends own step in
       let stops = λ (e : IoError) (is : came ≡ reply.Failed (error.Io e)) (stopped : new.is_stopped ≡ true).
-      stop_told sum size a.device a.history a.acknowledged a.floor a.log c e new b (subst (IsOwn sum size (state_of a.device.trace) c) is own) (subst (λ (r : Reply). StepBy sum size a a.log c r new b) is step) stopped
+      stop_told sum size a.device a.history a.acknowledged a.floor a.log c e new b (subst (IsOwn sum size (state_of a.device.trace) c) is own)
+      (subst (λ (r : Reply). StepBy sum size a a.log c r new b) is step) stopped
       (subst (λ (r : Reply). Moves sum size a c r b) is moves.0) in
       (tells (λ r. Moves sum size a c r b) new.is_stopped came moves.0 stops, moves.1)
 
   -- So a run comes to what the headline says.
-  pub recovers : {D C : Type 0} (view : D → DeviceView) (Leads : RunState → Type 0) → (a : RunState) (cs : List Command) (rs : List Reply) → SomeStands D C view sum size a → Runs sum size (SomeStands D C view sum size) a cs rs Leads
+  pub recovers : {D C : Type 0} (view : D → DeviceView) (Leads : RunState → Type 0) → (a : RunState) (cs : List Command) (rs : List Reply)
+      → SomeStands D C view sum size a → Runs sum size (SomeStands D C view sum size) a cs rs Leads
       → Recovers sum size (SomeStands D C view sum size) a cs rs Leads
   unfolding Runs Recovers
   recovers view Leads a [] [] at runs = runs

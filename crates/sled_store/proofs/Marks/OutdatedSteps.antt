@@ -11,10 +11,11 @@ use Rattle.sled_codec.specs.declared.result.DiskPtr.TheVariants.{Inline, Blob}
 use Rattle.sled_codec.specs.History.{AddsMessage, History, Message, begins_page, table}
 use Rattle.sled_codec.specs.Pointers.{lid_of}
 use Rattle.sled_store.specs.Marks.{IsFormerState, IsSuperseded, info_of, slot_with}
-use Rattle.sled_store.specs.Outdated.{AreOutdated, IsNamedNow, IsOutdated, MayName, NamesBlob, NamesNoOutdated, NoneShares}
+use Rattle.sled_store.specs.Outdated.{AreOutdated, IsNamedNow, IsOutdated, MayName, NamesBlob, NoneShares}
 use Rattle.sled_store.specs.SegmentStates.{SlotState, Machine, MayMark, active_among, all_outdated, deactivated, drained, drained_if_sparse, drained_if_wasteful, drained_slot, free_slot, freed, handed_out, in_turn, inactive_among, inactive_slot, is_active, is_active_place, is_done, is_due, is_free, is_inactive, is_sparse, is_wasteful, linked, linked_slot, next_slot, outdated, outdating, replaced, replaced_all, replaced_one, replaced_slot, segment_place, slot_at, stabilized, taken_slot, tested, unused_machine, waiting_for, with_slot}
 use Rattle.sled_store.specs.Tracked.{at}
 use Rattle.sled_store.specs.declared.segment.slot.CacheInfo.{CacheInfo}
+use Rattle.sled_store.specs.inside.Outdated.{NamesNoOutdated}
 use Rattle.sled_store.proofs.Histories.Ascending.{Ascends, one_at_place}
 use Rattle.sled_store.proofs.Segments.Elements.{in_first, in_nothing, in_rest}
 use Rattle.sled_store.proofs.Segments.TableEntries.{from_table}

@@ -4,9 +4,9 @@ use Rattle.std.specs.List.{Contains}
 use Rattle.std.proofs.lemmas.Bool.{ltb-true}
 use Rattle.sled_codec.specs.History.{Message}
 use Rattle.sled_store.specs.Marks.{slot_with}
-use Rattle.sled_store.specs.Outdated.{AreInActive, IsInActive}
 use Rattle.sled_store.specs.SegmentStates.{SlotState, Machine, handed_out, is_active, is_free, next_slot, slot_at, taken_slot}
 use Rattle.sled_store.specs.Tracked.{at}
+use Rattle.sled_store.specs.inside.Outdated.{AreInActive, IsInActive}
 use Rattle.sled_store.proofs.Segments.Elements.{in_cases}
 use Rattle.sled_store.proofs.Marks.MarkSteps.{SameSegments}
 use Rattle.sled_store.proofs.Marks.SlotLemmas.{each_slot, free_behind, push_changes, set_changes}

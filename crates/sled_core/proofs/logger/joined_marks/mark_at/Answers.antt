@@ -6,14 +6,20 @@ use Rattle.sled_core.proofs.logger.joined_marks.mark_at.Goals as goal
 use Rattle.std.proofs.lemmas.Int.{to_z-of_z}
 
 pub mark_in-requires : goal.mark_in-requires
-mark_in-requires c = c.requires (let none = c.if-from-gt0.false in omega (arith, none))
+mark_in-requires g c = c.requires (let none = c.if-from-gt0.false in omega (arith, none))
 
 pub returns-then-from-gt0 : goal.returns-then-from-gt0
 unfolding mark_at
-returns-then-from-gt0 c = sym (ap (λ (o : Bool). if o then Some (mark_in c.args.bytes.now) else None) (let some = c.if-from-gt0.true in let not : (c.args.from == 0) ≡ false = grind (arith, nat_tests, some) in not))
+returns-then-from-gt0 g c =
+    let some = c.if-from-gt0.true in
+    let not : (c.args.from == 0) ≡ false = grind (arith, nat_tests, some) in
+    sym (ap (λ (o : Bool). if o then Some (mark_in c.args.bytes.now) else None) not)
 
 pub returns : goal.returns
 unfolding mark_at
-returns c =
-    ap Some (let fits : SFits w64 c.mark_in.result = search rules in to_z-of_z w64 c.mark_in.result fits ∙ c.mark_in.ensures)
-    ∙ sym (ap (λ (o : Bool). if o then Some (mark_in c.args.bytes.now) else None) (let none = c.if-from-gt0.false in let is : (c.args.from == 0) ≡ true = grind (arith, nat_tests, none) in is))
+returns g c =
+    let none = c.if-from-gt0.false in
+    let is : (c.args.from == 0) ≡ true = grind (arith, nat_tests, none) in
+    let fits : SFits w64 c.mark_in.result = search rules in
+    ap Some (to_z-of_z w64 c.mark_in.result fits ∙ c.mark_in.ensures)
+    ∙ sym (ap (λ (o : Bool). if o then Some (mark_in c.args.bytes.now) else None) is)

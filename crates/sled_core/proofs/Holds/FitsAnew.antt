@@ -1,0 +1,29 @@
+-- Where only what the segments fit changes, over what is shown, a log fits: with another count of pins, another end of what was acknowledged, another floor.
+use Rattle.std.specs.declared.io.Error.{Error as IoError}
+use Rattle.std.proofs.Common.{ℕ, List, Option}
+use Rattle.sled_codec.specs.History.{Batch, History, Message}
+use Rattle.sled_store.specs.Device.{State}
+use Rattle.sled_store.specs.SegmentStates.{Machine}
+use Rattle.sled_core.specs.Begun.{SegmentView}
+use Rattle.sled_core.specs.inside.Running.{FitsLine, FitsShown}
+use Rattle.sled_core.specs.inside.Shown.{shown}
+
+module _ {sum : List ℕ → ℕ} {noted : List Batch} {size : ℕ} {device : State} {fault : Option IoError} {line : List SegmentView} {m : Machine} {pins : ℕ}
+    {H : History} {A f : ℕ} {U : List Message} (fits : FitsShown sum noted size device fault line m pins H A f U) where
+  pub fits_anew : (now B g : ℕ) → FitsLine sum size (shown size fault m line device) fault line fits.shows.reach now H B g U
+      → FitsShown sum noted size device fault line m now H B g U
+  fits_anew now B g parts = record {
+    shows = record {
+      reach = fits.shows.reach;
+      parts = parts;
+      batches = fits.shows.batches;
+      slots = fits.shows.slots;
+      whole = fits.shows.whole;
+      own = fits.shows.own;
+      account = fits.shows.account;
+      numbers = fits.shows.numbers;
+      in_slots = fits.shows.in_slots;
+    };
+    file = fits.file;
+    hides = fits.hides;
+  }
