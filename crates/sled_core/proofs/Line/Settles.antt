@@ -1,5 +1,5 @@
 -- What a log has at a place that isn't stable, and that lies before its current buffer: the buffer of the segment that has it, unless that is written.
-use Rattle.std.proofs.Common.{◌≡◌, ◌∙◌, ◌⊎◌, ◌≤◌, ◌<◌, ◌+◌, ◌-◌, ◌*◌, ◌/◌, ◌==◌, ap, sym, arith, subst, inl, inr, ℕ, suc, Bool, true, false, pos, ℤ, ◌≤ℤ◌, ◌<ℤ◌, unsigned_abs, if◌then◌else◌, List, [], ◌∷◌, ◌++◌, length, map, drop, take, set, take-append-drop, Option, None, Some}
+use Rattle.std.proofs.Common.{◌≡◌, ◌∙◌, ◌⊎◌, ◌≤◌, ◌<◌, ◌+◌, ◌-◌, ◌*◌, ◌/◌, ◌==◌, ap, sym, arith, subst, inl, inr, ℕ, suc, Bool, true, false, pos, ℤ, ◌≤ℤ◌, ◌<ℤ◌, unsigned_abs, nat_le, if◌then◌else◌, List, [], ◌∷◌, ◌++◌, length, map, drop, take, set, take-append-drop, Option, None, Some}
 use Rattle.std.proofs.Math.Nat.{div-mul-le_self, lt-div-mul-add, mul-le-mul_right}
 use Rattle.std.specs.List.{slice_get, Contains}
 use Rattle.std.specs.List.Sorted.{IsPartitionPoint}
@@ -14,16 +14,18 @@ use Rattle.sled_core.specs.declared.iobuf.Sealed.{Sealed}
 use Rattle.sled_core.specs.declared.iobuf.SegmentPosition.{SegmentPosition}
 use Rattle.sled_core.specs.Buffers.{first_open_in, open_in}
 use Rattle.sled_core.specs.declared.logger.Log.{Log}
-use Rattle.sled_core.specs.Fits.{current_of, buffers_of, current_begin, held_len, line_of, segment_size_of, synced_end, waiting_of}
+use Rattle.sled_core.specs.Fits.{current_of, buffers_of, current_begin, held_len, ledger_of, ledger_sealed, line_of, segment_size_of, synced_end, waiting_of}
+use Rattle.sled_core.specs.Ledger.{ledger_behind, writings, written_ledger, written_step}
 use Rattle.sled_core.specs.ReadBuffer.{IsWrittenPlace, held_at, settling}
 use Rattle.sled_core.specs.inside.SealedBuffers.{IsSealed, written_at}
 use Rattle.sled_core.specs.SealedBuffers.{bytes_between, sealed_count, sealed_end, writing}
-use Rattle.sled_core.specs.inside.Turned.{IsReadyIn, promoted, write_in, write_of, written_now, begin_at, mark_of}
-use Rattle.sled_core.specs.Waiting.{BufferAt, Span, buffer_at, has_place, held_around, none_around, one_around, placed, unless_held, unwritten, unwritten_of, without_around, write_around}
-use Rattle.sled_core.proofs.Line.Around.{IsAround, all_found, begin_above, fewer_line, found, found_above, found_front, found_in, found_line, found_there, found_written, held_found, held_of, is_none, left_of, none_found, without_in, without_line, without_none, writes_found, writes_of, list_of, one_found}
+use Rattle.sled_core.specs.inside.Turned.{IsReadyIn, promoted, writing_in, writing_of, written_now, begin_at, mark_of}
+use Rattle.sled_core.specs.Waiting.{BufferAt, Span, buffer_at, free_around, has_place, held_around, none_around, one_around, placed, unless_held, unwritten, unwritten_of, without_around}
+use Rattle.sled_core.proofs.Line.Around.{IsAround, all_found, begin_above, fewer_line, found, found_above, found_front, found_in, found_line, found_there, found_written, free_found, free_of, held_found, held_of, is_none, left_of, none_found, without_in, without_line, without_none, list_of, one_found}
 use Rattle.sled_core.proofs.Line.Below.{lie_begin, none_first}
 use Rattle.sled_core.proofs.Line.Entered.{filled_last}
 use Rattle.sled_core.proofs.Holds.Facts.{IsSegment, current_facts, nth_facts}
+use Rattle.sled_core.proofs.Line.LedgerBehind.{writings_one}
 use Rattle.sled_core.proofs.Line.Lying.{end_of, line_lie, promoted_end, promoted_unwritten, segments_within, set_end, set_within, synced_up, unwritten_lie, unwritten_run}
 use Rattle.sled_core.proofs.Line.Segments.{line_segments}
 use Rattle.sled_core.proofs.Line.Shows.{buffers_add, buffers_still}
@@ -31,7 +33,6 @@ use Rattle.sled_core.proofs.Reserve.OpenCounts.{first_there}
 use Rattle.sled_core.proofs.Sealed.Around.{sealed_at}
 use Rattle.sled_core.proofs.Sealed.Progress.{first_front, open_front}
 use Rattle.sled_core.proofs.Sealed.Slices.{end_to}
-use Rattle.sled_core.specs.Account.{account_behind, account_of, written_account}
 use Rattle.sled_core.specs.HeaderMark.{mark_at}
 
 -- The number of the segment that has the place is that of one of the log.
@@ -122,10 +123,13 @@ module _ {D C : Type 0} (log : Log D C) (place : ℕ) (looked : LooksAt log plac
   beyond : int_lt (pos place) (pos (synced_end log)) ≡ false
   beyond = let behind = looked.behind in grind (arith, ints, behind)
 
-  pub settling_found : (sum : List ℕ → ℕ) (o : Option BufferAt) → found place (unwritten_of v.parts) ≡ o → settling sum log (pos place) ≡ writes_of o
+  not_current : nat_le (current_begin log) place ≡ false
+  not_current = let lower = looked.lower in grind (arith, nat_tests, lower)
+
+  pub settling_found : (sum : List ℕ → ℕ) (o : Option BufferAt) → found place (unwritten_of v.parts) ≡ o → settling sum log (pos place) ≡ writings size (free_of o) (ledger_of log)
   settling_found sum o is =
-      ap (λ (t : Bool). if t then [] else write_around place (buffers_of sum log)) beyond ∙ writes_found place (buffers_of sum log)
-      ∙ ap writes_of (buffers_found sum ∙ waiting_found ∙ is)
+      let free : free_around place (buffers_of sum log) ≡ free_of o = free_found place (buffers_of sum log) ∙ ap free_of (buffers_found sum ∙ waiting_found ∙ is) in
+      λ i. if beyond i then [] else writings size (free i) (if not_current i then ledger_sealed log else ledger_of log)
 
   pub held_at_found : (sum : List ℕ → ℕ) (o : Option BufferAt) → found place (unwritten_of v.parts) ≡ o → held_at sum log (pos place) ≡ held_of o
   held_at_found sum o is =
@@ -142,11 +146,11 @@ module _ {D C : Type 0} (log : Log D C) (place : ℕ) (looked : LooksAt log plac
   pub without_still : found place (unwritten_of v.parts) ≡ None → waiting_of log ≡ without_around place (waiting_of log)
   without_still is = sym (without_none place (waiting_of log) (waiting_found ∙ is))
 
-  pub account_found : (o : Option BufferAt) → found place (unwritten_of v.parts) ≡ o → one_around place (waiting_of log) ≡ list_of o
-  account_found o is = one_found place (waiting_of log) ∙ ap list_of (waiting_found ∙ is)
+  one_there : (o : Option BufferAt) → found place (unwritten_of v.parts) ≡ o → one_around place (waiting_of log) ≡ list_of o
+  one_there o is = one_found place (waiting_of log) ∙ ap list_of (waiting_found ∙ is)
 
-  pub account_still : found place (unwritten_of v.parts) ≡ None → account_of log ≡ account_behind (one_around place (waiting_of log)) (account_of log)
-  account_still is = ap (λ (l : List BufferAt). account_behind l (account_of log)) (sym (account_found None is))
+  pub ledger_still : found place (unwritten_of v.parts) ≡ None → ledger_of log ≡ ledger_behind size (one_around place (waiting_of log)) (ledger_of log)
+  ledger_still is = ap (λ (l : List BufferAt). ledger_behind size l (ledger_of log)) (sym (one_there None is))
 
   -- It lies in what was written without a gap,
   pub found_early : place - v.parts.site.place < v.parts.written_len → found place (unwritten_of v.parts) ≡ None
@@ -208,7 +212,7 @@ module _ {D C : Type 0} (log : Log D C) (place : ℕ) (looked : LooksAt log plac
           least.0,
           ap (λ m. first_open_in (drop m v.parts.reserved)) is ∙ sym (ap first_open_in whole) ∙ first_front own behind_own some ∙ least.1,
           held_at_found sum (Some sought) seen ∙ held,
-          settling_found sum (Some sought) seen ∙ ap (λ (o : Option ℕ). unless_held o (writing sought.lid sought.bytes [])) held,
+          settling_found sum (Some sought) seen ∙ ap (λ (o : Option ℕ). writings size (unless_held o (sought ∷ [])) (ledger_of log)) held,
         )
 
     -- or can be written.
@@ -225,17 +229,22 @@ module _ {D C : Type 0} (log : Log D C) (place : ℕ) (looked : LooksAt log plac
       pub held_none : (sum : List ℕ → ℕ) → held_at sum log (pos place) ≡ None
       held_none sum = held_at_found sum (Some sought) seen ∙ free
 
-      pub settling_it : (sum : List ℕ → ℕ) → write_in line n k ≡ settling sum log (pos place)
+      marked : sought.mark ≡ mark_of k v
+      marked = ap (λ e. mark_at (begin_at v k) (bytes_between v.parts.bytes (begin_at v k) e)) (sym (end_to v.parts.written_len v.parts.sealed k b there))
+
+      pub settling_it : (sum : List ℕ → ℕ) → writing_in size (ledger_of log) line n k ≡ settling sum log (pos place)
       settling_it sum =
-          ap (write_of k) looked.among
-          ∙ ap (λ e. writing sought.lid (bytes_between v.parts.bytes (sealed_end v.parts.written_len (take k v.parts.sealed)) e) []) (end_to v.parts.written_len v.parts.sealed k b there)
-          ∙ sym (ap (λ (o : Option ℕ). unless_held o (writing sought.lid sought.bytes [])) free)
+          ap (writing_of size (ledger_of log) k) looked.among
+          ∙ ap (λ e. writing sought.lid (bytes_between v.parts.bytes (sealed_end v.parts.written_len (take k v.parts.sealed)) e) [] ++ (written_step size (mark_of k v) (ledger_of log)).calls) (end_to v.parts.written_len v.parts.sealed k b there)
+          ∙ ap (λ (m : Option ℤ). writing sought.lid sought.bytes [] ++ (written_step size m (ledger_of log)).calls) (sym marked)
+          ∙ sym (writings_one size sought (ledger_of log))
+          ∙ sym (ap (λ (o : Option ℕ). writings size (unless_held o (sought ∷ [])) (ledger_of log)) free)
           ∙ sym (settling_found sum (Some sought) seen)
 
-      pub account_it : account_behind (one_around place (waiting_of log)) (account_of log) ≡ written_account (mark_of k v) (account_of log)
-      account_it =
-          ap (λ (l : List BufferAt). account_behind l (account_of log)) (account_found (Some sought) seen)
-          ∙ ap (λ e. written_account (mark_at (begin_at v k) (bytes_between v.parts.bytes (begin_at v k) e)) (account_of log)) (sym (end_to v.parts.written_len v.parts.sealed k b there))
+      pub ledger_it : ledger_behind size (one_around place (waiting_of log)) (ledger_of log) ≡ written_ledger size (mark_of k v) (ledger_of log)
+      ledger_it =
+          ap (λ (l : List BufferAt). ledger_behind size l (ledger_of log)) (one_there (Some sought) seen)
+          ∙ ap (λ (m : Option ℤ). written_ledger size m (ledger_of log)) marked
 
       found_marked : found place (unwritten_of (written_now k v).parts) ≡ None
       found_marked =

@@ -5,13 +5,13 @@ use Rattle.sled_store.specs.Device.{Event}
 use Rattle.sled_store.specs.Script.{Performs, after_all}
 use Rattle.sled_store.proofs.Traces.ScriptLemmas.{performs_nothing}
 use Rattle.sled_core.specs.Fits.{segment_size_of, start_of}
-use Rattle.sled_core.proofs.Line.KeptCalls.{log_still}
+use Rattle.sled_core.proofs.Line.KeptCalls.{writing_still}
 use Rattle.sled_core.specs.inside.Marked.{KeepsSegment}
 use Rattle.sled_core.proofs.Line.CameFar.{on_err_both}
 use Rattle.sled_core.proofs.Line.HeaderMarks.{segment_same, segment_written}
 use Rattle.sled_core.proofs.Line.LogSpans.{same_buffers, written_starts}
 use Rattle.sled_core.proofs.Line.Outcomes.{answers_free, done_free, either, on_ok}
-use Rattle.sled_core.proofs.Line.Settles.{account_it, account_still, found_early, found_gone, found_held, held_at_found, held_none, inside, is_ready_there, looks, nothing_waits, number_within, settling_found, settling_it, some_held, without_still, wrote_all, wrote_place, wrote_without, written_found}
+use Rattle.sled_core.proofs.Line.Settles.{found_early, found_gone, found_held, held_at_found, held_none, inside, is_ready_there, ledger_it, ledger_still, looks, nothing_waits, number_within, settling_found, settling_it, some_held, without_still, wrote_all, wrote_place, wrote_without, written_found}
 use Rattle.sled_core.proofs.logger.Log.write_around.Goals as goal
 
 pub segment-requires : goal.segment-requires
@@ -43,7 +43,7 @@ pub returns-then-at-buffer-clause-at_most : goal.returns-then-at-buffer-clause-a
 returns-then-at-buffer-clause-at_most g c = performs_nothing _ _ _ refl
 
 pub returns-then-at-buffer-clause-keeps : goal.returns-then-at-buffer-clause-keeps
-returns-then-at-buffer-clause-keeps g c = log_still g.D.Device.trace g.C.Checksum.sum_of c.args.self.now
+returns-then-at-buffer-clause-keeps g c = writing_still g.D.Device.trace g.C.Checksum.sum_of c.args.self.now
 
 pub returns-then-at-buffer-clause-answers : goal.returns-then-at-buffer-clause-answers
 returns-then-at-buffer-clause-answers g c =
@@ -76,7 +76,7 @@ pub returns-then-b-clause-at_most : goal.returns-then-b-clause-at_most
 returns-then-b-clause-at_most g c = performs_nothing _ _ _ refl
 
 pub returns-then-b-clause-keeps : goal.returns-then-b-clause-keeps
-returns-then-b-clause-keeps g c = log_still g.D.Device.trace g.C.Checksum.sum_of c.args.self.now
+returns-then-b-clause-keeps g c = writing_still g.D.Device.trace g.C.Checksum.sum_of c.args.self.now
 
 pub returns-then-b-clause-answers : goal.returns-then-b-clause-answers
 returns-then-b-clause-answers g c =
@@ -110,7 +110,7 @@ pub returns-then-b-gt0-clause-at_most : goal.returns-then-b-gt0-clause-at_most
 returns-then-b-gt0-clause-at_most g c = performs_nothing _ _ _ refl
 
 pub returns-then-b-gt0-clause-keeps : goal.returns-then-b-gt0-clause-keeps
-returns-then-b-gt0-clause-keeps g c = log_still g.D.Device.trace g.C.Checksum.sum_of c.args.self.now
+returns-then-b-gt0-clause-keeps g c = writing_still g.D.Device.trace g.C.Checksum.sum_of c.args.self.now
 
 pub returns-then-b-gt0-clause-answers : goal.returns-then-b-gt0-clause-answers
 returns-then-b-gt0-clause-answers g c =
@@ -170,7 +170,7 @@ returns-clause-without g c =
     on_ok c.write_buffer.result _ _ (λ wrote. wrote_without c.args.self.now c.args.place looked c.around-k.result.0 c.around-k.result.1 c.if-at-buffer.false c.around-k.ensures.there c.around-k.ensures.point c.if-b.false (let none = c.if-b-gt0.false in omega (arith, none)) c.write_buffer.new.self wrote) (c.write_buffer.ensures.line looked.segment looked.among)
 
 pub returns-clause-same : goal.returns-clause-same
-returns-clause-same g c = on_err_both c.write_buffer.result _ _ _ (λ same none. ((same_buffers c.args.self.now c.write_buffer.new.self same).0, none)) c.write_buffer.ensures.same c.write_buffer.ensures.unwritten
+returns-clause-same g c = on_err_both c.write_buffer.result _ _ _ (λ same none. ((same_buffers c.args.self.now c.write_buffer.new.self same).0, none.0, none.1)) c.write_buffer.ensures.same c.write_buffer.ensures.unwritten
 
 pub returns-clause-one : goal.returns-clause-one
 returns-clause-one g c = λ all.
@@ -178,23 +178,23 @@ returns-clause-one g c = λ all.
     on_ok c.write_buffer.result _ _ (λ wrote. wrote_all c.args.self.now c.args.place looked c.around-k.result.0 c.around-k.result.1 c.if-at-buffer.false c.around-k.ensures.there c.around-k.ensures.point c.if-b.false (let none = c.if-b-gt0.false in omega (arith, none)) c.write_buffer.new.self wrote all) (c.write_buffer.ensures.line looked.segment looked.among)
 
 pub returns-then-b-gt0-clause-same : goal.returns-then-b-gt0-clause-same
-returns-then-b-gt0-clause-same g c = (refl, record { synced = refl; still = λ sound. refl; account = refl })
+returns-then-b-gt0-clause-same g c = (refl, record { synced = refl; written = refl; still = λ sound. refl; account = refl }, refl)
 
--- The account is that of what was written.
+-- The slots and the marks are those behind what was written.
 
-pub returns-then-at-buffer-clause-account : goal.returns-then-at-buffer-clause-account
-returns-then-at-buffer-clause-account g c =
+pub returns-then-at-buffer-clause-ledger : goal.returns-then-at-buffer-clause-ledger
+returns-then-at-buffer-clause-ledger g c =
     let looked = looks c.args.self.now c.args.place c.segment_of-n.result c.segment.result.0 c.segment.result.1.now c.requires.behind c.requires.sealed c.segment_of-n.ensures c.segment.ensures.view c.segment.ensures.place in
-    account_still c.args.self.now c.args.place looked (found_early c.args.self.now c.args.place looked c.if-at-buffer.true)
+    ledger_still c.args.self.now c.args.place looked (found_early c.args.self.now c.args.place looked c.if-at-buffer.true)
 
-pub returns-then-b-clause-account : goal.returns-then-b-clause-account
-returns-then-b-clause-account g c =
+pub returns-then-b-clause-ledger : goal.returns-then-b-clause-ledger
+returns-then-b-clause-ledger g c =
     let looked = looks c.args.self.now c.args.place c.segment_of-n.result c.segment.result.0 c.segment.result.1.now c.requires.behind c.requires.sealed c.segment_of-n.ensures c.segment.ensures.view c.segment.ensures.place in
-    account_still c.args.self.now c.args.place looked (found_gone c.args.self.now c.args.place looked c.around-k.result.0 c.around-k.result.1 c.if-at-buffer.false c.around-k.ensures.there c.around-k.ensures.point c.if-b.true)
+    ledger_still c.args.self.now c.args.place looked (found_gone c.args.self.now c.args.place looked c.around-k.result.0 c.around-k.result.1 c.if-at-buffer.false c.around-k.ensures.there c.around-k.ensures.point c.if-b.true)
 
-pub returns-clause-account : goal.returns-clause-account
-returns-clause-account g c =
+pub returns-clause-ledger : goal.returns-clause-ledger
+returns-clause-ledger g c =
     let looked = looks c.args.self.now c.args.place c.segment_of-n.result c.segment.result.0 c.segment.result.1.now c.requires.behind c.requires.sealed c.segment_of-n.ensures c.segment.ensures.view c.segment.ensures.place in
     on_ok c.write_buffer.result _ _
-    (λ is. is ∙ sym (account_it c.args.self.now c.args.place looked c.around-k.result.0 c.around-k.result.1 c.if-at-buffer.false c.around-k.ensures.there c.around-k.ensures.point c.if-b.false (let none = c.if-b-gt0.false in omega (arith, none))))
-    (c.write_buffer.ensures.account looked.segment looked.among)
+    (λ is. is ∙ sym (ledger_it c.args.self.now c.args.place looked c.around-k.result.0 c.around-k.result.1 c.if-at-buffer.false c.around-k.ensures.there c.around-k.ensures.point c.if-b.false (let none = c.if-b-gt0.false in omega (arith, none))))
+    (c.write_buffer.ensures.ledger looked.segment looked.among)
