@@ -32,20 +32,20 @@ use Rattle.sled_core.specs.declared.logger.Log.{Log}
 use Rattle.sled_core.specs.Begun.{segment_view}
 use Rattle.sled_core.specs.OpenBatches.{not_whole}
 use Rattle.sled_core.proofs.Line.LineEnds.{noted_still}
-use Rattle.sled_core.specs.Fits.{HasRecordOf, buffers_of, current_begin, current_of, device_of, fault_of, held_len, next_place, noted_in, reserved_end, segment_size_of, start_of, synced_end, waiting_of}
-use Rattle.sled_core.specs.Keeps.{SamePosition, start_sealed}
+use Rattle.sled_core.specs.Fits.{HasRecordOf, buffers_of, current_begin, current_of, device_of, fault_of, held_len, next_place, noted_in, pins_of, reserved_end, segment_size_of, start_of, synced_end, waiting_of}
+use Rattle.sled_core.specs.Keeps.{SamePlace, start_sealed}
 use Rattle.sled_core.specs.OpenPlaces.{first_between}
 use Rattle.sled_core.specs.Fronts.{CameAround, syncs}
 use Rattle.sled_core.specs.ReadBuffer.{IsUsedUpAt, LeavesSealed, ReadAnswers, Settles, WritesAround, held_at, sealed_at, settling, start_at}
 use Rattle.sled_core.specs.SealedBuffers.{writing}
 use Rattle.sled_core.specs.Waiting.{BufferAt, BufferStart, HasLength, Span, has_place, held_around, span_of, spans, unless_held, without_around, write_around}
 use Rattle.sled_core.proofs.Holds.BufferEnds.{written_behind}
-use Rattle.sled_core.proofs.Line.KeptCalls.{kept_further, kept_still, position_further, position_still, tickets_further}
+use Rattle.sled_core.proofs.Line.KeptCalls.{kept_further, kept_still, place_further, place_pinned, place_still, tickets_further}
 use Rattle.sled_core.proofs.Line.Entered.{filled_last}
 use Rattle.sled_core.proofs.Holds.Facts.{current_facts}
 use Rattle.sled_core.specs.WholeBuffers.{IsWholeBuffer}
 use Rattle.sled_core.proofs.Line.Shows.{buffers_add}
-use Rattle.sled_core.proofs.PublicLaws.{fits_reach, place_back, reserved_small, shows_current, shows_empty, shows_long}
+use Rattle.sled_core.proofs.PublicLaws.{fits_reach, pinned_around, place_back, reserved_small, shows_current, shows_empty, shows_long}
 use Rattle.sled_log.proofs.Sessions.MadeHistories.{of_page_same}
 use Rattle.sled_log.proofs.Sessions.MadePages.{page_present}
 use Rattle.sled_log.specs.Made.{HasBlobIn, IsMade}
@@ -160,8 +160,8 @@ module _ {D C : Type 0} (log : Log D C) (sum : List ℕ → ℕ) (at begun : ℕ
         | inr none ↦ ap f (shows_empty sum log (omega (arith, none)))
       ]
 
-  calls_seen : settling sum log (pos at) ≡ reading_around l at (sealed_at sum at log)
-  calls_seen = ap (λ (es : List Event). if nat_lt at l.synced then [] else es) (of_sealed (write_around at) (write_front at))
+  calls_seen : 0 < pins_of log → settling sum log (pos at) ≡ reading_around l at (sealed_at sum at log)
+  calls_seen out = pinned_around log out sum (pos at) ∙ ap (λ (es : List Event). if nat_lt at l.synced then [] else es) (of_sealed (write_around at) (write_front at))
 
   holding_seen : held_at sum log (pos at) ≡ holding_read l at
   holding_seen = ap (λ (o : Option ℕ). if nat_lt at l.synced then None else o)
@@ -206,7 +206,7 @@ module _ {D C : Type 0} (trace : D → Trace) (sum : List ℕ → ℕ) (log : Lo
 
 -- One message is read.
 module _ {D C : Type 0} (view : D → DeviceView) (sum : List ℕ → ℕ) (old new : Log D C) (k : Unstored) (page : ℕ) (m : Message) (begun : ℕ) (of : IsOfPage k.history (reserved_end old) page m)
-    (records : fault_of old ≡ None → AreWhole sum old k.given_up k.heads) (position : StaysPut old new) where
+    (records : fault_of old ≡ None → AreWhole sum old k.given_up k.heads) (position : StaysPut old new) (out : 0 < pins_of old) where
   abbrev at : ℕ
   at = read_at m
 
@@ -241,7 +241,7 @@ module _ {D C : Type 0} (view : D → DeviceView) (sum : List ℕ → ℕ) (old 
 
   -- the calls that bring its place to the device
   settling_seen : settling sum old (place_read (pos m.place) m.pointer) ≡ reading_around before at (sealed_at sum at old)
-  settling_seen = ap (settling sum old) of.read ∙ calls_seen old sum at begun k of.read_below
+  settling_seen = ap (settling sum old) of.read ∙ calls_seen old sum at begun k of.read_below out
 
   -- It failed, where the log kept no failure.
 
@@ -312,7 +312,7 @@ module _ {D C : Type 0} (view : D → DeviceView) (sum : List ℕ → ℕ) (old 
           )
           | inr (inr written) ↦ inr (
             sym (holding_seen old sum at begun k of.read_below) ∙ written.2,
-            record { buffers = sealed_at sum at old; shown = seen_so; made = written.1 ∙ ap (λ (es : List Event). after_all es old_view.trace) (calls_seen old sum at begun k of.read_below) },
+            record { buffers = sealed_at sum at old; shown = seen_so; made = written.1 ∙ ap (λ (es : List Event). after_all es old_view.trace) (calls_seen old sum at begun k of.read_below out) },
             (ap over_it (leaves (spans_without at (sealed_around at before)) (start_around at before) (fault_of new)
                 (ap spans written.0.0 ∙ without_around_seen old sum at begun k of.read_below) (written.0.1 ∙ start_seen old sum at begun k of.read_below) refl)),
           )
@@ -428,7 +428,7 @@ fault_around l at = by (nat_lt at l.synced) where
 module _ {D C : Type 0} (view : D → DeviceView) (sum : List ℕ → ℕ) (old : Log D C) (page : ℕ) where
   -- nothing was done
   pub only_same : KeepsOpen (traces view) sum old old
-  only_same = record { keeps = kept_still (traces view) sum old; tickets = record { awaits = λ ticket m awaits. awaits; opens = refl; given_up = λ m there. there }; position = position_still old; free = λ none. none }
+  only_same = record { keeps = kept_still (traces view) sum old; tickets = record { awaits = λ ticket m awaits. awaits; opens = refl; given_up = λ m there. there }; position = place_still old; free = λ none. none }
 
   pub none_read : (entries : List Entry) → fault_of old ≡ None → HasReadSome view sum old page entries old [] entries
   none_read entries free = record {
@@ -457,7 +457,7 @@ module _ {D C : Type 0} (view : D → DeviceView) (sum : List ℕ → ℕ) (old 
     further new first second = record {
       keeps = kept_further (traces view) sum old mid new first.keeps second.keeps;
       tickets = tickets_further old mid new first.tickets second.tickets;
-      position = position_further old mid new first.position second.position;
+      position = place_further old mid new first.position second.position;
       free = λ none. first.free (second.free none);
     }
 
@@ -467,6 +467,7 @@ module _ {D C : Type 0} (view : D → DeviceView) (sum : List ℕ → ℕ) (old 
       zeros = is.zeros;
       unmarked = is.unmarked;
       fits = only.keeps.fits k.history k.acknowledged k.floor is.unmarked is.fits;
+      pinned = subst (λ n. 0 < n) (sym only.position.pins) is.pinned;
       given_up = λ m given. is.given_up m (only.tickets.given_up m given);
       heads = among;
     }
@@ -481,7 +482,7 @@ module _ {D C : Type 0} (view : D → DeviceView) (sum : List ℕ → ℕ) (old 
       pub others : map entry_of later ≡ rest
       pub of : IsOfPage H (reserved_end mid) page message
 
-    next : (H : History) (ms done left : List Message) (e : Entry) (rest : List Entry) → ms ≡ done ++ left → map entry_of left ≡ e ∷ rest → SamePosition old mid → All (IsOfPage H (reserved_end old) page) ms → IsNext H ms done e rest
+    next : (H : History) (ms done left : List Message) (e : Entry) (rest : List Entry) → ms ≡ done ++ left → map entry_of left ≡ e ∷ rest → SamePlace old mid → All (IsOfPage H (reserved_end old) page) ms → IsNext H ms done e rest
     next H ms done [] e rest split are position all = absurd (let bad : [] ≡ e ∷ rest = are in cc)
     next H ms done (m ∷ later) e rest split are position all =
         let own : entry_of m ≡ e = cc in
@@ -632,8 +633,8 @@ module _ {D C : Type 0} (view : D → DeviceView) (sum : List ℕ → ℕ) (open
       × ReadStep sum (segment_size_of opened.log) (stands view (Open opened) k) (seen opened k.tickets k.given_up k.heads) (page_now k.history page) (page_told r) (view (device_of new)) (stands view (Open (over opened new)) (read_with heads))
   page_read =
       let present = page_present k.history (map page_of opened.pages.items) page base frags at.table has in
-      reads.step k (page_now k.history page) (length opened.pages.items) (stands view (Open opened) k) (record { made = at.made; zeros = at.zeros; unmarked = at.unmarked; fits = at.fits; given_up = at.given_up; heads = at.heads })
+      reads.step k (page_now k.history page) (length opened.pages.items) (stands view (Open opened) k) (record { made = at.made; zeros = at.zeros; unmarked = at.unmarked; fits = at.fits; pinned = at.pinned; given_up = at.given_up; heads = at.heads })
       (all_of_page k.history (reserved_end opened.log) page at.made at.ends) (sym present.entries) present.present refl refl
 
   pub open_still : IsOpenAt (traces view) sum (over opened new) (read_with page_read.0)
-  open_still = still_with (traces view) sum opened new k k.acknowledged page_read.0 page_read.1 at reads.only.tickets reads.only.position reads.only.free reads.only.keeps (reads.only.keeps.fits k.history k.acknowledged k.floor at.unmarked at.fits)
+  open_still = still_with (traces view) sum opened new k k.acknowledged page_read.0 page_read.1 at reads.only.tickets (place_pinned opened.log new at.pinned reads.only.position) reads.only.free reads.only.keeps (reads.only.keeps.fits k.history k.acknowledged k.floor at.unmarked at.fits)

@@ -22,8 +22,8 @@ use Rattle.sled_core.proofs.Line.Among.{among_behind}
 use Rattle.sled_core.specs.Begun.{begin_of, segment_view}
 use Rattle.sled_core.specs.Causes.{Answers, HeldAnswers, IsHeld, OnDone}
 use Rattle.sled_core.specs.declared.logger.Log.{Log}
-use Rattle.sled_core.specs.Fits.{FirstWaits, IsUsedUp, IsUsedUpBelow, KeepsTickets, buffers_of, current_begin, current_of, device_of, fault_of, given_up_of, held_len, holding_below, noted_in, open_places, pending_of, position_of, reserved_end, sealing_end, segment_size_of, stable_end, start_of, synced_end, waiting_of, writing_below, fillings_of, heads_of}
-use Rattle.sled_core.specs.Fronts.{CameTo, syncs}
+use Rattle.sled_core.specs.Fits.{FirstWaits, IsUsedUp, IsUsedUpBelow, KeepsTickets, buffers_of, current_begin, current_of, device_of, fault_of, given_up_of, held_len, holding_below, noted_in, open_places, pending_of, pins_of, position_of, reserved_end, sealing_end, segment_size_of, stable_end, start_of, synced_end, waiting_of, writing_below, fillings_of, heads_of}
+use Rattle.sled_core.specs.Fronts.{CameTo, synced_writes, syncs}
 use Rattle.sled_core.specs.Among.{AreAmong}
 use Rattle.sled_core.specs.Keeps.{LeavesAbove, Preserves, SamePosition, sealed_for, start_for, start_sealed}
 use Rattle.sled_core.specs.OpenPlaces.{first_between}
@@ -40,7 +40,7 @@ use Rattle.sled_core.proofs.Holds.Facts.{current_facts}
 use Rattle.sled_core.proofs.Line.Positions.{end_seen, next_seen}
 use Rattle.sled_core.proofs.Line.Settles.{stable_up}
 use Rattle.sled_core.proofs.Line.Shows.{buffers_add}
-use Rattle.sled_core.proofs.PublicLaws.{buffers_held, buffers_whole, first_waits, fits_holds, shows_current, shows_empty, shows_long}
+use Rattle.sled_core.proofs.PublicLaws.{buffers_held, buffers_whole, first_waits, fits_holds, pinned_below, pinned_some, pinned_synced, shows_current, shows_empty, shows_long}
 use Rattle.sled_core.proofs.Reached.OpenBatch.{whole_not}
 use Rattle.sled_log.specs.declared.session.opened.Opened.{Opened}
 use Rattle.sled_log.specs.declared.session.command.Refusal.{Refusal}
@@ -381,8 +381,8 @@ module _ {D C : Type 0} (log : Log D C) (sum : List ℕ → ℕ) (begun : ℕ) (
       pub holding_seen : holding_below sum log to ≡ holding to l
       holding_seen = below_held (opens l) to (buffers_of sum log) all_held ∙ ap (held_among (opens l)) (sym (below_seen to (buffers_of sum log)) ∙ flushed_seen)
 
-      pub writes_seen : writing_below sum log to ≡ writes_free (begun_below to (buffers_of sum log))
-      writes_seen = below_writes to (buffers_of sum log)
+      pub writes_seen : 0 < pins_of log → writing_below sum log to ≡ writes_free (begun_below to (buffers_of sum log))
+      writes_seen out = pinned_below log out sum to ∙ below_writes to (buffers_of sum log)
 
       -- What is left of it.
       module _ (new : Log D C) where
@@ -428,11 +428,11 @@ module _ {D C : Type 0} (log : Log D C) (sum : List ℕ → ℕ) (begun : ℕ) (
               }
 
           -- It failed.
-          pub fails_to : AreWhole sum log given_up heads → (trace : D → Trace) (e : Error) → device.trace ≡ trace (device_of log) → now.trace ≡ trace (device_of new) → fault_of log ≡ None
+          pub fails_to : 0 < pins_of log → AreWhole sum log given_up heads → (trace : D → Trace) (e : Error) → device.trace ≡ trace (device_of log) → now.trace ≡ trace (device_of new) → fault_of log ≡ None
               → IsWhy e (holding to l) ((current_begin log < to) × (EndsInReach size l.position → ⊥)) (fault_of new) device.failures now.failures → Performs (writes_free its_buffers) device.trace now.trace
               → IfHeld e (now.trace ≡ after_all (writes_free its_buffers) device.trace) → (IsHeld {T = ℕ} (Err e) → to ≤ current_begin new) → CameTo trace sum to log new
               → FailsTo sum size (before new device now H A f position) l to e now (after new device now H A f position A)
-          fails_to records trace e was is none why made held sealed came = record {
+          fails_to out records trace e was is none why made held sealed came = record {
             sound = none;
             fault = fault_of new;
             why = why;
@@ -456,8 +456,10 @@ module _ {D C : Type 0} (log : Log D C) (sum : List ℕ → ℕ) (begun : ℕ) (
                   buffers = its_buffers;
                   shown = shows_below records;
                   made = made;
-                  synced = ap syncs is ∙ front.synced ∙ ap (λ (t : Trace). front.count + syncs t) (sym was);
-                  whole = λ sound. is ∙ front.whole sound ∙ (λ i. after_all (take (2 * front.count) (writes_seen i)) (sym was i));
+                  synced = pinned_synced log out sum to front.count device.trace now.trace (subst (λ (es : List Event). Performs es device.trace now.trace) (sym (writes_seen out)) made)
+                      (ap synced_writes is ∙ front.written ∙ ap (λ (t : Trace). front.count + synced_writes t) (sym was));
+                  whole = λ sound. is ∙ front.whole sound
+                      ∙ (λ i. after_all ((pinned_some log out sum to front.count ∙ ap (take (2 * front.count)) (below_writes to (buffers_of sum log))) i) (sym was i));
                   held = held;
                 },
                 inl (
