@@ -15,22 +15,22 @@ use Rattle.sled_codec.specs.Spelling.{short_number}
 use Rattle.sled_codec.specs.SpellingLaws.{length-short_number, short_spells-number}
 use Rattle.sled_codec.specs.WellFormed.{LieApart}
 use Rattle.sled_store.specs.declared.config.RunningConfig.{RunningConfig}
-use Rattle.sled_store.specs.Device.{Trace, state_of}
+use Rattle.sled_store.specs.Device.{Event, Trace, state_of}
 use Rattle.sled_store.specs.Moments.{Throughout}
 use Rattle.sled_store.specs.Script.{Performs, after_all}
 use Rattle.sled_store.proofs.PublicLaws.{joined, later_same, started}
 use Rattle.sled_core.specs.declared.logger.Log.{Log}
 use Rattle.sled_core.specs.declared.reservation.Reservation.{Reservation}
 use Rattle.sled_core.specs.Causes.{FaultAnswers, HeldAnswers, ReserveAnswers, ReserveCauses}
-use Rattle.sled_core.specs.Fits.{FitsInline, IsUnchanged, IsUsedUp as NeedsFurther, IsUsedUpBelow, buffers_of, config_of, current_begin, current_of, device_of, fault_of, flushing, machine_at, position_behind, position_of, is_moved, next_place, open_for, open_of, open_places, reserved_end, segment_size_of, synced_end, writing_below}
+use Rattle.sled_core.specs.Fits.{FitsInline, IsUnchanged, IsUsedUp as NeedsFurther, IsUsedUpBelow, buffers_of, config_of, current_begin, current_of, device_of, fault_of, flushing, machine_at, position_behind, position_of, is_moved, next_place, open_for, open_of, open_places, pins_of, reserved_end, segment_size_of, synced_end}
 use Rattle.sled_core.specs.Fronts.{CameTo, WritesWhole}
 use Rattle.sled_core.specs.Positions.{Position, is_short, next_segment_at, position_in}
 use Rattle.sled_core.specs.Keeps.{ConfigKept, GoesOn, Preserves}
 use Rattle.sled_core.specs.OpenPlaces.{TakesOut, places_from}
 use Rattle.sled_core.specs.invariants.Running.{Fits}
 use Rattle.sled_core.specs.Running.{end_below}
-use Rattle.sled_core.specs.Waiting.{last_of}
-use Rattle.sled_core.proofs.PublicLaws.{current_count, fits_apart, fits_leaves, fits_reach, inline_message, message_acknowledged, target_above}
+use Rattle.sled_core.specs.Waiting.{last_of, writes_below}
+use Rattle.sled_core.proofs.PublicLaws.{current_count, fits_apart, fits_leaves, fits_reach, inline_message, message_acknowledged, pinned_below, pinned_some, target_above}
 use Rattle.ids.specs.Bounds.{GivesFrom, HasBound}
 use Rattle.ids.specs.declared.generator.IdGenerator.{IdGenerator}
 use Rattle.sled_log.specs.RunStates.{EndsInReach}
@@ -238,30 +238,39 @@ none_written result old new same =
     record { to = 0; buffers = []; made = on_success result (new ≡ old) same; at_most = same; whole = on_refusal result ((count : ℕ) × WritesWhole count [] old new) (0, same) }
 
 -- A flush that is refused what it needs wrote so many buffers whole.
-whole_to : {D C : Type 0} (trace : D → Trace) (sum : List ℕ → ℕ) (to : ℕ) (old new : Log D C) → fault_of new ≡ None → CameTo trace sum to old new
-    → (count : ℕ) × WritesWhole count (writing_below sum old to) (trace (device_of old)) (trace (device_of new))
-whole_to trace sum to old new sound (inl none) = (0, none.still)
-whole_to trace sum to old new sound (inr front) = (front.count, front.whole sound)
+whole_to : {D C : Type 0} (trace : D → Trace) (sum : List ℕ → ℕ) (to : ℕ) (old new : Log D C) → 0 < pins_of old → fault_of new ≡ None → CameTo trace sum to old new
+    → (count : ℕ) × WritesWhole count (writes_below to (buffers_of sum old)) (trace (device_of old)) (trace (device_of new))
+whole_to trace sum to old new out sound (inl none) = (0, none.still)
+whole_to trace sum to old new out sound (inr front) = (front.count, front.whole sound ∙ ap (λ (es : List Event). after_all es (trace (device_of old))) (pinned_some old out sum to front.count))
 
-pub flush_whole : (S T : Type 0) {D C : Type 0} (trace : D → Trace) (sum : List ℕ → ℕ) (mid new : Log D C) (e : Error) (held : Option ℕ) (used : Type 0) (old : Option IoError) (before now : ℕ)
+pub flush_whole : (S T : Type 0) {D C : Type 0} (trace : D → Trace) (sum : List ℕ → ℕ) (mid new : Log D C) (e : Error) (held : Option ℕ) (used : Type 0) (old : Option IoError) (before now : ℕ) → 0 < pins_of mid
     → HeldAnswers {T = S} (Err e) held used old (fault_of new) before now → CameTo trace sum (reserved_end mid) mid new
-    → OnRefusal {T = T} (Err e) ((count : ℕ) × WritesWhole count (flushing sum mid) (trace (device_of mid)) (trace (device_of new)))
-flush_whole S T trace sum mid new (error.Io e) held used old before now answers came = tt
-flush_whole S T trace sum mid new error.OutOfMemory held used old before now answers came = whole_to trace sum (reserved_end mid) mid new answers.2 came
-flush_whole S T trace sum mid new error.PlacesUsedUp held used old before now answers came = whole_to trace sum (reserved_end mid) mid new answers.2 came
-flush_whole S T trace sum mid new (error.Held at) held used old before now answers came = whole_to trace sum (reserved_end mid) mid new answers.3 came
-flush_whole S T trace sum mid new (error.Unsupported text) held used old before now answers came = absurd answers
-flush_whole S T trace sum mid new (error.Corruption at) held used old before now answers came = absurd answers
-flush_whole S T trace sum mid new (error.NotReserved at) held used old before now answers came = absurd answers
-flush_whole S T trace sum mid new (error.CollectionNotFound name) held used old before now answers came = absurd answers
-flush_whole S T trace sum mid new (error.ReportableBug text) held used old before now answers came = absurd answers
+    → OnRefusal {T = T} (Err e) ((count : ℕ) × WritesWhole count (writes_below (reserved_end mid) (buffers_of sum mid)) (trace (device_of mid)) (trace (device_of new)))
+flush_whole S T trace sum mid new (error.Io e) held used old before now out answers came = tt
+flush_whole S T trace sum mid new error.OutOfMemory held used old before now out answers came = whole_to trace sum (reserved_end mid) mid new out answers.2 came
+flush_whole S T trace sum mid new error.PlacesUsedUp held used old before now out answers came = whole_to trace sum (reserved_end mid) mid new out answers.2 came
+flush_whole S T trace sum mid new (error.Held at) held used old before now out answers came = whole_to trace sum (reserved_end mid) mid new out answers.3 came
+flush_whole S T trace sum mid new (error.Unsupported text) held used old before now out answers came = absurd answers
+flush_whole S T trace sum mid new (error.Corruption at) held used old before now out answers came = absurd answers
+flush_whole S T trace sum mid new (error.NotReserved at) held used old before now out answers came = absurd answers
+flush_whole S T trace sum mid new (error.CollectionNotFound name) held used old before now out answers came = absurd answers
+flush_whole S T trace sum mid new (error.ReportableBug text) held used old before now out answers came = absurd answers
 
--- A flush writes the buffers that begin below the end of what was reserved.
+-- A flush writes the buffers that begin below the end of what was reserved, and as a pin is out it makes no other call.
 pub flush_written : {T D C : Type 0} (trace : D → Trace) (sum : List ℕ → ℕ) (old mid : IdGenerator D C) → running mid ≡ running old → (result : Result T Error) (new : Trace) → OnOk result (new ≡ after_all (flushing sum mid.log) (trace (running mid).device))
-    → Performs (flushing sum mid.log) (trace (running mid).device) new → OnRefusal result ((count : ℕ) × WritesWhole count (flushing sum mid.log) (trace (running mid).device) new)
+    → Performs (flushing sum mid.log) (trace (running mid).device) new → OnRefusal result ((count : ℕ) × WritesWhole count (writes_below (reserved_end mid.log) (buffers_of sum mid.log)) (trace (running mid).device) new)
     → WritesBuffers result (trace (running old).device) new
 flush_written trace sum old mid same result new made at_most whole = subst (λ x. WritesBuffers result (trace x.device) new) same
-    (record { to = reserved_end mid.log; buffers = buffers_of sum mid.log; made = made; at_most = at_most; whole = whole })
+    (record {
+      to = reserved_end mid.log;
+      buffers = buffers_of sum mid.log;
+      made = subst (λ (es : List Event). OnOk result (new ≡ after_all es (trace (running mid).device))) calls made;
+      at_most = subst (λ (es : List Event). Performs es (trace (running mid).device) new) calls at_most;
+      whole = whole;
+    })
+  where
+    calls : flushing sum mid.log ≡ writes_below (reserved_end mid.log) (buffers_of sum mid.log)
+    calls = pinned_below mid.log mid.pinned sum (reserved_end mid.log)
 
 -- Where the log keeps a failure, it writes nothing.
 pub faulty_still : {D C : Type 0} (old mid : IdGenerator D C) (new : Log D C) → running mid ≡ running old → kept_fault mid ≡ kept_fault old → ((e : IoError) → fault_of mid.log ≡ Some e → new ≡ mid.log) → IsSome (kept_fault old) → config_of new ≡ running old

@@ -27,7 +27,7 @@ use Rattle.sled_core.specs.Reading.{GivesMessage, IsInline, IsNoPlace}
 use Rattle.sled_core.specs.ReadBuffer.{IsUsedUpAt, ReadAnswers, RefusesPlace, Settles, held_at}
 use Rattle.sled_core.specs.Causes.{IsFault}
 use Rattle.sled_core.specs.Fits.{FirstWaits, HasRecordOf, current_begin, device_of, fault_of, reserved_end, segment_size_of, synced_end}
-use Rattle.sled_core.proofs.PublicLaws.{first_waits, kept_still}
+use Rattle.sled_core.proofs.PublicLaws.{first_waits, kept_still, place_still}
 use Rattle.sled_log.specs.Replaces.{HasLast}
 use Rattle.sled_log.proofs.PublicLaws.{table_has_last, table_has_page}
 use Rattle.ids.specs.Bounds.{IsLastBound, IsLastMessage}
@@ -103,7 +103,7 @@ pub read_still : {D C : Type 0} (trace : D → Trace) (sum : List ℕ → ℕ) (
 read_still trace sum log = record {
   keeps = kept_still trace sum log;
   tickets = record { awaits = λ ticket m awaits. awaits; opens = refl; given_up = λ m there. there };
-  position = record { position = refl; reserved = refl; pins = refl; size = refl };
+  position = place_still log;
 }
 
 -- Where a place is stable, no reservation holds the read of it.
@@ -132,16 +132,23 @@ no_place size lsn lid = by (int_lt lsn (pos 0)) refl where
   by true is = inl (inl (grind (arith, ints, is)))
   by false is = begins (λ low. grind (arith, ints, is, low))
 
+-- one place is below another, or isn't
+below_read : (a b : ℤ) → int_lt a b ≡ true → a <ℤ b
+below_read a b is = grind (arith, ints, is)
+
+not_below_read : (a b : ℤ) → int_lt a b ≡ false → b ≤ℤ a
+not_below_read a b is = grind (arith, ints, is)
+
 -- A log in which nothing was reserved.
 module _ {D C : Type 0} (trace : D → Trace) (sum : List ℕ → ℕ) (lsn : ℤ) (lid : ℕ) (old new : Log D C) (idle : IsIdle old) where
   -- A read of it writes nothing.
   pub read_unwritten : (result : Result LogRead Error) → Settles trace sum result lsn (ptr.Inline lid) old new → RefusesPlace result lsn (ptr.Inline lid) old new → trace (device_of new) ≡ trace (device_of old)
   read_unwritten result settles refuses = by (int_lt lsn (pos (synced_end old))) refl where
     by : (b : Bool) → int_lt lsn (pos (synced_end old)) ≡ b → trace (device_of new) ≡ trace (device_of old)
-    by true is = settles.unwritten (grind (arith, ints, is))
+    by true is = settles.unwritten (below_read lsn (pos (synced_end old)) is)
     by false is =
         let end = idle.reserved in
-        let up : pos (synced_end old) ≤ℤ lsn = grind (arith, ints, is) in
+        let up : pos (synced_end old) ≤ℤ lsn = not_below_read lsn (pos (synced_end old)) is in
         elim (no_place (segment_size_of old) lsn lid) [
           | inl none ↦ ap (λ x. trace (device_of x)) (refuses.no_place idle.fault none).1
           | inr place ↦ ap (λ x. trace (device_of x)) (refuses.unchanged (refuses.not_reserved idle.fault place (omega (arith, ints, up, end)) up))

@@ -30,6 +30,7 @@ pub mod Faulty
 pub mod Filling
 pub mod Fillings
 pub mod FillingsAlong
+pub mod FreeingStep
 pub mod Gathered
 pub mod GivenUp
 pub mod HeaderMarks
@@ -37,6 +38,7 @@ pub mod Heads
 pub mod KeptCalls
 pub mod KeptReads
 pub mod Last
+pub mod LedgerBehind
 pub mod LeftShown
 pub mod LineEnds
 pub mod LineHides
@@ -65,6 +67,8 @@ pub mod OpenPlaces
 pub mod OpenSeen
 pub mod Outcomes
 pub mod PlacedWrite
+pub mod Pinned
+pub mod PinnedWrites
 pub mod Places
 pub mod Positions
 pub mod Prepares

@@ -14,7 +14,7 @@ pub record Account : Type 0 where
 abbrev pub account_of : {D C : Type 0} → Log D C → Account
 account_of log = record { mark = log.marks.joined; durable = log.marks.durable; pinned = nat_lt 0 log.pins }
 
--- What the write of a buffer makes of it that begins with a header of this mark, or with none. Nothing is freed by it yet.
+-- What the write of a buffer makes of it that begins with a header of this mark, or with none.
 abbrev pub written_account : Option ℤ → Account → Account
 written_account mark a = record {
   mark = if a.pinned then a.mark else greater_mark mark a.durable;

@@ -1,7 +1,7 @@
 -- What a log has to do with the history of what was completed, and with its device. Its segments lie one behind another; the first one isn't wholly on the
 -- device, and the last one is being filled.
 use Rattle.std.specs.Prelude.{◌≡◌, ◌⊎◌, ◌+◌, ◌-◌, ◌*◌, ◌/◌, ◌%◌, ◌^◌, ◌≤◌, ◌<◌, if◌then◌else◌, nat_le, nat_lt, Bool, ℕ, ℤ, pos, true, List, [], ◌∷◌, length}
-use Rattle.std.specs.Prelude.{map, drop, All, Option, None, Some, slice_get, Contains}
+use Rattle.std.specs.Prelude.{map, drop, take, All, Option, None, Some, slice_get, Contains}
 use Rattle.std.specs.declared.io.Error.{Error as IoError}
 use Rattle.sled_codec.specs.declared.result.DiskPtr.TheVariants.{Blob}
 use Rattle.sled_codec.specs.declared.serialization.message.LogKind.{LogKind}
@@ -24,17 +24,19 @@ use Rattle.sled_core.specs.Begun.{SegmentView, begin_of, line_in, segment_view}
 use Rattle.sled_core.specs.Buffers.{pointer_as, message_in, none_open, open_in, first_open_in}
 use Rattle.sled_core.specs.Among.{AreAmong}
 use Rattle.sled_core.specs.Fillings.{FillingAt, fillings_along}
+use Rattle.sled_core.specs.Freeing.{Ledger}
 use Rattle.sled_core.specs.GivenUp.{given_up_along}
 use Rattle.sled_core.specs.Heads.{HeadAt, heads_along}
 use Rattle.sled_core.specs.LogFile.{IsLogFile, StaysFrom}
+use Rattle.sled_core.specs.Ledger.{writings}
 use Rattle.sled_core.specs.Logged.{in_log, logged}
 use Rattle.sled_core.specs.OpenBatches.{batch_of, not_whole, stable_below}
 use Rattle.sled_core.specs.OpenPlaces.{open_places_along}
 use Rattle.sled_core.specs.Positions.{Position, behind_record, is_short, placed_at, lid_at, position_in, size_at}
 use Rattle.sled_core.specs.SealedBuffers.{AreZeros, sealed_count}
 use Rattle.sled_core.specs.Tickets.{index_of, IsFor}
-use Rattle.sled_core.specs.Waiting.{BufferAt, BufferStart, at_last, buffers_in, closed_now, held_below, last_of, pending_in, spans, start_in, unwritten}
-use Rattle.sled_core.specs.Waiting.{write_pending, writes_below}
+use Rattle.sled_core.specs.Waiting.{BufferAt, BufferStart, at_last, buffers_in, closed_now, free_below, held_below, last_of, one_pending, pending_in, spans}
+use Rattle.sled_core.specs.Waiting.{start_in, unwritten}
 
 -- What a caller sees of a log.
 
@@ -53,6 +55,10 @@ current_of log = last_of (segment_view log.segments.first) (map segment_view log
 -- what runs on behind them: the slots of the log file
 abbrev pub machine_at : {D C : Type 0} → Log D C → Machine
 machine_at log = machine_of log.accountant
+
+-- they and its marks
+abbrev pub ledger_of : {D C : Type 0} → Log D C → Ledger
+ledger_of log = record { machine = machine_at log; account = account_of log }
 
 -- the reservations of the current buffer
 abbrev pub current_reserved_in : SegmentView → List Reserved
@@ -74,6 +80,10 @@ segment_size_of log = log.config.config.segment_size
 -- Where the next record may begin.
 abbrev pub position_of : {D C : Type 0} → Log D C → Position
 position_of log = position_in log.config.config.segment_size (current_of log) (machine_of log.accountant)
+
+-- where it may begin with slots left as this machine has them
+abbrev pub position_with : {D C : Type 0} → Log D C → Machine → Position
+position_with log m = position_in (segment_size_of log) (current_of log) m
 
 abbrev pub next_place : {D C : Type 0} → Log D C → ℕ
 next_place log = (position_of log).place
@@ -191,6 +201,18 @@ current_begin log = (current_of log).parts.site.place + begin_of (current_of log
 abbrev pub start_of : {D C : Type 0} → Log D C → BufferStart
 start_of log = start_in (current_of log)
 
+-- Once the current buffer is sealed, with its segment, where no further record has room there, the next record begins where it would have begun.
+abbrev pub position_sealed : {D C : Type 0} → Log D C → Machine → Position
+position_sealed log m = record (position_of log) { machine = m }
+
+-- the slots are those that are left behind that one
+abbrev pub ledger_sealed : {D C : Type 0} → Log D C → Ledger
+ledger_sealed log = record { machine = (position_of log).machine; account = account_of log }
+
+-- so they are before a call writes up to a place, which seals that buffer where it begins below that
+abbrev pub ledger_for : {D C : Type 0} → ℕ → Log D C → Ledger
+ledger_for to log = if nat_lt (current_begin log) to then ledger_sealed log else ledger_of log
+
 -- where it begins behind a reservation: with the next segment, where the record needs one
 abbrev pub start_behind : {D C : Type 0} → Log D C → ℕ → ℕ → BufferStart
 start_behind log page n =
@@ -302,9 +324,13 @@ IsWritten trace sum log H =
 abbrev pub buffers_of : {D C : Type 0} → (List ℕ → ℕ) → Log D C → List BufferAt
 buffers_of sum log = buffers_in sum log.config.config.segment_size (line_of log)
 
--- The calls that write those that begin below a place, and settle each, up to the first that has an open reservation.
+-- The calls that write those that begin below a place, and settle each, up to the first that has an open reservation, with the accountant's behind each.
 abbrev pub writing_below : {D C : Type 0} → (List ℕ → ℕ) → Log D C → ℕ → List Event
-writing_below sum log to = writes_below to (buffers_of sum log)
+writing_below sum log to = writings (segment_size_of log) (free_below to (buffers_of sum log)) (ledger_for to log)
+
+-- those of them for so many buffers at the front
+abbrev pub writing_some : {D C : Type 0} → ℕ → (List ℕ → ℕ) → Log D C → ℕ → List Event
+writing_some count sum log to = writings (segment_size_of log) (take count (free_below to (buffers_of sum log))) (ledger_for to log)
 
 -- the same for all that was reserved
 abbrev pub flushing : {D C : Type 0} → (List ℕ → ℕ) → Log D C → List Event
@@ -318,9 +344,9 @@ holding_below sum log to = held_below to (buffers_of sum log)
 abbrev pub pending_of : {D C : Type 0} → Log D C → ℕ
 pending_of log = pending_in (waiting_of log)
 
--- the calls that write the i-th of these and settle it
+-- the calls that write the i-th of these and settle it, with the accountant's
 abbrev pub writing_pending : {D C : Type 0} → Log D C → ℕ → List Event
-writing_pending log i = write_pending i (waiting_of log)
+writing_pending log i = writings (segment_size_of log) (one_pending i (waiting_of log)) (ledger_of log)
 
 -- how many bytes the current buffer has; the header of its segment counts
 abbrev pub held_len : {D C : Type 0} → Log D C → ℕ

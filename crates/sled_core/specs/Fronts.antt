@@ -1,13 +1,17 @@
--- How far a call came that seals and writes buffers, and fails: as many buffers are gone as it synced.
-use Rattle.std.specs.Prelude.{◌≡◌, ◌⊎◌, ◌+◌, ◌*◌, ◌<◌, ◌≤ℤ◌, ℕ, ℤ, suc, pos, unsigned_abs, List, [], ◌∷◌, take, drop, None, Result, Err}
+-- How far a call came that seals and writes buffers, and fails: as many buffers are gone as it wrote and synced.
+use Rattle.std.specs.Prelude.{◌≡◌, ◌⊎◌, ◌+◌, ◌*◌, ◌<◌, ◌≤ℤ◌, ℕ, ℤ, suc, pos, unsigned_abs, if◌then◌else◌, Bool, true, false, List, [], ◌∷◌, take, drop, None}
+use Rattle.std.specs.Prelude.{Result, Err}
 use Rattle.sled_codec.specs.declared.result.Error.{Error}
 use Rattle.sled_codec.specs.declared.result.Error.TheVariants.{Io}
-use Rattle.sled_store.specs.Device.{Event, Trace, Synced}
+use Rattle.sled_store.specs.Device.{Event, Trace, Synced, Wrote}
+use Rattle.sled_store.specs.SegmentStates.{Machine}
 use Rattle.sled_store.specs.Script.{after_all}
-use Rattle.sled_core.specs.Account.{account_behind, account_of}
+use Rattle.sled_core.specs.Account.{account_of}
 use Rattle.sled_core.specs.declared.logger.Log.{Log}
-use Rattle.sled_core.specs.Fits.{current_begin, device_of, fault_of, flushing, reserved_end, start_of, synced_end, waiting_of, writing_below}
-use Rattle.sled_core.specs.Keeps.{sealed_for, start_for}
+use Rattle.sled_core.specs.Fits.{current_begin, device_of, fault_of, ledger_for, ledger_of, position_with, reserved_end, segment_size_of, start_of, synced_end}
+use Rattle.sled_core.specs.Fits.{waiting_of, writing_some}
+use Rattle.sled_core.specs.Keeps.{position_for, sealed_for, start_for}
+use Rattle.sled_core.specs.Ledger.{ledger_behind}
 use Rattle.sled_core.specs.Stable.{first_begin}
 use Rattle.sled_core.specs.ReadBuffer.{LeavesSealed, LeavesUnsealed, LeavesWritten, held_at, settling}
 
@@ -17,13 +21,27 @@ syncs [] = 0
 syncs (Synced ∷ es) = suc (syncs es)
 syncs (_ ∷ es) = syncs es
 
--- These calls that write buffers, one write and one sync for each, were made for so many at the front, whole, and no other call was.
+-- the last call wrote to the log file
+abbrev pub was_written : Trace → Bool
+was_written [] = false
+was_written (Wrote at asked now ∷ es) = true
+was_written (_ ∷ es) = false
+
+-- how many writes of it were synced at once: as many as buffers were written, since the accountant writes nothing
+abbrev pub synced_writes : Trace → ℕ
+synced_writes [] = 0
+synced_writes (Synced ∷ es) = if was_written es then suc (synced_writes es) else synced_writes es
+synced_writes (_ ∷ es) = synced_writes es
+
+-- These calls that write buffers, one write and one sync for each, were made for so many at the front, whole, and no other call was. So it is with a log that
+-- has a pin out.
 abbrev pub WritesWhole : ℕ → List Event → Trace → Trace → Type 0
 WritesWhole count es old new = new ≡ after_all (take (2 * count) es) old
 
 -- No buffer was written: nothing was synced, and unless the device failed nothing was asked of it.
 pub record WroteNone {D C : Type 0} (trace : D → Trace) (old new : Log D C) : Type 0 where
   pub synced : syncs (trace (device_of new)) ≡ syncs (trace (device_of old))
+  pub written : synced_writes (trace (device_of new)) ≡ synced_writes (trace (device_of old))
   pub still : fault_of new ≡ None → trace (device_of new) ≡ trace (device_of old)
   pub account : account_of new ≡ account_of old
 
@@ -32,9 +50,10 @@ pub record WroteFront {D C : Type 0} (trace : D → Trace) (sum : List ℕ → �
   pub count : ℕ
   pub left : waiting_of new ≡ drop count (sealed_for sum to old)
   pub start : start_of new ≡ start_for to old
-  pub account : account_of new ≡ account_behind (take count (sealed_for sum to old)) (account_of old)
-  pub synced : syncs (trace (device_of new)) ≡ count + syncs (trace (device_of old))
-  pub whole : fault_of new ≡ None → WritesWhole count (writing_below sum old to) (trace (device_of old)) (trace (device_of new))
+  pub position : (m : Machine) → position_with new m ≡ position_for to old m
+  pub ledger : ledger_of new ≡ ledger_behind (segment_size_of old) (take count (sealed_for sum to old)) (ledger_for to old)
+  pub written : synced_writes (trace (device_of new)) ≡ count + synced_writes (trace (device_of old))
+  pub whole : fault_of new ≡ None → trace (device_of new) ≡ after_all (writing_some count sum old to) (trace (device_of old))
   -- not all is written that begins below the place
   pub short : synced_end new < to
 
@@ -43,7 +62,8 @@ pub record SealedNone {D C : Type 0} (trace : D → Trace) (to : ℕ) (old new :
   pub fault : fault_of new ≡ fault_of old
   pub waiting : waiting_of new ≡ waiting_of old
   pub start : start_of new ≡ start_of old
-  pub account : account_of new ≡ account_of old
+  pub position : (m : Machine) → position_with new m ≡ position_with old m
+  pub ledger : ledger_of new ≡ ledger_of old
   pub still : trace (device_of new) ≡ trace (device_of old)
   pub due : fault_of old ≡ None → current_begin old < to
 
@@ -69,8 +89,8 @@ UnlessIo _ P = P
 -- A log was given up with this answer, and so many buffers at the front were written: what was reserved isn't all among them.
 pub record ClosedFront {T D C : Type 0} (trace : D → Trace) (sum : List ℕ → ℕ) (result : Result T Error) (log : Log D C) (after : Trace) : Type 0 where
   pub count : ℕ
-  pub synced : syncs after ≡ count + syncs (trace (device_of log))
-  pub whole : UnlessIo result (WritesWhole count (flushing sum log) (trace (device_of log)) after)
+  pub written : synced_writes after ≡ count + synced_writes (trace (device_of log))
+  pub whole : UnlessIo result (after ≡ after_all (writing_some count sum log (reserved_end log)) (trace (device_of log)))
   pub short : first_begin (drop count (sealed_for sum (reserved_end log) log)) (start_for (reserved_end log) log) < reserved_end log
 
 -- the device failed

@@ -1,20 +1,22 @@
 -- What a call keeps of a log, and of what it runs on, said once for all of them.
-use Rattle.std.specs.Prelude.{◌≡◌, ◌≢◌, ◌⊎◌, ◌≤◌, ◌+◌, ◌*◌, nat_lt, if◌then◌else◌, ℕ, List, length, drop, None, Result, OnErr, OnOk}
+use Rattle.std.specs.Prelude.{◌≡◌, ◌≢◌, ◌⊎◌, ◌≤◌, ◌<◌, ◌+◌, ◌*◌, nat_lt, if◌then◌else◌, ℕ, List, length, drop, None, Result, OnErr, OnOk}
 use Rattle.sled_codec.specs.declared.result.Error.{Error}
 use Rattle.sled_core.specs.Causes.{IsHeld}
 use Rattle.sled_codec.specs.History.{Message, History}
 use Rattle.sled_store.specs.declared.config.RunningConfig.{RunningConfig}
 use Rattle.sled_store.specs.Device.{Trace}
 use Rattle.sled_store.specs.Moments.{IsLater, LeavesOnly}
-use Rattle.sled_core.specs.Account.{account_behind, account_of}
+use Rattle.sled_core.specs.Account.{account_of}
 use Rattle.sled_core.specs.declared.logger.Log.{Log}
 use Rattle.sled_core.specs.declared.reservation.Reservation.{Reservation}
 use Rattle.sled_core.specs.Fits.{KeepsTickets, Awaits, NoneSealed, buffers_of, config_of, current_begin, current_of, device_of, fault_of, kept_batches, line_of, machine_at}
-use Rattle.sled_core.specs.Fits.{noted_in, pins_of, position_of, reserved_end, segment_size_of, start_of, synced_end, waiting_of}
+use Rattle.sled_core.specs.Fits.{ledger_for, ledger_of, next_place, noted_in, pins_of, position_of, position_sealed, position_with, reserved_end}
+use Rattle.sled_core.specs.Fits.{segment_size_of, start_of, synced_end, waiting_of}
 use Rattle.sled_core.specs.invariants.Fits.{Holds}
-use Rattle.sled_store.specs.SegmentStates.{next_slot}
+use Rattle.sled_store.specs.SegmentStates.{Machine, next_slot}
+use Rattle.sled_core.specs.Ledger.{ledger_behind}
 use Rattle.sled_core.specs.Marked.{BeginsMarked}
-use Rattle.sled_core.specs.Positions.{is_short}
+use Rattle.sled_core.specs.Positions.{Position, is_short}
 use Rattle.sled_core.specs.Tickets.{place_of}
 use Rattle.sled_core.specs.Waiting.{BufferAt, BufferStart, front_below, not_below}
 use Rattle.sled_core.specs.Recoverable.{RecoverableIfOwn}
@@ -82,12 +84,27 @@ pub record SamePosition {D C : Type 0} (old new : Log D C) : Type 0 where
   pub pins : pins_of new ≡ pins_of old
   pub size : segment_size_of new ≡ segment_size_of old
 
--- What a call keeps that makes no reservation and ends none: what the log holds and goes on fitting, its open reservations with their tickets, and where the
--- next record begins.
+-- So it is with a call that writes buffers, but that slots may come free by it, and a segment that isn't begun yet gets one of those. While a pin is out none
+-- comes free.
+pub record SamePlace {D C : Type 0} (old new : Log D C) : Type 0 where
+  pub place : next_place new ≡ next_place old
+  pub pinned : 0 < pins_of old → position_of new ≡ position_of old
+  pub reserved : reserved_end new ≡ reserved_end old
+  pub pins : pins_of new ≡ pins_of old
+  pub size : segment_size_of new ≡ segment_size_of old
+
+-- What a call keeps that makes no reservation, ends none and writes nothing: what the log holds and goes on fitting, its open reservations with their tickets,
+-- and where the next record begins.
 pub record KeepsLog {D C : Type 0} (trace : D → Trace) (sum : List ℕ → ℕ) (old new : Log D C) : Type 0 where
   pub preserves : Preserves trace sum old new
   pub tickets : KeepsTickets old new
   pub position : SamePosition old new
+
+-- So it is with a call that writes.
+pub record KeepsWriting {D C : Type 0} (trace : D → Trace) (sum : List ℕ → ℕ) (old new : Log D C) : Type 0 where
+  pub preserves : Preserves trace sum old new
+  pub tickets : KeepsTickets old new
+  pub position : SamePlace old new
 
 -- Nothing that a caller sees of the log is another, but for its device.
 pub record IsUnchangedOver {D C : Type 0} (old new : Log D C) : Type 0 where
@@ -121,11 +138,16 @@ sealed_for sum to log = if nat_lt (current_begin log) to then buffers_of sum log
 abbrev pub start_for : {D C : Type 0} → ℕ → Log D C → BufferStart
 start_for to log = if nat_lt (current_begin log) to then start_sealed log else start_of log
 
+-- and where the next record may begin, with slots left as this machine has them
+abbrev pub position_for : {D C : Type 0} → ℕ → Log D C → Machine → Position
+position_for to log m = if nat_lt (current_begin log) to then position_sealed log m else position_with log m
+
 -- A call wrote the buffers that begin below a place, and no others.
 pub record LeavesAbove {D C : Type 0} (sum : List ℕ → ℕ) (to : ℕ) (old new : Log D C) : Type 0 where
   pub left : waiting_of new ≡ not_below to (sealed_for sum to old)
   pub start : start_of new ≡ start_for to old
-  pub account : account_of new ≡ account_behind (front_below to (sealed_for sum to old)) (account_of old)
+  pub position : (m : Machine) → position_with new m ≡ position_for to old m
+  pub ledger : ledger_of new ≡ ledger_behind (segment_size_of old) (front_below to (sealed_for sum to old)) (ledger_for to old)
 
 -- It failed: nothing was sealed and written, or those that begin below the place are sealed, and so many at the front are written.
 abbrev pub LeavesSome : {D C : Type 0} → (List ℕ → ℕ) → ℕ → Log D C → Log D C → Type 0

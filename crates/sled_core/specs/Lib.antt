@@ -10,6 +10,7 @@ pub mod Endings
 pub mod Fillings
 pub mod Fits
 pub mod FreeSlots
+pub mod Freeing
 pub mod Fronts
 pub mod GivenUp
 pub mod Good
@@ -18,6 +19,7 @@ pub mod Heads
 pub mod Iterates
 pub mod Iterators
 pub mod Keeps
+pub mod Ledger
 pub mod LogFile
 pub mod LogSegments
 pub mod LogStatus

@@ -3,9 +3,12 @@
 use Rattle.std.specs.Prelude.{ℕ, List, Option}
 use Rattle.std.specs.declared.io.Error.{Error as IoError}
 use Rattle.sled_codec.specs.History.{Batch}
-use Rattle.sled_core.specs.Account.{Account, account_behind, account_of}
+use Rattle.sled_store.specs.SegmentStates.{Machine}
+use Rattle.sled_core.specs.Account.{Account, account_of}
 use Rattle.sled_core.specs.declared.logger.Log.{Log}
 use Rattle.sled_core.specs.Fits.{fault_of, noted_in, pins_of, position_of, reserved_end, start_of, synced_end, waiting_of}
+use Rattle.sled_core.specs.Freeing.{Ledger}
+use Rattle.sled_core.specs.Ledger.{ledger_behind}
 use Rattle.sled_core.specs.OpenBatches.{not_whole}
 use Rattle.sled_core.specs.Positions.{Position}
 use Rattle.sled_core.specs.Stable.{first_begin}
@@ -44,12 +47,13 @@ status_of log = record {
 abbrev pub rolled : List BufferAt → BufferStart → LogStatus → LogStatus
 rolled buffers start s = record s { waiting = buffers; start = start }
 
--- those of them are written that begin below what was reserved
-abbrev pub flushed : List BufferAt → BufferStart → LogStatus → LogStatus
-flushed buffers start s = record s {
+-- those of them are written that begin below what was reserved, from these slots and marks on; and the next record may begin there, by which slots are left
+abbrev pub flushed : ℕ → List BufferAt → BufferStart → Ledger → (Machine → Position) → LogStatus → LogStatus
+flushed size buffers start l position s = record s {
+  position = position (ledger_behind size (front_below s.reserved buffers) l).machine;
   waiting = not_below s.reserved buffers;
   start = start;
   synced = first_begin (not_below s.reserved buffers) start;
   noted = not_whole (first_begin (not_below s.reserved buffers) start) s.noted;
-  account = account_behind (front_below s.reserved buffers) s.account;
+  account = (ledger_behind size (front_below s.reserved buffers) l).account;
 }

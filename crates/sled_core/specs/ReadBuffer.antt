@@ -11,22 +11,31 @@ use Rattle.sled_codec.specs.Pointers.{lid_of}
 use Rattle.sled_store.specs.Blobs.{IsMissing, NamesDamage}
 use Rattle.sled_store.specs.Device.{Event, Trace}
 use Rattle.sled_store.specs.Script.{Performs, after_all}
-use Rattle.sled_core.specs.Account.{account_behind, account_of}
+use Rattle.sled_store.specs.SegmentStates.{Machine}
 use Rattle.sled_core.specs.declared.logger.Log.{Log}
 use Rattle.sled_core.specs.Causes.{IsFaultAt, IsHeld, OnDone}
-use Rattle.sled_core.specs.Fits.{IsUsedUp, NoneSealed, buffers_of, current_begin, device_of, fault_of, reserved_end, sealing_end, segment_size_of, start_of}
-use Rattle.sled_core.specs.Fits.{synced_end, waiting_of}
+use Rattle.sled_core.specs.Fits.{IsUsedUp, NoneSealed, buffers_of, current_begin, device_of, fault_of, ledger_of, ledger_sealed, position_sealed}
+use Rattle.sled_core.specs.Fits.{position_with, reserved_end, sealing_end, segment_size_of, start_of, synced_end, waiting_of}
+use Rattle.sled_core.specs.Freeing.{Ledger}
 use Rattle.sled_core.specs.Keeps.{start_sealed}
+use Rattle.sled_core.specs.Ledger.{ledger_behind, writings}
 use Rattle.sled_core.specs.Marked.{BeginsMarked}
+use Rattle.sled_core.specs.Positions.{Position}
 use Rattle.sled_core.specs.Reading.{IsNoPlace}
 use Rattle.sled_core.specs.ReadPointer.{place_read}
 use Rattle.sled_core.specs.Stable.{IsNotReserved}
-use Rattle.sled_core.specs.Waiting.{BufferAt, BufferStart, held_around, none_around, one_around, without_around, write_around}
+use Rattle.sled_core.specs.Waiting.{BufferAt, BufferStart, free_around, held_around, none_around, one_around, without_around}
+
+-- the slots and the marks, once the current buffer is sealed where it has a place
+abbrev pub ledger_at : {D C : Type 0} → ℕ → Log D C → Ledger
+ledger_at place log = if nat_le (current_begin log) place then ledger_sealed log else ledger_of log
 
 -- The calls that bring the buffer of a place to the device: none where the place is stable, or its buffer is written or has an open reservation; else one
--- write of that whole buffer, and a sync.
+-- write of that whole buffer, and a sync, with the accountant's behind them.
 abbrev pub settling : {D C : Type 0} → (List ℕ → ℕ) → Log D C → ℤ → List Event
-settling sum log lsn = if int_lt lsn (pos (synced_end log)) then [] else write_around (unsigned_abs lsn) (buffers_of sum log)
+settling sum log lsn =
+    if int_lt lsn (pos (synced_end log)) then []
+    else writings (segment_size_of log) (free_around (unsigned_abs lsn) (buffers_of sum log)) (ledger_at (unsigned_abs lsn) log)
 
 -- the least place of the open reservations of the buffer of a place that isn't stable
 abbrev pub held_at : {D C : Type 0} → (List ℕ → ℕ) → Log D C → ℤ → Option ℕ
@@ -82,19 +91,28 @@ sealed_at sum place log = if nat_le (current_begin log) place then buffers_of su
 abbrev pub start_at : {D C : Type 0} → ℕ → Log D C → BufferStart
 start_at place log = if nat_le (current_begin log) place then start_sealed log else start_of log
 
+-- and where the next record may begin, with slots left as this machine has them
+abbrev pub position_at : {D C : Type 0} → ℕ → Log D C → Machine → Position
+position_at place log m = if nat_le (current_begin log) place then position_sealed log m else position_with log m
+
 -- the buffers are as they were
 abbrev pub LeavesUnsealed : {D C : Type 0} → (List ℕ → ℕ) → ℕ → Log D C → Log D C → Type 0
-LeavesUnsealed sum place old new = (waiting_of new ≡ waiting_of old) × (start_of new ≡ start_of old) × (account_of new ≡ account_of old)
+LeavesUnsealed sum place old new =
+    (waiting_of new ≡ waiting_of old) × (start_of new ≡ start_of old) × (ledger_of new ≡ ledger_of old)
+    × ((m : Machine) → position_with new m ≡ position_with old m)
 
 -- the current one is sealed where it has the place
 abbrev pub LeavesSealed : {D C : Type 0} → (List ℕ → ℕ) → ℕ → Log D C → Log D C → Type 0
-LeavesSealed sum place old new = (waiting_of new ≡ sealed_at sum place old) × (start_of new ≡ start_at place old) × (account_of new ≡ account_of old)
+LeavesSealed sum place old new =
+    (waiting_of new ≡ sealed_at sum place old) × (start_of new ≡ start_at place old) × (ledger_of new ≡ ledger_at place old)
+    × ((m : Machine) → position_with new m ≡ position_at place old m)
 
 -- and the one that has the place is written besides
 abbrev pub LeavesWritten : {D C : Type 0} → (List ℕ → ℕ) → ℕ → Log D C → Log D C → Type 0
 LeavesWritten sum place old new =
     (waiting_of new ≡ without_around place (sealed_at sum place old)) × (start_of new ≡ start_at place old)
-    × (account_of new ≡ account_behind (one_around place (sealed_at sum place old)) (account_of old))
+    × (ledger_of new ≡ ledger_behind (segment_size_of old) (one_around place (sealed_at sum place old)) (ledger_at place old))
+    × ((m : Machine) → position_with new m ≡ position_at place old m)
 
 -- What a read of a place that isn't stable leaves of the buffers: where it succeeds the one that has the place is written; where it is held that one is
 -- sealed; else one of the three.

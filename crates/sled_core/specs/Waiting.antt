@@ -129,7 +129,7 @@ at_last f (v ∷ w ∷ ws) = v ∷ at_last f (w ∷ ws)
 abbrev pub buffers_in : (List ℕ → ℕ) → ℕ → List SegmentView → List BufferAt
 buffers_in sum size vs = unwritten (at_last (as_sealed sum size) vs)
 
--- What is written of buffers one behind another.
+-- What is written of buffers one behind another. The calls are those of a log that has a pin out; those of any log are in `specs/Ledger.antt`.
 
 -- these, unless an open reservation holds them up
 abbrev pub unless_held : {T : Type 0} → Option ℕ → List T → List T
@@ -140,6 +140,11 @@ unless_held (Some place) xs = []
 abbrev pub writes_below : ℕ → List BufferAt → List Event
 writes_below to [] = []
 writes_below to (b ∷ bs) = if nat_lt b.place to then unless_held b.held (writing b.lid b.bytes (writes_below to bs)) else []
+
+-- those buffers: at the front, below the place, up to the first that has an open reservation
+abbrev pub free_below : ℕ → List BufferAt → List BufferAt
+free_below to [] = []
+free_below to (b ∷ bs) = if nat_lt b.place to then unless_held b.held (b ∷ free_below to bs) else []
 
 -- a place, or else another
 abbrev pub first_held : Option ℕ → Option ℕ → Option ℕ
@@ -184,6 +189,11 @@ has_place at b = nat_le b.place at && nat_lt at b.end
 abbrev pub write_around : ℕ → List BufferAt → List Event
 write_around at [] = []
 write_around at (b ∷ bs) = if has_place at b then unless_held b.held (writing b.lid b.bytes []) else write_around at bs
+
+-- that one, where it can be
+abbrev pub free_around : ℕ → List BufferAt → List BufferAt
+free_around at [] = []
+free_around at (b ∷ bs) = if has_place at b then unless_held b.held (b ∷ []) else free_around at bs
 
 -- the least place of that one's open reservations
 abbrev pub held_around : ℕ → List BufferAt → Option ℕ

@@ -1,7 +1,7 @@
 //! Laws of logs, each the contract of a function that does nothing. They are the interface for a client: what it may rely on besides the
 //! contracts of the calls. A proof cites a law by the lemma of `proofs/PublicLaws.antt` that says the same; what that file has besides, under
 //! "Helpers", promises nothing more.
-ghost use Rattle.std.specs.Prelude.{◌≡◌, ◌↔◌, ◌⊎◌, ◌≤◌, ◌<◌, ◌≤ℤ◌, ◌<ℤ◌, ◌+ℤ◌, ◌-ℤ◌, ◌+◌, ◌*◌, ◌/◌, ◌^◌, ◌∷◌, ◌++◌, ℕ, ℤ, pos, true, List, [], replicate, Option, None, Some, Result, IfErr, IfOk, OnOk, length, map, ◌-◌, Contains};
+ghost use Rattle.std.specs.Prelude.{◌≡◌, ◌↔◌, ◌⊎◌, ◌≤◌, ◌<◌, ◌≤ℤ◌, ◌<ℤ◌, ◌+ℤ◌, ◌-ℤ◌, ◌+◌, ◌*◌, ◌/◌, ◌^◌, ◌∷◌, ◌++◌, ℕ, ℤ, pos, true, List, [], replicate, Option, None, Some, Result, IfErr, IfOk, OnOk, length, map, ◌-◌, Contains, if◌then◌else◌, int_lt, unsigned_abs, take};
 ghost use Rattle.std.specs.Borrow.{MutBor};
 ghost use Rattle.std.specs.declared.io.Error.{Error as IoError};
 ghost use Rattle.sled_codec.specs.declared.result.Error.{Error};
@@ -16,14 +16,20 @@ ghost use Rattle.sled_codec.specs.History.{Message, Batch, History, no_history, 
 ghost use Rattle.sled_codec.specs.WellFormed.{LieApart};
 ghost use Rattle.sled_store.specs.Device.{Trace, State, Left, Leaves, Crashed, state_of, content_of, content_left, at_rest, fresh, Content, Settled, Wrote, Synced, step};
 ghost use Rattle.sled_store.specs.Moments.{IsLater, LeavesOnly};
+ghost use Rattle.sled_store.specs.Script.{Performs};
 ghost use Rattle.sled_store.specs.Outdated.{IsNamedNow, NamesBlob};
-ghost use Rattle.sled_core.specs.Fits.{stable_end, KeepsAll, Awaits, FirstWaits, FitsInline, HasRecordOf, IsLeastOpen, IsUnchanged, IsUsedUpBelow, IsUsedUpFor, IsWritten, NoneOpen, blob_at, body_length, buffers_of, current_begin, device_of, fault_of, fillings_of, given_up_of, heads_of, held_len, holding_below, in_blob_of, is_moved, line_of, machine_at, message_for, message_rewriting, next_place, noted_in, open_of, open_places, reserved_end, sealing_end, segment_size_of, start_behind, start_of, synced_end, target_of, waiting_behind, waiting_of};
+ghost use Rattle.sled_core.specs.Fits.{stable_end, KeepsAll, Awaits, FirstWaits, FitsInline, HasRecordOf, IsLeastOpen, IsUnchanged, IsUsedUpBelow, IsUsedUpFor, IsWritten, NoneOpen, blob_at, body_length, buffers_of, current_begin, device_of, fault_of, fillings_of, given_up_of, heads_of, held_len, holding_below, in_blob_of, is_moved, ledger_of, line_of, machine_at, message_for, message_rewriting, next_place, noted_in, open_of, open_places, pins_of, reserved_end, sealing_end, segment_size_of, start_behind, start_of, synced_end, target_of, waiting_behind, waiting_of, writing_below, writing_pending, writing_some};
 ghost use Rattle.sled_core.specs.invariants.Fits.{Holds};
 ghost use Rattle.sled_codec.specs.Snapshots.{SnapshotModel, empty_model, stable_place};
 ghost use Rattle.sled_store.specs.Begin.{offset_at, place_at};
 ghost use Rattle.sled_codec.specs.Record.{IsHeader};
 ghost use Rattle.sled_core.specs.HeaderMark.{mark_at};
-ghost use Rattle.sled_core.specs.Waiting.{HasLength, spans};
+ghost use Rattle.sled_core.specs.Account.{account_behind};
+ghost use Rattle.sled_core.specs.Freeing.{Ledger};
+ghost use Rattle.sled_core.specs.Fronts.{synced_writes, syncs};
+ghost use Rattle.sled_core.specs.Ledger.{ledger_behind};
+ghost use Rattle.sled_core.specs.ReadBuffer.{settling};
+ghost use Rattle.sled_core.specs.Waiting.{BufferAt, HasLength, spans, write_around, write_pending, writes_below};
 ghost use Rattle.sled_core.specs.WholeBuffers.{IsWholeBuffer};
 ghost use Rattle.sled_core.specs.Batches.{LiesInNoFilling};
 ghost use Rattle.sled_core.specs.Causes.{FaultAnswers, HeldAnswers, ReserveAnswers, ReserveCauses};
@@ -183,6 +189,26 @@ pub fn a_call_fails_for_its_own_reasons<T, D: Device, C: Checksum>()
         → IfErr result (WriteFails held (IsUsedUpBelow log to) old new before after) }
     ensures reserve { (log : Log D C) (page n : ℕ) (result : Result T Error) (at : ReserveCauses)
         → ReserveAnswers result (IsUsedUpFor log page n) (IsLeastOpen log) at → IfErr result (ReserveFails (IsUsedUpFor log page n) (IsLeastOpen log) at) }
+{}
+
+/// While a pin is out no segment is freed: the calls that write buffers are one write and one sync for each, so that as many syncs were made as
+/// buffers were written, and the slots stay.
+pub fn a_pin_defers_freeing<D: Device, C: Checksum>()
+    ensures below { (log : Log D C) (to : ℕ) → 0 < pins_of log → writing_below C.sum_of log to ≡ writes_below to (buffers_of C.sum_of log) }
+    ensures some { (log : Log D C) (to count : ℕ) → 0 < pins_of log
+        → writing_some count C.sum_of log to ≡ take (2 * count) (writes_below to (buffers_of C.sum_of log)) }
+    ensures pending { (log : Log D C) (i : ℕ) → 0 < pins_of log → writing_pending log i ≡ write_pending i (waiting_of log) }
+    ensures around { (log : Log D C) (lsn : ℤ) → 0 < pins_of log → settling C.sum_of log lsn
+        ≡ (if int_lt lsn (pos (synced_end log)) then [] else write_around (unsigned_abs lsn) (buffers_of C.sum_of log)) }
+    ensures slots { (log : Log D C) (bs : List BufferAt) → 0 < pins_of log
+        → (ledger_behind (segment_size_of log) bs (ledger_of log)).machine ≡ machine_at log }
+    ensures synced { (log : Log D C) (to count : ℕ) (old new : Trace) → 0 < pins_of log → Performs (writing_below C.sum_of log to) old new
+        → synced_writes new ≡ count + synced_writes old → syncs new ≡ count + syncs old }
+{}
+
+/// Marks join with the writes of buffers, whatever is freed behind them.
+pub fn marks_join_with_what_is_written()
+    ensures { (size : ℕ) (bs : List BufferAt) (l : Ledger) → (ledger_behind size bs l).account ≡ account_behind bs l.account }
 {}
 
 /// The mark of a buffer that begins with the header of its segment is that header's.

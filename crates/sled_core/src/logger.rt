@@ -87,12 +87,11 @@ pub struct Log<D, C> {
 
 impl<D: Device, C: Checksum> Log<D, C> {
     ghost use Rattle.sled_core.specs.invariants.Fits.{Holds};
-    ghost use Rattle.sled_core.specs.Account.{account_of};
     ghost use Rattle.sled_core.specs.Among.{AreAmong};
-    ghost use Rattle.sled_core.specs.Fits.{Awaits, IsOpen, FitsInline, fault_of, given_up_of, synced_end, reserved_end, pins_of, config_of, device_of, HasRecordOf, line_of, segment_size_of, waiting_of, current_begin, FirstWaits, stable_end, KeepsAll};
+    ghost use Rattle.sled_core.specs.Fits.{Awaits, IsOpen, FitsInline, fault_of, given_up_of, synced_end, reserved_end, pins_of, config_of, device_of, HasRecordOf, ledger_of, line_of, segment_size_of, waiting_of, current_begin, FirstWaits, stable_end, KeepsAll};
     ghost use Rattle.sled_core.specs.Fronts.{CameAround};
     ghost use Rattle.sled_core.specs.Endings.{EndsTicket};
-    ghost use Rattle.sled_core.specs.Keeps.{KeepsLog, ConfigKept, GoesOn, Preserves};
+    ghost use Rattle.sled_core.specs.Keeps.{KeepsLog, KeepsWriting, ConfigKept, GoesOn, Preserves};
     ghost use Rattle.sled_core.specs.Marked.{StartsMarked};
     ghost use Rattle.sled_core.specs.ReadBuffer.{IsUsedUpAt, ReadAnswers, RefusesPlace, SealsAround, Settles, WritesAround, held_at};
     ghost use Rattle.sled_core.specs.ReadPointer.{IsDamageAt, IsReadOf, ReadsBlob, place_read};
@@ -293,7 +292,7 @@ impl<D: Device, C: Checksum> Log<D, C> {
         ensures refused { RefusesPlace result lsn ptr self.old self.new }
         ensures buffers { let at = place_read lsn ptr in SealsAround result at self.old self.new × WritesAround C.sum_of result at self.old self.new
             × OnErr result (CameAround D.trace C.sum_of at self.old self.new) }
-        ensures keeps { KeepsLog D.trace C.sum_of self.old self.new }
+        ensures keeps { KeepsWriting D.trace C.sum_of self.old self.new }
         ensures answers { let blobs = (state_of (D.trace (device_of self.new))).blobs.file in let at = place_read lsn ptr in
             ReadAnswers C.sum_of blobs ptr result at (synced_end self.old) (reserved_end self.old) (held_at C.sum_of self.old at) (IsUsedUpAt self.old at)
             (fault_of self.old) (fault_of self.new) (D.faults (device_of self.old)) (D.faults (device_of self.new)) }
@@ -319,7 +318,7 @@ impl<D: Device, C: Checksum> Log<D, C> {
         ensures keeps { KeepsLog D.trace C.sum_of self.old self.new }
         ensures trace { D.trace (device_of self.new) ≡ D.trace (device_of self.old) }
         ensures line { line_of self.new ≡ line_of self.old }
-        ensures account { account_of self.new ≡ account_of self.old }
+        ensures ledger { ledger_of self.new ≡ ledger_of self.old }
         ensures answers { let blobs = (state_of (D.trace (device_of self.old))).blobs.file in
             RecordAnswers C.sum_of blobs ptr result None (fault_of self.new) (D.faults (device_of self.old)) (D.faults (device_of self.new)) }
     {

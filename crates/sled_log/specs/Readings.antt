@@ -10,9 +10,9 @@ use Rattle.sled_codec.specs.Snapshots.{Entry}
 use Rattle.sled_store.specs.Device.{Trace}
 use Rattle.sled_core.specs.Marked.{BeginsMarked}
 use Rattle.sled_core.specs.declared.logger.Log.{Log}
-use Rattle.sled_core.specs.Fits.{KeepsTickets, device_of, fault_of, given_up_of, reserved_end, segment_size_of, start_of}
+use Rattle.sled_core.specs.Fits.{KeepsTickets, device_of, fault_of, given_up_of, pins_of, reserved_end, segment_size_of, start_of}
 use Rattle.sled_core.specs.Among.{AreAmong}
-use Rattle.sled_core.specs.Keeps.{Preserves, SamePosition}
+use Rattle.sled_core.specs.Keeps.{Preserves, SamePlace}
 use Rattle.sled_core.specs.ReadPointer.{place_read}
 use Rattle.sled_core.specs.Recoverable.{NoHeaderOfZeros}
 use Rattle.sled_core.specs.invariants.Running.{Fits}
@@ -23,13 +23,14 @@ use Rattle.sled_log.specs.RunPhases.{HasHeads, Unstored, seen_log, traces}
 use Rattle.sled_log.specs.RunStates.{DeviceView, LogView, RunState, is_present, top, with_log, MarkAt, heads_at}
 use Rattle.sled_log.specs.ReadSteps.{FailsAt, ReadStep, ReadsAt, read_around, read_at}
 
--- A log fits what a session keeps in mind, what it counts as given up was, its headers and fillings that aren't on the device are those that were begun,
--- and zeros pass as no header.
+-- A log fits what a session keeps in mind, with a pin out, what it counts as given up was, its headers and fillings that aren't on the device are those that
+-- were begun, and zeros pass as no header.
 pub record IsRead {D C : Type 0} (trace : D → Trace) (sum : List ℕ → ℕ) (log : Log D C) (k : Unstored) : Type 0 where
   pub made : IsMade k.history
   pub zeros : NoHeaderOfZeros sum
   pub unmarked : List Message
   pub fits : Fits trace sum log k.history k.acknowledged k.floor unmarked
+  pub pinned : 0 < pins_of log
   pub given_up : AreAmong (given_up_of log) k.given_up
   pub heads : HasHeads sum log k.heads
 
@@ -42,11 +43,11 @@ pub record IsOfPage (H : History) (end page : ℕ) (m : Message) : Type 0 where
   pub read : place_read (pos m.place) m.pointer ≡ pos (read_at m)
   pub read_below : read_at m < end
 
--- A log holds and fits what it did, with the same tickets in the same position.
+-- A log holds and fits what it did, with the same tickets in the same place.
 pub record KeepsOpen {D C : Type 0} (trace : D → Trace) (sum : List ℕ → ℕ) (old new : Log D C) : Type 0 where
   pub keeps : Preserves trace sum old new
   pub tickets : KeepsTickets old new
-  pub position : SamePosition old new
+  pub position : SamePlace old new
   pub free : fault_of new ≡ None → fault_of old ≡ None
 
 -- What the read of a message comes to.

@@ -1,24 +1,26 @@
--- The account of a log's marks behind the writes of buffers, and which of its buffers are written.
-use Rattle.std.proofs.Common.{◌≡◌, ◌∙◌, ◌<◌, ◌≤◌, ap, sym, refl, arith, ℕ, zero, suc, Bool, true, false, nat_lt, if◌then◌else◌, List, [], ◌∷◌, ◌++◌, take, drop, append_assoc, Result, Ok, Err, OnOk}
+-- The slots and the marks of a log are the same where nothing of it is another; and which of its buffers are written.
+use Rattle.std.proofs.Common.{◌≡◌, ◌∙◌, ◌<◌, ap, sym, refl, arith, ℕ, zero, suc, Bool, true, false, nat_lt, if◌then◌else◌, List, [], ◌∷◌, ◌++◌, length, length-append, take, drop, append_assoc, Result, Ok, Err, OnOk}
 use Rattle.std.proofs.lemmas.List.{append-nil}
 use Rattle.std.proofs.lemmas.Bool.Decides.{nat_tests}
 use Rattle.sled_core.specs.declared.logger.Log.{Log}
-use Rattle.sled_core.specs.Account.{Account, account_behind, account_of}
-use Rattle.sled_core.specs.Fits.{IsUnchanged, pins_of}
-use Rattle.sled_core.specs.Waiting.{BufferAt, front_below}
+use Rattle.sled_core.specs.Account.{account_of}
+use Rattle.sled_core.specs.Fits.{IsUnchanged, ledger_of, machine_at, pins_of}
+use Rattle.sled_core.specs.Waiting.{BufferAt, free_below, front_below}
 use Rattle.sled_core.proofs.Line.Below.{BeginFrom}
 
--- It is the same where the marks are, and as many pins are out.
+-- Its account is the same where the marks are, and as many pins are out.
 pub account_same : {D C : Type 0} (old new : Log D C) → new.marks ≡ old.marks → pins_of new ≡ pins_of old → account_of new ≡ account_of old
 account_same old new marks pins = λ i. record { mark = (marks i).joined; durable = (marks i).durable; pinned = nat_lt 0 (pins i) }
 
 pub account_unchanged : {D C : Type 0} (old new : Log D C) → IsUnchanged old new → account_of new ≡ account_of old
 account_unchanged old new same = account_same old new same.marks same.pins
 
--- Writes one behind another are those of the one list, and then those of the other.
-pub account_joined : (xs ys : List BufferAt) (a : Account) → account_behind (xs ++ ys) a ≡ account_behind ys (account_behind xs a)
-account_joined [] ys a = refl
-account_joined (x ∷ xs) ys a = account_joined xs ys _
+-- So the ledger is where the slots are, too.
+pub ledger_same : {D C : Type 0} (old new : Log D C) → machine_at new ≡ machine_at old → account_of new ≡ account_of old → ledger_of new ≡ ledger_of old
+ledger_same old new machine account = λ i. record { machine = machine i; account = account i }
+
+pub ledger_unchanged : {D C : Type 0} (old new : Log D C) → IsUnchanged old new → ledger_of new ≡ ledger_of old
+ledger_unchanged old new same = ledger_same old new same.machine (account_unchanged old new same)
 
 -- one more than so many at the front
 pub take_one : (n : ℕ) (xs : List BufferAt) (y : BufferAt) (ys : List BufferAt) → drop n xs ≡ y ∷ ys → take (suc n) xs ≡ take n xs ++ y ∷ []
@@ -41,15 +43,23 @@ module _ (to n : ℕ) (old mid new : List BufferAt) (b : BufferAt) (gone : mid �
   taken : take (suc n) old ≡ take n old ++ b ∷ []
   taken = take_one n old b new (sym gone ∙ is)
 
-  pub account_further : (before now : Account) → now ≡ account_behind (b ∷ []) (account_behind (take n old) before) → now ≡ account_behind (take (suc n) old) before
-  account_further before now same = same ∙ sym (account_joined (take n old) (b ∷ []) before) ∙ ap (λ (l : List BufferAt). account_behind l before) (sym taken)
-
   pub front_further : b.place < to → front_below to old ≡ take n old ++ front_below to mid → front_below to old ≡ take (suc n) old ++ front_below to new
   front_further below so_far =
       so_far
       ∙ ap (λ (l : List BufferAt). take n old ++ l) (ap (front_below to) is ∙ front_first to b new below)
       ∙ sym (append_assoc (take n old) (b ∷ []) (front_below to new))
       ∙ ap (λ (l : List BufferAt). l ++ front_below to new) (sym taken)
+
+  -- which could be
+  pub free_further : free_below to mid ≡ b ∷ free_below to new → free_below to old ≡ take n old ++ free_below to mid → free_below to old ≡ take (suc n) old ++ free_below to new
+  free_further free so_far =
+      so_far
+      ∙ ap (λ (l : List BufferAt). take n old ++ l) free
+      ∙ sym (append_assoc (take n old) (b ∷ []) (free_below to new))
+      ∙ ap (λ (l : List BufferAt). l ++ free_below to new) (sym taken)
+
+  pub many_further : length (take n old) ≡ n → length (take (suc n) old) ≡ suc n
+  many_further many = let one = ap length taken in omega (arith, one, many, length-append (take n old) (b ∷ []))
 
 -- Where those that are left begin at the place or behind it, all were written that begin below it.
 pub front_whole : (to : ℕ) (done old new : List BufferAt) → BeginFrom to new → front_below to old ≡ done ++ front_below to new → done ≡ front_below to old

@@ -1,5 +1,5 @@
 -- A call that writes one buffer behind another, by place, and how far it came.
-use Rattle.std.proofs.Common.{◌≡◌, ◌∙◌, ◌⊎◌, ◌≤◌, ◌<◌, ◌+◌, ◌*◌, ℕ, zero, suc, nat_lt, if◌then◌else◌, Bool, true, false, List, [], ◌∷◌, ◌++◌, length, drop, take, map, set, Option, None, Some, Err, refl, sym, ap, subst, arith, inl, inr, append_assoc, length-append}
+use Rattle.std.proofs.Common.{◌≡◌, ◌∙◌, ◌⊎◌, ◌≤◌, ◌<◌, ◌+◌, ℕ, ℤ, zero, suc, nat_lt, if◌then◌else◌, Bool, true, false, List, [], ◌∷◌, ◌++◌, length, drop, take, map, set, Option, None, Some, Err, refl, sym, ap, subst, arith, inl, inr, length-append}
 use Rattle.std.specs.List.{Contains}
 use Rattle.std.specs.declared.io.Error.{Error as IoError}
 use Rattle.std.proofs.lemmas.Bool.Decides.{nat_tests}
@@ -9,27 +9,31 @@ use Rattle.sled_codec.specs.declared.result.Error.TheVariants.{Io, OutOfMemory}
 use Rattle.sled_store.specs.Device.{Event, Trace}
 use Rattle.sled_store.specs.Script.{Performs, after_all}
 use Rattle.sled_store.proofs.Segments.Elements.{in_rest}
-use Rattle.sled_store.proofs.Traces.ScriptLemmas.{after_joined, performs_behind, performs_more}
+use Rattle.sled_store.specs.SegmentStates.{Machine}
+use Rattle.sled_store.proofs.Traces.ScriptLemmas.{performs_behind, performs_more}
 use Rattle.sled_core.specs.Begun.{SegmentView, segment_view}
 use Rattle.sled_core.specs.declared.logger.Log.{Log}
 use Rattle.sled_core.specs.Causes.{Answers, HeldAnswers}
-use Rattle.sled_core.specs.Fits.{KeepsTickets, current_begin, device_of, fault_of, holding_below, line_of, start_of, synced_end, waiting_of, writing_below}
-use Rattle.sled_core.specs.Fronts.{syncs}
-use Rattle.sled_core.specs.Keeps.{Preserves, SamePosition}
+use Rattle.sled_core.specs.Fits.{KeepsTickets, current_begin, device_of, fault_of, holding_below, ledger_of, ledger_sealed, line_of, position_with, segment_size_of, start_of, synced_end, waiting_of, writing_below}
+use Rattle.sled_core.specs.Freeing.{Ledger}
+use Rattle.sled_core.specs.Fronts.{synced_writes}
+use Rattle.sled_core.specs.Keeps.{Preserves, SamePlace}
+use Rattle.sled_core.specs.Ledger.{ledger_behind, writings, written_ledger, written_step}
 use Rattle.sled_core.specs.inside.Marked.{KeepsSegment}
 use Rattle.sled_core.specs.inside.SealedBuffers.{first_ready}
-use Rattle.sled_core.specs.inside.Turned.{IsReadyIn, mark_of, promoted, ready_below, write_in, written_now}
-use Rattle.sled_core.specs.Waiting.{BufferAt, front_below, held_below, unwritten, writes_below}
-use Rattle.sled_core.proofs.Line.KeptCalls.{kept_further, kept_still, position_further, position_still, tickets_further, tickets_still}
+use Rattle.sled_core.specs.SealedBuffers.{writing}
+use Rattle.sled_core.specs.inside.Turned.{IsReadyIn, mark_of, promoted, ready_below, write_in, writing_in, written_now}
+use Rattle.sled_core.specs.Waiting.{BufferAt, free_below, front_below, held_below, unwritten}
+use Rattle.sled_core.proofs.Line.KeptCalls.{kept_further, kept_still, place_further, place_still, tickets_further, tickets_still}
 use Rattle.sled_core.proofs.Line.HeaderMarks.{segment_further, segment_written}
-use Rattle.sled_core.proofs.Line.Below.{BeginFrom, IsFirst, IsStuck, first_fewer, first_holds, first_there_ready, first_marked, first_writes, line_first, line_past, line_stuck}
-use Rattle.sled_core.proofs.Line.Current.{current_holds, current_writes}
+use Rattle.sled_core.proofs.Line.Below.{BeginFrom, IsFirst, IsStuck, first_fewer, first_holds, first_free, first_there_ready, first_marked, line_first, line_past, line_stuck}
+use Rattle.sled_core.proofs.Line.Current.{current_free, current_holds}
 use Rattle.sled_core.proofs.Line.LogSpans.{IsLeft, left_all, left_further, written_starts}
 use Rattle.sled_core.proofs.Line.Lying.{end_of, promoted_end, set_end}
 use Rattle.sled_core.proofs.Line.Segments.{line_segments}
 use Rattle.std.proofs.lemmas.List.{length-map}
-use Rattle.sled_core.specs.Account.{account_behind, account_of, written_account}
-use Rattle.sled_core.proofs.Line.AccountBehind.{account_further, front_further}
+use Rattle.sled_core.proofs.Line.AccountBehind.{free_further, front_further, many_further}
+use Rattle.sled_core.proofs.Line.LedgerBehind.{ledger_further, one_counted, writings_further, writings_joined, writings_one}
 
 -- the first segment of a log, and those behind it
 abbrev pub first_view : {D C : Type 0} → Log D C → SegmentView
@@ -58,6 +62,14 @@ first_step to mid new ready is =
     subst (λ (l : List BufferAt). IsFirst to (waiting_of mid) l (write_in (line_of mid) 0 0)) (sym (ap unwritten is))
     (line_first mid.config.config.segment_size mid.segments.first.site.place to (first_view mid) (views_behind mid) (line_segments mid) ready)
 
+-- The calls for it are those of that buffer.
+first_calls : {D C : Type 0} (to : ℕ) (mid : Log D C) (left : List BufferAt) (size : ℕ) (l : Ledger) → ready_below (line_of mid) to ≡ true → (step : IsFirst to (waiting_of mid) left (write_in (line_of mid) 0 0)) → writing_in size l (line_of mid) 0 0 ≡ writings size (step.first ∷ []) l
+first_calls to mid left size l ready step =
+    let b : BufferAt = step.first in
+    ap (λ (es : List Event). es ++ (written_step size (mark_of 0 (first_view mid)) l).calls) step.calls
+    ∙ ap (λ (m : Option ℤ). writing b.lid b.bytes [] ++ (written_step size m l).calls) (sym (first_marked to (first_view mid) (views_behind mid) ready b left step.is))
+    ∙ sym (writings_one size b l)
+
 -- the first segment's stable end
 abbrev end_synced : List SegmentView → ℕ
 end_synced [] = 0
@@ -84,10 +96,8 @@ module _ {D C : Type 0} (trace : D → Trace) (sum : List ℕ → ℕ) (faults :
     pub counted : faults (device_of now) ≡ faults (device_of old)
     pub keeps : Preserves trace sum old now
     pub tickets : KeepsTickets old now
-    pub position : SamePosition old now
-    pub done : List Event
-    pub whole : writes_below to (waiting_of old) ≡ done ++ writes_below to (waiting_of now)
-    pub came : trace (device_of now) ≡ after_all done (trace (device_of old))
+    pub position : SamePlace old now
+    pub with_slots : (m : Machine) → position_with now m ≡ position_with old m
     pub held : held_below to (waiting_of old) ≡ held_below to (waiting_of now)
     pub current : current_begin now ≡ current_begin old
     pub below : ((b : BufferAt) → Contains (waiting_of old) b → b.place < to) → (b : BufferAt) → Contains (waiting_of now) b → b.place < to
@@ -96,13 +106,15 @@ module _ {D C : Type 0} (trace : D → Trace) (sum : List ℕ → ℕ) (faults :
     pub left : IsLeft to (waiting_of old) (waiting_of now)
     pub start : start_of now ≡ start_of old
     pub segment : KeepsSegment old now
-    -- so many, each by a write and a sync
+    -- so many
     pub count : ℕ
+    pub many : length (take count (waiting_of old)) ≡ count
     pub gone : waiting_of now ≡ drop count (waiting_of old)
-    pub synced : syncs (trace (device_of now)) ≡ count + syncs (trace (device_of old))
-    pub pairs : length done ≡ 2 * count
+    pub free : free_below to (waiting_of old) ≡ take count (waiting_of old) ++ free_below to (waiting_of now)
+    pub came : trace (device_of now) ≡ after_all (writings (segment_size_of old) (take count (waiting_of old)) (ledger_of old)) (trace (device_of old))
+    pub written : synced_writes (trace (device_of now)) ≡ count + synced_writes (trace (device_of old))
     pub front : front_below to (waiting_of old) ≡ take count (waiting_of old) ++ front_below to (waiting_of now)
-    pub account : account_of now ≡ account_behind (take count (waiting_of old)) (account_of old)
+    pub ledger : ledger_of now ≡ ledger_behind (segment_size_of old) (take count (waiting_of old)) (ledger_of old)
 
   pub advanced_still : (log : Log D C) → fault_of log ≡ None → Advanced log log
   advanced_still log fault = record {
@@ -110,10 +122,8 @@ module _ {D C : Type 0} (trace : D → Trace) (sum : List ℕ → ℕ) (faults :
     counted = refl;
     keeps = kept_still trace sum log;
     tickets = tickets_still log;
-    position = position_still log;
-    done = [];
-    whole = refl;
-    came = refl;
+    position = place_still log;
+    with_slots = λ m. refl;
     held = refl;
     current = refl;
     below = λ below. below;
@@ -122,29 +132,31 @@ module _ {D C : Type 0} (trace : D → Trace) (sum : List ℕ → ℕ) (faults :
     start = refl;
     segment = record { place = refl; bytes = refl; heads = λ h there. there; fillings = λ f there. there };
     count = 0;
+    many = refl;
     gone = refl;
-    synced = omega arith;
-    pairs = refl;
+    free = refl;
+    came = refl;
+    written = omega arith;
     front = refl;
-    account = refl;
+    ledger = refl;
   }
 
   -- One more is written.
-  pub advanced_further : (old mid new : Log D C) → Advanced old mid → ready_below (line_of mid) to ≡ true → FirstWritten mid new → Preserves trace sum mid new → KeepsTickets mid new → SamePosition mid new
-      → trace (device_of new) ≡ after_all (write_in (line_of mid) 0 0) (trace (device_of mid)) → fault_of new ≡ None → faults (device_of new) ≡ faults (device_of mid) → account_of new ≡ written_account (mark_of 0 (first_view mid)) (account_of mid) → Advanced old new
-  advanced_further old mid new so_far ready is keeps tickets position came fault counted account =
+  pub advanced_further : (old mid new : Log D C) → Advanced old mid → ready_below (line_of mid) to ≡ true → FirstWritten mid new → Preserves trace sum mid new → KeepsTickets mid new → SamePlace mid new → ((m : Machine) → position_with new m ≡ position_with mid m)
+      → trace (device_of new) ≡ after_all (writing_in (segment_size_of mid) (ledger_of mid) (line_of mid) 0 0) (trace (device_of mid)) → fault_of new ≡ None → faults (device_of new) ≡ faults (device_of mid)
+      → ledger_of new ≡ written_ledger (segment_size_of mid) (mark_of 0 (first_view mid)) (ledger_of mid) → Advanced old new
+  advanced_further old mid new so_far ready is keeps tickets position with_slots came fault counted ledger =
       let step = first_step to mid new ready is in
       let calls : List Event = write_in (line_of mid) 0 0 in
       let size : ℕ = mid.config.config.segment_size in
+      let it = first_calls to mid (waiting_of new) size (ledger_of mid) ready step in
       record {
         fault = fault;
         counted = counted ∙ so_far.counted;
         keeps = kept_further trace sum old mid new so_far.keeps keeps;
         tickets = tickets_further old mid new so_far.tickets tickets;
-        position = position_further old mid new so_far.position position;
-        done = so_far.done ++ calls;
-        whole = so_far.whole ∙ ap (λ (es : List Event). so_far.done ++ es) (first_writes to (waiting_of mid) (waiting_of new) calls step) ∙ sym (append_assoc so_far.done calls (writes_below to (waiting_of new)));
-        came = came ∙ ap (after_all calls) so_far.came ∙ sym (after_joined so_far.done calls (trace (device_of old)));
+        position = place_further old mid new so_far.position position;
+        with_slots = λ m. with_slots m ∙ so_far.with_slots m;
         held = so_far.held ∙ first_holds to (waiting_of mid) (waiting_of new) calls step;
         current = ap end_of is ∙ promoted_end size (set (line_of mid) 0 (written_now 0 (first_view mid))) ∙ set_end (line_of mid) 0 (first_view mid) 0 refl ∙ so_far.current;
         below = λ below b there. so_far.below below b (subst (λ (l : List BufferAt). Contains l b) (sym step.is) (in_rest step.first b (waiting_of new) there));
@@ -153,18 +165,22 @@ module _ {D C : Type 0} (trace : D → Trace) (sum : List ℕ → ℕ) (faults :
         start = written_starts mid new size 0 (first_view mid) 0 refl is ∙ so_far.start;
         segment = segment_further old mid new so_far.segment (segment_written mid new size 0 0 (first_view mid) refl is);
         count = suc so_far.count;
+        many = many_further to so_far.count (waiting_of old) (waiting_of mid) (waiting_of new) step.first so_far.gone step.is so_far.many;
         gone = sym (drop_one so_far.count (waiting_of old) step.first (waiting_of new) (sym so_far.gone ∙ step.is));
-        synced = (
-            let one : syncs (trace (device_of new)) ≡ suc (syncs (trace (device_of mid))) = ap syncs came ∙ ap (λ (es : List Event). syncs (after_all es (trace (device_of mid)))) step.calls in
-            let before = so_far.synced in
+        free = free_further to so_far.count (waiting_of old) (waiting_of mid) (waiting_of new) step.first so_far.gone step.is (first_free to (waiting_of mid) (waiting_of new) calls step) so_far.free;
+        came = came
+            ∙ ap (λ (es : List Event). after_all es (trace (device_of mid))) it
+            ∙ (λ i. after_all (writings (so_far.position.size i) (step.first ∷ []) (so_far.ledger i)) (so_far.came i))
+            ∙ writings_further (segment_size_of old) so_far.count (waiting_of old) (waiting_of mid) (waiting_of new) step.first so_far.gone step.is (ledger_of old) (trace (device_of old));
+        written = (
+            let one : synced_writes (trace (device_of new)) ≡ suc (synced_writes (trace (device_of mid))) =
+            ap synced_writes (came ∙ ap (λ (es : List Event). after_all es (trace (device_of mid))) it) ∙ one_counted (segment_size_of mid) step.first (ledger_of mid) (trace (device_of mid)) in
+            let before = so_far.written in
             omega (arith, one, before));
-        pairs = (
-            let two : length calls ≡ 2 = ap length step.calls in
-            let before = so_far.pairs in
-            omega (arith, two, before, length-append so_far.done calls));
         front = front_further to so_far.count (waiting_of old) (waiting_of mid) (waiting_of new) step.first so_far.gone step.is step.below so_far.front;
-        account = account_further to so_far.count (waiting_of old) (waiting_of mid) (waiting_of new) step.first so_far.gone step.is (account_of old) (account_of new)
-            (account ∙ (λ i. written_account (sym (first_marked to (first_view mid) (views_behind mid) ready step.first (waiting_of new) step.is) i) (so_far.account i)));
+        ledger = ledger
+            ∙ (λ i. written_ledger (so_far.position.size i) (sym (first_marked to (first_view mid) (views_behind mid) ready step.first (waiting_of new) step.is) i) (so_far.ledger i))
+            ∙ ledger_further (segment_size_of old) so_far.count (waiting_of old) (waiting_of mid) (waiting_of new) step.first so_far.gone step.is (ledger_of old);
       }
     where
       drop_one : (n : ℕ) (xs : List BufferAt) (y : BufferAt) (ys : List BufferAt) → drop n xs ≡ y ∷ ys → drop (suc n) xs ≡ ys
@@ -184,31 +200,53 @@ module _ {D C : Type 0} (trace : D → Trace) (sum : List ℕ → ℕ) (faults :
           by_few (waiting_of new) (omega (arith, few, all, count))
       by_left step few (inr none) = let all = first_fewer to (waiting_of mid) (waiting_of new) (write_in (line_of mid) 0 0) step in absurd (omega (arith, all, ap length none))
 
+  -- All calls are those of the sealed buffers.
+  pub all_sealed : (old : Log D C) → to ≤ current_begin old → writing_below sum old to ≡ writings (segment_size_of old) (free_below to (waiting_of old)) (ledger_of old)
+  all_sealed old sealed =
+      let size : ℕ = old.config.config.segment_size in
+      let behind : nat_lt (current_begin old) to ≡ false = grind (arith, nat_tests, sealed) in
+      let free = current_free sum size old.segments.first.site.place to (first_view old) (views_behind old) (line_segments old) sealed in
+      λ i. writings size (free i) (if behind i then ledger_sealed old else ledger_of old)
+
+  -- The calls of those that are left come behind the others.
+  all_behind : (old mid : Log D C) → to ≤ current_begin old → (so_far : Advanced old mid)
+      → writing_below sum old to ≡ writings (segment_size_of old) (take so_far.count (waiting_of old)) (ledger_of old) ++ writings (segment_size_of mid) (free_below to (waiting_of mid)) (ledger_of mid)
+  all_behind old mid sealed so_far =
+      let size : ℕ = old.config.config.segment_size in
+      let done : List BufferAt = take so_far.count (waiting_of old) in
+      all_sealed old sealed
+      ∙ ap (λ (bs : List BufferAt). writings size bs (ledger_of old)) so_far.free
+      ∙ writings_joined size done (free_below to (waiting_of mid)) (ledger_of old)
+      ∙ (λ i. writings size done (ledger_of old) ++ writings (sym so_far.position.size i) (free_below to (waiting_of mid)) (sym so_far.ledger i))
+
   -- The calls and the one that failed are among those of all.
-  pub failed_further : (old mid new : Log D C) → to ≤ current_begin old → Advanced old mid → ready_below (line_of mid) to ≡ true → Performs (write_in (line_of mid) 0 0) (trace (device_of mid)) (trace (device_of new))
+  pub failed_further : (old mid new : Log D C) → to ≤ current_begin old → Advanced old mid → ready_below (line_of mid) to ≡ true → Performs (writing_in (segment_size_of mid) (ledger_of mid) (line_of mid) 0 0) (trace (device_of mid)) (trace (device_of new))
       → Performs (writing_below sum old to) (trace (device_of old)) (trace (device_of new))
   failed_further old mid new sealed so_far ready most =
       let size : ℕ = mid.config.config.segment_size in
       let step = line_first size mid.segments.first.site.place to (first_view mid) (views_behind mid) (line_segments mid) ready in
-      let calls : List Event = write_in (line_of mid) 0 0 in
+      let calls : List Event = writing_in size (ledger_of mid) (line_of mid) 0 0 in
       let after : List BufferAt = unwritten (promoted size (set (line_of mid) 0 (written_now 0 (first_view mid)))) in
-      let left : writes_below to (waiting_of mid) ≡ calls ++ writes_below to after = first_writes to (waiting_of mid) after calls step in
-      let all : writing_below sum old to ≡ so_far.done ++ (calls ++ writes_below to after) =
-      current_writes sum old.config.config.segment_size old.segments.first.site.place to (first_view old) (views_behind old) (line_segments old) sealed ∙ so_far.whole ∙ ap (λ (es : List Event). so_far.done ++ es) left in
+      let done : List Event = writings (segment_size_of old) (take so_far.count (waiting_of old)) (ledger_of old) in
+      let rest : List Event = writings size (free_below to after) (written_ledger size step.first.mark (ledger_of mid)) in
+      let left : writings size (free_below to (waiting_of mid)) (ledger_of mid) ≡ calls ++ rest =
+      ap (λ (bs : List BufferAt). writings size bs (ledger_of mid)) (first_free to (waiting_of mid) after (write_in (line_of mid) 0 0) step)
+      ∙ writings_joined size (step.first ∷ []) (free_below to after) (ledger_of mid)
+      ∙ ap (λ (es : List Event). es ++ rest) (sym (first_calls to mid after size (ledger_of mid) ready step)) in
+      let all : writing_below sum old to ≡ done ++ (calls ++ rest) = all_behind old mid sealed so_far ∙ ap (λ (es : List Event). done ++ es) left in
       subst (λ (es : List Event). Performs es (trace (device_of old)) (trace (device_of new))) (sym all)
-      (performs_behind so_far.done (calls ++ writes_below to after) _ _ _ so_far.came (performs_more calls (writes_below to after) _ _ most))
+      (performs_behind done (calls ++ rest) _ _ _ so_far.came (performs_more calls rest _ _ most))
 
   -- So there was a call to make.
   pub failed_any : (old mid : Log D C) → to ≤ current_begin old → Advanced old mid → ready_below (line_of mid) to ≡ true → writing_below sum old to ≡ [] → ⊥
   failed_any old mid sealed so_far ready none =
       let size : ℕ = mid.config.config.segment_size in
       let step = line_first size mid.segments.first.site.place to (first_view mid) (views_behind mid) (line_segments mid) ready in
-      let calls : List Event = write_in (line_of mid) 0 0 in
       let after : List BufferAt = unwritten (promoted size (set (line_of mid) 0 (written_now 0 (first_view mid)))) in
-      let left : writes_below to (waiting_of mid) ≡ calls ++ writes_below to after = first_writes to (waiting_of mid) after calls step in
-      let all : writing_below sum old to ≡ so_far.done ++ (calls ++ writes_below to after) =
-      current_writes sum old.config.config.segment_size old.segments.first.site.place to (first_view old) (views_behind old) (line_segments old) sealed ∙ so_far.whole ∙ ap (λ (es : List Event). so_far.done ++ es) left in
-      absurd (omega (arith, ap length none, ap length all, ap length step.calls, length-append so_far.done (calls ++ writes_below to after), length-append calls (writes_below to after)))
+      let done : List Event = writings (segment_size_of old) (take so_far.count (waiting_of old)) (ledger_of old) in
+      let left = ap (λ (bs : List BufferAt). length (writings size bs (ledger_of mid))) (first_free to (waiting_of mid) after (write_in (line_of mid) 0 0) step) in
+      let all = all_behind old mid sealed so_far in
+      absurd (omega (arith, ap length none, ap length all, left, length-append done (writings size (free_below to (waiting_of mid)) (ledger_of mid))))
 
   -- Where there was one at most, and it can be written, none was.
   pub failed_one : (old mid new : Log D C) → Advanced old mid → ready_below (line_of mid) to ≡ true → line_of new ≡ line_of mid → length (waiting_of old) ≤ 1 → synced_end new ≡ synced_end old
@@ -223,14 +261,15 @@ module _ {D C : Type 0} (trace : D → Trace) (sum : List ℕ → ℕ) (faults :
   pub failed_tickets : (old mid new : Log D C) → Advanced old mid → KeepsTickets mid new → KeepsTickets old new
   failed_tickets old mid new so_far tickets = tickets_further old mid new so_far.tickets tickets
 
-  pub failed_position : (old mid new : Log D C) → Advanced old mid → SamePosition mid new → SamePosition old new
-  failed_position old mid new so_far position = position_further old mid new so_far.position position
+  pub failed_position : (old mid new : Log D C) → Advanced old mid → SamePlace mid new → SamePlace old new
+  failed_position old mid new so_far position = place_further old mid new so_far.position position
 
   -- Where nothing is left to write, all was made.
-  pub all_made : (old now : Log D C) → to ≤ current_begin old → Advanced old now → writes_below to (waiting_of now) ≡ [] → trace (device_of now) ≡ after_all (writing_below sum old to) (trace (device_of old))
+  pub all_made : (old now : Log D C) → to ≤ current_begin old → Advanced old now → free_below to (waiting_of now) ≡ [] → trace (device_of now) ≡ after_all (writing_below sum old to) (trace (device_of old))
   all_made old now sealed so_far none =
-      let all : writing_below sum old to ≡ so_far.done =
-      current_writes sum old.config.config.segment_size old.segments.first.site.place to (first_view old) (views_behind old) (line_segments old) sealed ∙ so_far.whole ∙ ap (λ (es : List Event). so_far.done ++ es) none ∙ append-nil so_far.done in
+      let done : List Event = writings (segment_size_of old) (take so_far.count (waiting_of old)) (ledger_of old) in
+      let all : writing_below sum old to ≡ done =
+      all_behind old now sealed so_far ∙ ap (λ (bs : List BufferAt). done ++ writings (segment_size_of now) bs (ledger_of now)) none ∙ append-nil done in
       so_far.came ∙ ap (λ (es : List Event). after_all es (trace (device_of old))) (sym all)
 
   pub holds_up : (old now : Log D C) → to ≤ current_begin old → Advanced old now → holding_below sum old to ≡ held_below to (waiting_of now)

@@ -5,7 +5,6 @@ use Rattle.std.specs.List.Sorted.{IsPartitionPoint}
 use Rattle.std.proofs.lemmas.Bool.Decides.{nat_tests}
 use Rattle.std.proofs.lemmas.List.{drop-drop}
 use Rattle.std.proofs.lemmas.List.Elements.{Contains-append_cases, Contains-append_left, Contains-append_right}
-use Rattle.sled_store.specs.Device.{Event}
 use Rattle.sled_store.proofs.Segments.Elements.{in_first, in_rest}
 use Rattle.sled_core.specs.inside.Begun.{AreFilled}
 use Rattle.sled_core.specs.Begun.{SegmentView, begin_of}
@@ -13,9 +12,9 @@ use Rattle.sled_core.specs.declared.iobuf.Reserved.{Reserved}
 use Rattle.sled_core.specs.declared.iobuf.Sealed.{Sealed}
 use Rattle.sled_core.specs.declared.iobuf.SegmentPosition.{SegmentPosition}
 use Rattle.sled_core.specs.inside.SealedBuffers.{AreSealed, written_at}
-use Rattle.sled_core.specs.SealedBuffers.{sealed_count, sealed_end, writing}
+use Rattle.sled_core.specs.SealedBuffers.{sealed_count, sealed_end}
 use Rattle.sled_core.specs.inside.Turned.{written_now}
-use Rattle.sled_core.specs.Waiting.{BufferAt, buffer_at, has_place, held_around, none_around, one_around, unless_held, unwritten, unwritten_in, unwritten_of, without_around, write_around}
+use Rattle.sled_core.specs.Waiting.{BufferAt, buffer_at, free_around, has_place, held_around, none_around, one_around, unless_held, unwritten, unwritten_in, unwritten_of, without_around}
 use Rattle.sled_core.proofs.Line.Below.{BeginFrom, lie_begin}
 use Rattle.sled_core.proofs.Line.Lying.{LieBetween, end_of, lie_up, line_lie, unwritten_lie, unwritten_run}
 use Rattle.sled_core.proofs.Holds.Nth.{nth_set}
@@ -27,11 +26,11 @@ abbrev pub found : ℕ → List BufferAt → Option BufferAt
 found at [] = None
 found at (b ∷ bs) = if has_place at b then Some b else found at bs
 
--- What is written of it, the least place of its open reservations, the list that it is, and whether there is none.
+-- Which is written of it, the least place of its open reservations, the list that it is, and whether there is none.
 
-abbrev pub writes_of : Option BufferAt → List Event
-writes_of None = []
-writes_of (Some b) = unless_held b.held (writing b.lid b.bytes [])
+abbrev pub free_of : Option BufferAt → List BufferAt
+free_of None = []
+free_of (Some b) = unless_held b.held (b ∷ [])
 
 abbrev pub held_of : Option BufferAt → Option ℕ
 held_of None = None
@@ -45,10 +44,10 @@ abbrev pub is_none : Option BufferAt → Bool
 is_none None = true
 is_none (Some b) = false
 
-pub writes_found : (at : ℕ) (bs : List BufferAt) → write_around at bs ≡ writes_of (found at bs)
-writes_found at [] = refl
-writes_found at (b ∷ bs) = by_test (writes_found at bs) (has_place at b) where
-  by_test : write_around at bs ≡ writes_of (found at bs) → (o : Bool) → (if o then unless_held b.held (writing b.lid b.bytes []) else write_around at bs) ≡ writes_of (if o then Some b else found at bs)
+pub free_found : (at : ℕ) (bs : List BufferAt) → free_around at bs ≡ free_of (found at bs)
+free_found at [] = refl
+free_found at (b ∷ bs) = by_test (free_found at bs) (has_place at b) where
+  by_test : free_around at bs ≡ free_of (found at bs) → (o : Bool) → (if o then unless_held b.held (b ∷ []) else free_around at bs) ≡ free_of (if o then Some b else found at bs)
   by_test rest true = refl
   by_test rest false = rest
 

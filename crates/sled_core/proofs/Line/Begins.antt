@@ -31,7 +31,7 @@ use Rattle.sled_core.specs.Logged.{logged, in_log}
 use Rattle.sled_core.specs.Tickets.{IsFor, index_of}
 use Rattle.sled_core.specs.declared.iobuf.Reserved.{Reserved}
 use Rattle.sled_core.specs.inside.Fits.{written_to, FitsBatches, HasMark, HoldsIn, HoldsLine, HoldsWith, log_parts, parts_in}
-use Rattle.sled_core.specs.Fits.{AwaitsIn, CloseBelow, KeepsAll, KeepsTickets, current_of, device_of, fault_of, given_up_of, line_of, noted_in, machine_at, pins_of, position_of, segment_size_of, stable_end, synced_end, current_begin, fillings_of, heads_of, reserved_end}
+use Rattle.sled_core.specs.Fits.{AwaitsIn, CloseBelow, KeepsAll, KeepsTickets, current_of, device_of, fault_of, given_up_of, line_of, noted_in, machine_at, pins_of, position_of, position_with, segment_size_of, stable_end, synced_end, current_begin, fillings_of, heads_of, reserved_end}
 use Rattle.sled_core.specs.invariants.Fits.{Holds}
 use Rattle.sled_core.specs.inside.Begun.{line_end}
 use Rattle.sled_core.specs.inside.FreeSlots.{HasSlot, HasSlots, HaveOwn}
@@ -403,18 +403,18 @@ module _ {D C : Type 0} (trace : D → Trace) (sum : List ℕ → ℕ) (old new 
   same_size : segment_size_of new ≡ its_size
   same_size = ap (λ (x : RunningConfig D C). x.config.segment_size) rest.config
 
-  -- The next record begins behind its header.
-  pub begins_position : position_of new ≡ next_segment_at its_size (current_of old).parts.site.place (machine_at old)
-  begins_position =
+  -- The next record begins behind its header, whichever slots are left.
+  pub begins_with : (m : Machine) → position_with new m ≡ record (next_segment_at its_size (current_of old).parts.site.place (machine_at old)) { machine = m }
+  begins_with m =
       let b : SegmentView = begun_view sum its_size (machine_at old) (stable_end old) (current_of old) in
       let long = length-short_header sum (pos b.parts.site.place) (pos (stable_end old) -ℤ pos 1) in
       let room : is_short its_size (length b.parts.bytes) ≡ false = grind (arith, nat_tests, big, long) in
-      (λ i. position_in (same_size i) (begins_current i) (machine i))
-      ∙ ap (λ (o : Bool). if o then next_segment_at its_size b.parts.site.place (machine_now) else record { place = b.parts.site.place + length b.parts.bytes; begins = b.parts.site.place; slot = b.parts.site.slot; machine = machine_now }) room
-      ∙ ap (λ n. record { place = b.parts.site.place + n; begins = b.parts.site.place; slot = b.parts.site.slot; machine = machine_now }) long
-    where
-      machine_now : Machine
-      machine_now = handed_out ((current_of old).parts.site.place + segment_size_of old) (machine_at old)
+      (λ i. position_in (same_size i) (begins_current i) m)
+      ∙ ap (λ (o : Bool). if o then next_segment_at its_size b.parts.site.place m else record { place = b.parts.site.place + length b.parts.bytes; begins = b.parts.site.place; slot = b.parts.site.slot; machine = m }) room
+      ∙ ap (λ n. record { place = b.parts.site.place + n; begins = b.parts.site.place; slot = b.parts.site.slot; machine = m }) long
+
+  pub begins_position : position_of new ≡ next_segment_at its_size (current_of old).parts.site.place (machine_at old)
+  begins_position = begins_with (machine_at new) ∙ (λ i. record (next_segment_at its_size (current_of old).parts.site.place (machine_at old)) { machine = machine i })
 
   -- As much is written,
   pub begins_synced : synced_end new ≡ synced_end old

@@ -15,7 +15,7 @@ use Rattle.sled_core.specs.Buffers.{first_open_in, none_open, open_in}
 use Rattle.sled_core.specs.inside.SealedBuffers.{AreSealed, FirstUnwritten, behind_run, first_ready, is_ready, run_count, run_end, written_at}
 use Rattle.sled_core.specs.SealedBuffers.{bytes_between, sealed_end, writing}
 use Rattle.sled_core.specs.inside.Turned.{mark_of, promoted, ready_below, write_in, written_now}
-use Rattle.sled_core.specs.Waiting.{BufferAt, buffer_at, first_held, held_below, placed, unless_held, unwritten, unwritten_in, writes_below}
+use Rattle.sled_core.specs.Waiting.{BufferAt, buffer_at, first_held, free_below, held_below, placed, unless_held, unwritten, unwritten_in}
 use Rattle.sled_core.proofs.Line.Lying.{LieBetween, end_of, line_lie, promoted_unwritten, segments_within, set_within, unwritten_run}
 use Rattle.sled_core.proofs.Line.Segments.{AreSegments}
 use Rattle.sled_core.proofs.Reserve.OpenCounts.{ended_is, first_there}
@@ -38,11 +38,11 @@ pub begin_lower : (to low : ℕ) (bs : List BufferAt) → low ≤ to → BeginFr
 begin_lower to low [] le begin = tt
 begin_lower to low (b ∷ bs) le begin = let here = begin.0 in (omega (arith, le, here), begin_lower to low bs le begin.1)
 
--- Nothing is written of those, and they hold nothing up.
+-- None of those is written, and they hold nothing up.
 
-pub writes_past : (to : ℕ) (bs : List BufferAt) → BeginFrom to bs → writes_below to bs ≡ []
-writes_past to [] begin = refl
-writes_past to (b ∷ bs) begin = let here = begin.0 in ap (λ (o : Bool). if o then unless_held b.held (writing b.lid b.bytes (writes_below to bs)) else []) (let no : nat_lt b.place to ≡ false = grind (arith, nat_tests, here) in no)
+pub free_past : (to : ℕ) (bs : List BufferAt) → BeginFrom to bs → free_below to bs ≡ []
+free_past to [] begin = refl
+free_past to (b ∷ bs) begin = let here = begin.0 in ap (λ (o : Bool). if o then unless_held b.held (b ∷ free_below to bs) else []) (let no : nat_lt b.place to ≡ false = grind (arith, nat_tests, here) in no)
 
 pub held_past : (to : ℕ) (bs : List BufferAt) → BeginFrom to bs → held_below to bs ≡ None
 held_past to [] begin = refl
@@ -50,9 +50,9 @@ held_past to (b ∷ bs) begin = let here = begin.0 in ap (λ (o : Bool). if o th
 
 -- So it is with those behind others.
 
-pub writes_front : (to : ℕ) (xs ys : List BufferAt) → BeginFrom to ys → writes_below to (xs ++ ys) ≡ writes_below to xs
-writes_front to [] ys begin = writes_past to ys begin
-writes_front to (x ∷ xs) ys begin = ap (λ (es : List Event). if nat_lt x.place to then unless_held x.held (writing x.lid x.bytes es) else []) (writes_front to xs ys begin)
+pub free_front : (to : ℕ) (xs ys : List BufferAt) → BeginFrom to ys → free_below to (xs ++ ys) ≡ free_below to xs
+free_front to [] ys begin = free_past to ys begin
+free_front to (x ∷ xs) ys begin = ap (λ (bs : List BufferAt). if nat_lt x.place to then unless_held x.held (x ∷ bs) else []) (free_front to xs ys begin)
 
 pub held_front : (to : ℕ) (xs ys : List BufferAt) → BeginFrom to ys → held_below to (xs ++ ys) ≡ held_below to xs
 held_front to [] ys begin = held_past to ys begin
@@ -72,15 +72,14 @@ pub record IsFirst (to : ℕ) (old new : List BufferAt) (es : List Event) : Type
   pub calls : es ≡ writing first.lid first.bytes []
 
 module _ (to : ℕ) (old new : List BufferAt) (es : List Event) (step : IsFirst to old new es) where
-  pub first_writes : writes_below to old ≡ es ++ writes_below to new
-  first_writes =
+  pub first_free : free_below to old ≡ step.first ∷ free_below to new
+  first_free =
       let b : BufferAt = step.first in
       let below = step.below in
       let test : nat_lt b.place to ≡ true = grind (arith, nat_tests, below) in
-      ap (writes_below to) step.is
-      ∙ ap (λ (o : Bool). if o then unless_held b.held (writing b.lid b.bytes (writes_below to new)) else []) test
-      ∙ ap (λ (o : Option ℕ). unless_held o (writing b.lid b.bytes (writes_below to new))) step.free
-      ∙ sym (ap (λ (l : List Event). l ++ writes_below to new) step.calls)
+      ap (free_below to) step.is
+      ∙ ap (λ (o : Bool). if o then unless_held b.held (b ∷ free_below to new) else []) test
+      ∙ ap (λ (o : Option ℕ). unless_held o (b ∷ free_below to new)) step.free
 
   pub first_holds : held_below to old ≡ held_below to new
   first_holds =
@@ -176,7 +175,7 @@ pub record IsStuck (to : ℕ) (base : ℕ) (bs : List BufferAt) (rs : List Reser
   pub some : 0 < open_in rs
   pub first : first_open_in rs ≡ Some from
   pub holds : held_below to bs ≡ Some (base + from)
-  pub writes : writes_below to bs ≡ []
+  pub none : free_below to bs ≡ []
 
 stuck_first : (site : SegmentPosition) (bytes : List ℕ) (from to : ℕ) (bs : List Sealed) (rs : List Reserved) (more : List BufferAt) → AreSealed from rs bs → FirstUnwritten bs → site.place + from < to → (bs ≡ [] → ⊥) → (if nat_lt (site.place + from) to then first_ready bs else false) ≡ false
     → IsStuck to site.place (unwritten_in site bytes from bs rs ++ more) rs
@@ -200,8 +199,8 @@ stuck_first site bytes from to (b ∷ bs) rs more are fresh below has stuck =
       some = (let le = open_front own later in omega (arith, some, le, ap open_in whole));
       first = sym (ap first_open_in whole) ∙ first_front own later some ∙ least.1;
       holds = ap (held_below to) is ∙ ap (λ (o : Bool). if o then first_held first.held (held_below to (rest ++ more)) else None) test ∙ ap (λ (o : Option ℕ). first_held o (held_below to (rest ++ more))) held;
-      writes = ap (writes_below to) is ∙ ap (λ (o : Bool). if o then unless_held first.held (writing first.lid first.bytes (writes_below to (rest ++ more))) else []) test
-          ∙ ap (λ (o : Option ℕ). unless_held o (writing first.lid first.bytes (writes_below to (rest ++ more)))) held;
+      none = ap (free_below to) is ∙ ap (λ (o : Bool). if o then unless_held first.held (first ∷ free_below to (rest ++ more)) else []) test
+          ∙ ap (λ (o : Option ℕ). unless_held o (first ∷ free_below to (rest ++ more))) held;
     }
 
 pub line_stuck : (size place to reserved_to : ℕ) (v : SegmentView) (vs : List SegmentView) → AreSegments size place (v ∷ vs) → AreFilled size reserved_to (v ∷ vs) → (0 < length vs → v.parts.written_len < size)

@@ -1,8 +1,9 @@
 -- The buffers of a line that aren't on the device: how many of them can be written, which one is the i-th of these, and which are left once it is written.
-use Rattle.std.proofs.Common.{◌≡◌, ◌∙◌, ◌<◌, ◌≤◌, ◌+◌, ◌-◌, ◌==◌, ap, sym, refl, arith, subst, ℕ, zero, suc, Bool, true, false, if◌then◌else◌, List, [], ◌∷◌, ◌++◌, length, take, drop, map, set, Some}
+use Rattle.std.proofs.Common.{◌≡◌, ◌∙◌, ◌<◌, ◌≤◌, ◌+◌, ◌-◌, ◌==◌, ap, sym, refl, arith, subst, ℕ, zero, suc, Bool, true, false, if◌then◌else◌, List, [], ◌∷◌, ◌++◌, length, take, drop, map, set, Option, Some, ℤ}
 use Rattle.std.specs.List.{slice_get}
 use Rattle.std.proofs.lemmas.Bool.Decides.{nat_tests}
 use Rattle.std.proofs.lemmas.List.{drop-drop, length-map}
+use Rattle.sled_store.specs.Device.{Event}
 use Rattle.sled_core.specs.inside.Begun.{AreFilled}
 use Rattle.sled_core.specs.Begun.{SegmentView, begin_of, segment_view}
 use Rattle.sled_core.specs.Buffers.{first_open_in, open_in, open_state}
@@ -14,9 +15,13 @@ use Rattle.sled_core.specs.Fits.{FirstWaits, current_begin, start_of, synced_end
 use Rattle.sled_core.specs.inside.SealedBuffers.{AreSealed, FirstUnwritten, behind_run, is_ready, now_written, ready_count, ready_marked, ready_write, run_count, run_end, written_at}
 use Rattle.sled_core.specs.SealedBuffers.{bytes_between, sealed_end, writing}
 use Rattle.sled_core.specs.Stable.{first_begin}
-use Rattle.sled_core.specs.inside.Turned.{IsReadyIn, begin_at, mark_of, promoted, write_in, written_now}
+use Rattle.sled_core.specs.Freeing.{Ledger}
+use Rattle.sled_core.specs.Ledger.{writings, written_step}
+use Rattle.sled_core.specs.inside.Turned.{IsReadyIn, begin_at, mark_of, promoted, write_in, write_of, writing_in, writing_of, written_now}
 use Rattle.sled_core.specs.Waiting.{BufferAt, buffer_at, is_unheld, last_of, one_pending, pending_in, placed, unwritten, unwritten_in, unwritten_of, without_pending, write_pending}
 use Rattle.sled_core.proofs.Holds.Facts.{IsSegment}
+use Rattle.sled_core.proofs.Line.LedgerBehind.{writings_one}
+use Rattle.sled_core.proofs.Line.PinnedWrites.{pending_plainly, plainly}
 use Rattle.sled_core.proofs.Line.Segments.{AreSegments, by_front, full_unsealed}
 use Rattle.sled_core.proofs.Sealed.Progress.{pending_marked, pending_write, ready_parts}
 use Rattle.sled_core.specs.HeaderMark.{mark_at}
@@ -241,6 +246,17 @@ pub record Finds (line : List SegmentView) (i n k : ℕ) : Type 0 where
   pub writes : write_in line n k ≡ write_pending i (unwritten line)
   pub left : (v : SegmentView) → slice_get line n ≡ Some v → unwritten (set line n (written_now k v)) ≡ without_pending i (unwritten line)
   pub one : (v : SegmentView) → slice_get line n ≡ Some v → IsOnePending i line k v
+
+-- So the calls for it are those of that buffer, with the accountant's behind them.
+pub calls_pending : (size : ℕ) (l : Ledger) (line : List SegmentView) (i n k : ℕ) (v : SegmentView) → slice_get line n ≡ Some v → (b : BufferAt) → one_pending i (unwritten line) ≡ b ∷ [] → b.mark ≡ mark_of k v
+    → write_in line n k ≡ write_pending i (unwritten line) → writing_in size l line n k ≡ writings size (one_pending i (unwritten line)) l
+calls_pending size l line i n k v among b one mark writes =
+    let write : write_in line n k ≡ writing b.lid b.bytes [] = writes ∙ pending_plainly i (unwritten line) ∙ ap plainly one in
+    ap (writing_of size l k) among
+    ∙ ap (λ (es : List Event). es ++ (written_step size (mark_of k v) l).calls) (sym (ap (write_of k) among) ∙ write)
+    ∙ ap (λ (m : Option ℤ). writing b.lid b.bytes [] ++ (written_step size m l).calls) (sym mark)
+    ∙ sym (writings_one size b l)
+    ∙ ap (λ (bs : List BufferAt). writings size bs l) (sym one)
 
 -- one that is there
 ready_own : (bs : List Sealed) (k : ℕ) → k < length bs → ((b : Sealed) → slice_get bs k ≡ Some b → is_ready b ≡ true) → (b : Sealed) × (slice_get bs k ≡ Some b) × (is_ready b ≡ true)

@@ -1,5 +1,5 @@
--- A call that writes buffers and fails: as many are gone as it synced, and unless the device failed each of them was written whole.
-use Rattle.std.proofs.Common.{◌≡◌, ◌∙◌, ◌⊎◌, ◌≤◌, ◌<◌, ◌≤ℤ◌, ◌<ℤ◌, ◌*◌, ap, sym, refl, arith, inl, inr, ℕ, ℤ, pos, Bool, false, nat_lt, if◌then◌else◌, List, ◌∷◌, ◌++◌, take, drop, None, Result, Ok, Err, OnErr}
+-- A call that writes buffers and fails: as many are gone as it wrote and synced, and unless the device failed each of them was written whole.
+use Rattle.std.proofs.Common.{◌≡◌, ◌∙◌, ◌⊎◌, ◌≤◌, ◌<◌, ◌≤ℤ◌, ◌<ℤ◌, ap, sym, refl, arith, inl, inr, ℕ, ℤ, pos, Bool, false, nat_lt, if◌then◌else◌, List, ◌∷◌, ◌++◌, take, drop, None, Result, Ok, Err, OnErr}
 use Rattle.std.specs.Prelude.{unsigned_abs}
 use Rattle.std.specs.declared.io.Error.{Error as IoError}
 use Rattle.std.proofs.Math.Seq.{take-append_seam}
@@ -9,23 +9,24 @@ use Rattle.sled_codec.specs.declared.result.Error.{Error}
 use Rattle.sled_store.specs.Answers.{Does, Tears}
 use Rattle.sled_store.specs.Device.{Event, Trace, Wrote, Cut, BlobMade, BlobRemoved, SnapshotFilled, SnapshotPublished, SnapshotRemoved}
 use Rattle.sled_store.specs.Script.{after_all}
+use Rattle.sled_store.specs.SegmentStates.{Machine}
 use Rattle.sled_core.specs.Causes.{IsHeld}
 use Rattle.sled_core.specs.declared.logger.Log.{Log}
-use Rattle.sled_core.specs.Fits.{buffers_of, current_begin, device_of, start_of, synced_end, waiting_of, writing_below}
-use Rattle.sled_core.specs.Fronts.{CameAround, WroteFront, WroteNone, syncs}
+use Rattle.sled_core.specs.Fits.{buffers_of, current_begin, device_of, ledger_of, ledger_sealed, position_sealed, position_with, segment_size_of, start_of, synced_end, waiting_of}
+use Rattle.sled_core.specs.Fronts.{CameAround, WroteFront, WroteNone, synced_writes, syncs}
 use Rattle.sled_core.specs.Keeps.{LeavesSome, start_sealed}
+use Rattle.sled_core.specs.Ledger.{ledger_behind, writings}
 use Rattle.sled_core.specs.ReadBuffer.{SealsAround, WritesAround, held_at, settling}
-use Rattle.sled_core.specs.Waiting.{writes_below}
+use Rattle.sled_core.specs.Waiting.{free_below}
 use Rattle.sled_core.proofs.Line.Advanced.{Advanced, first_view, views_behind}
-use Rattle.sled_core.proofs.Line.Current.{current_writes}
+use Rattle.sled_core.proofs.Line.Current.{current_free}
 use Rattle.sled_core.proofs.Line.HeaderMarks.{none_begun}
 use Rattle.sled_core.proofs.Line.Lying.{synced_up}
 use Rattle.sled_core.proofs.Line.Segments.{line_segments}
 use Rattle.sled_core.proofs.Stable.EndLemmas.{or_beyond}
-use Rattle.sled_core.specs.Account.{account_behind, account_of}
 
 -- What a failure leaves of a call is no sync,
-torn_unsynced : (e torn : Event) (t : Trace) → Tears e torn → syncs (torn ∷ t) ≡ syncs t
+pub torn_unsynced : (e torn : Event) (t : Trace) → Tears e torn → syncs (torn ∷ t) ≡ syncs t
 torn_unsynced (Wrote at asked now) torn t tears = ap (λ (x : Event). syncs (x ∷ t)) tears.2
 torn_unsynced (Cut asked now) torn t tears = ap (λ (x : Event). syncs (x ∷ t)) tears.2
 torn_unsynced (BlobMade place asked now done) torn t tears = ap (λ (x : Event). syncs (x ∷ t)) tears.2
@@ -40,31 +41,49 @@ pub left_unsynced : {fault : Type 0} (e : Event) (old new : Trace) → (new ≡ 
 left_unsynced e old new (inl same) = ap syncs same
 left_unsynced e old new (inr left) = ap syncs left.1.2 ∙ torn_unsynced e left.1.0 old left.1.1
 
-pub does_unsynced : {T : Type 0} (e : Event) (r : Result T IoError) (old new : Trace) → Does e r old new → OnErr r (syncs new ≡ syncs old)
+-- and no write is.
+pub torn_unwritten : (e torn : Event) (t : Trace) → Tears e torn → synced_writes (torn ∷ t) ≡ synced_writes t
+torn_unwritten (Wrote at asked now) torn t tears = ap (λ (x : Event). synced_writes (x ∷ t)) tears.2
+torn_unwritten (Cut asked now) torn t tears = ap (λ (x : Event). synced_writes (x ∷ t)) tears.2
+torn_unwritten (BlobMade place asked now done) torn t tears = ap (λ (x : Event). synced_writes (x ∷ t)) tears.2
+torn_unwritten (BlobRemoved place done) torn t tears = ap (λ (x : Event). synced_writes (x ∷ t)) tears.1
+torn_unwritten (SnapshotFilled asked now) torn t tears = ap (λ (x : Event). synced_writes (x ∷ t)) tears.1
+torn_unwritten (SnapshotPublished number done) torn t tears = ap (λ (x : Event). synced_writes (x ∷ t)) tears.1
+torn_unwritten (SnapshotRemoved number done) torn t tears = ap (λ (x : Event). synced_writes (x ∷ t)) tears.1
+torn_unwritten _ torn t tears = absurd tears
+
+pub left_unwritten : {fault : Type 0} (e : Event) (old new : Trace) → (new ≡ old) ⊎ (fault × ((torn : Event) × Tears e torn × (new ≡ torn ∷ old))) → synced_writes new ≡ synced_writes old
+left_unwritten e old new (inl same) = ap synced_writes same
+left_unwritten e old new (inr left) = ap synced_writes left.1.2 ∙ torn_unwritten e left.1.0 old left.1.1
+
+pub does_unsynced : {T : Type 0} (e : Event) (r : Result T IoError) (old new : Trace) → Does e r old new → OnErr r ((syncs new ≡ syncs old) × (synced_writes new ≡ synced_writes old))
 does_unsynced e (Ok x) old new does = tt
-does_unsynced e (Err x) old new does = left_unsynced e old new does
+does_unsynced e (Err x) old new does = (left_unsynced e old new does, left_unwritten e old new does)
 
 module _ {D C : Type 0} (trace : D → Trace) (sum : List ℕ → ℕ) (faults : D → ℕ) (to : ℕ) where
   -- Some of the buffers that begin below a place were written, all of which are sealed, and then one wasn't.
-  module _ (old mid new : Log D C) (sealed : to ≤ current_begin old) (so_far : Advanced trace sum faults to old mid) (waiting : waiting_of new ≡ waiting_of mid) (start : start_of new ≡ start_of mid) where
+  module _ (old mid new : Log D C) (sealed : to ≤ current_begin old) (so_far : Advanced trace sum faults to old mid) (waiting : waiting_of new ≡ waiting_of mid) (start : start_of new ≡ start_of mid)
+      (with_slots : (m : Machine) → position_with new m ≡ position_with mid m) where
     not_current : nat_lt (current_begin old) to ≡ false
     not_current = grind (arith, nat_tests, sealed)
 
-    done_is : so_far.done ≡ take (2 * so_far.count) (writing_below sum old to)
+    done_is : take so_far.count (free_below to (buffers_of sum old)) ≡ take so_far.count (waiting_of old)
     done_is =
-        let rest : List Event = writes_below to (waiting_of mid) in
-        let all : writing_below sum old to ≡ so_far.done ++ rest =
-        current_writes sum old.config.config.segment_size old.segments.first.site.place to (first_view old) (views_behind old) (line_segments old) sealed ∙ so_far.whole in
-        sym ((λ i. take (sym so_far.pairs i) (all i)) ∙ take-append_seam so_far.done rest)
+        let all : free_below to (buffers_of sum old) ≡ take so_far.count (waiting_of old) ++ free_below to (waiting_of mid) =
+        current_free sum old.config.config.segment_size old.segments.first.site.place to (first_view old) (views_behind old) (line_segments old) sealed ∙ so_far.free in
+        (λ i. take (sym so_far.many i) (all i)) ∙ take-append_seam (take so_far.count (waiting_of old)) (free_below to (waiting_of mid))
 
-    pub wrote_front : WroteNone trace mid new → synced_end new < to → WroteFront trace sum to old new
-    wrote_front none short = record {
+    pub wrote_front : WroteNone trace mid new → ledger_of new ≡ ledger_of mid → synced_end new < to → WroteFront trace sum to old new
+    wrote_front none ledger short = record {
       count = so_far.count;
       left = waiting ∙ so_far.gone ∙ sym (ap (λ (o : Bool). drop so_far.count (if o then buffers_of sum old else waiting_of old)) not_current);
       start = start ∙ so_far.start ∙ sym (ap (λ (o : Bool). if o then start_sealed old else start_of old) not_current);
-      account = none.account ∙ so_far.account ∙ sym (ap (λ (o : Bool). account_behind (take so_far.count (if o then buffers_of sum old else waiting_of old)) (account_of old)) not_current);
-      synced = none.synced ∙ so_far.synced;
-      whole = λ sound. none.still sound ∙ so_far.came ∙ ap (λ (es : List Event). after_all es (trace (device_of old))) done_is;
+      position = λ m. with_slots m ∙ so_far.with_slots m ∙ sym (ap (λ (o : Bool). if o then position_sealed old m else position_with old m) not_current);
+      ledger = ledger ∙ so_far.ledger
+          ∙ sym (ap (λ (o : Bool). ledger_behind (segment_size_of old) (take so_far.count (if o then buffers_of sum old else waiting_of old)) (if o then ledger_sealed old else ledger_of old)) not_current);
+      written = none.written ∙ so_far.written;
+      whole = λ sound. none.still sound ∙ so_far.came
+          ∙ (λ i. after_all (writings (segment_size_of old) (sym done_is i) (if sym not_current i then ledger_sealed old else ledger_of old)) (trace (device_of old)));
       short = short;
     }
 
@@ -81,14 +100,15 @@ on_err_both (Err e) A B P f a b = f a b
 module _ {D C : Type 0} (trace : D → Trace) (sum : List ℕ → ℕ) (old mid new : Log D C) where
   -- Its place was on the device, or is, and then its record wasn't read.
   pub came_behind : {T T' : Type 0} (lsn : ℤ) (x : T) (r : Result T' Error) → WritesAround {T = T} sum (Ok x) lsn old mid → trace (device_of mid) ≡ after_all (settling sum old lsn) (trace (device_of old))
-      → held_at sum old lsn ≡ None → (lsn <ℤ pos (synced_end old) → trace (device_of mid) ≡ trace (device_of old)) → waiting_of new ≡ waiting_of mid → start_of new ≡ start_of mid → account_of new ≡ account_of mid → trace (device_of new) ≡ trace (device_of mid) → OnErr r (CameAround trace sum lsn old new)
-  came_behind lsn x (Ok y) writes made free still waiting start account same = tt
-  came_behind lsn x (Err e) writes made free still waiting start account same = elim (or_beyond (pos (synced_end old)) lsn) [
+      → held_at sum old lsn ≡ None → (lsn <ℤ pos (synced_end old) → trace (device_of mid) ≡ trace (device_of old)) → waiting_of new ≡ waiting_of mid → start_of new ≡ start_of mid → ledger_of new ≡ ledger_of mid → ((m : Machine) → position_with new m ≡ position_with mid m)
+      → trace (device_of new) ≡ trace (device_of mid) → OnErr r (CameAround trace sum lsn old new)
+  came_behind lsn x (Ok y) writes made free still waiting start ledger with_slots same = tt
+  came_behind lsn x (Err e) writes made free still waiting start ledger with_slots same = elim (or_beyond (pos (synced_end old)) lsn) [
     | inl behind ↦ (
         let above : pos 0 ≤ℤ lsn = omega (arith, ints, behind) in
         let at : pos (unsigned_abs lsn) ≡ lsn = omega (arith, ints, above) in
-        inr (inr ((waiting ∙ (writes.written behind).0, start ∙ (writes.written behind).1, account ∙ (writes.written behind).2), same ∙ made ∙ ap (λ z. after_all (settling sum old z) (trace (device_of old))) (sym at), ap (held_at sum old) at ∙ free)))
-    | inr below ↦ inl ((waiting ∙ (writes.still below).0, start ∙ (writes.still below).1, account ∙ (writes.still below).2), same ∙ still below, λ above. (let up = synced_up old in absurd (omega (arith, ints, below, above, up))))
+        inr (inr ((waiting ∙ (writes.written behind).0, start ∙ (writes.written behind).1, ledger ∙ (writes.written behind).2, λ m. with_slots m ∙ (writes.written behind).3 m), same ∙ made ∙ ap (λ z. after_all (settling sum old z) (trace (device_of old))) (sym at), ap (held_at sum old) at ∙ free)))
+    | inr below ↦ inl ((waiting ∙ (writes.still below).0, start ∙ (writes.still below).1, ledger ∙ (writes.still below).2, λ m. with_slots m ∙ (writes.still below).3 m), same ∙ still below, λ above. (let up = synced_up old in absurd (omega (arith, ints, below, above, up))))
   ]
 
 -- A read did nothing.
@@ -97,7 +117,7 @@ module _ {T D C : Type 0} (log : Log D C) (lsn : ℤ) (e : Error) (never : IsHel
   seals_none = record { still = λ _. refl; apart = λ _. refl; once = inl refl; held = λ held. absurd (never held); none = λ _. tt }
 
   pub around_none : (sum : List ℕ → ℕ) → WritesAround {T = T} sum (Err e) lsn log log
-  around_none sum = record { still = λ _. (refl, refl, refl); written = λ _. tt; held = λ held. absurd (never held); some = inl (refl, refl, refl); marked = none_begun sum log log refl (λ h there. there) (λ f there. there) }
+  around_none sum = record { still = λ _. (refl, refl, refl, λ m. refl); written = λ _. tt; held = λ held. absurd (never held); some = inl (refl, refl, refl, λ m. refl); marked = none_begun sum log log refl (λ h there. there) (λ f there. there) }
 
 pub still_around : {D C : Type 0} (trace : D → Trace) (sum : List ℕ → ℕ) (lsn : ℤ) (log : Log D C) → CameAround trace sum lsn log log
-still_around trace sum lsn log = inl ((refl, refl, refl), refl, λ _. refl)
+still_around trace sum lsn log = inl ((refl, refl, refl, λ m. refl), refl, λ _. refl)

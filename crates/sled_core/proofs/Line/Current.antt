@@ -10,8 +10,8 @@ use Rattle.sled_core.specs.invariants.Caps.{segment_rest}
 use Rattle.sled_core.specs.Positions.{is_short}
 use Rattle.sled_core.specs.inside.SealedBuffers.{AreSealed}
 use Rattle.sled_core.specs.SealedBuffers.{bytes_between, seal_at, sealed_count, sealed_end}
-use Rattle.sled_core.specs.Waiting.{BufferAt, as_sealed, buffer_at, buffers_in, filled_now, held_below, holds_any, sealed_now, turned_now, unwritten, unwritten_in, unwritten_of, with_filling, writes_below}
-use Rattle.sled_core.proofs.Line.Below.{BeginFrom, begin_lower, held_front, writes_front}
+use Rattle.sled_core.specs.Waiting.{BufferAt, as_sealed, buffer_at, buffers_in, filled_now, free_below, held_below, holds_any, sealed_now, turned_now, unwritten, unwritten_in, unwritten_of, with_filling}
+use Rattle.sled_core.proofs.Line.Below.{BeginFrom, begin_lower, free_front, held_front}
 use Rattle.sled_core.proofs.Holds.Facts.{IsSegment}
 use Rattle.sled_core.proofs.Line.Lying.{end_of}
 use Rattle.sled_core.proofs.Line.Segments.{AreSegments}
@@ -120,10 +120,10 @@ module _ (sum : List ℕ → ℕ) (size : ℕ) where
 
   -- It isn't written, and holds nothing up, where it begins behind a place.
 
-  pub current_writes : (place to : ℕ) (v : SegmentView) (vs : List SegmentView) → AreSegments size place (v ∷ vs) → to ≤ end_of (v ∷ vs) → writes_below to (buffers_in sum size (v ∷ vs)) ≡ writes_below to (unwritten (v ∷ vs))
-  current_writes place to v vs are sealed =
+  pub current_free : (place to : ℕ) (v : SegmentView) (vs : List SegmentView) → AreSegments size place (v ∷ vs) → to ≤ end_of (v ∷ vs) → free_below to (buffers_in sum size (v ∷ vs)) ≡ free_below to (unwritten (v ∷ vs))
+  current_free place to v vs are sealed =
       let is = line_current place v vs are in
-      ap (writes_below to) is.is ∙ writes_front to (unwritten (v ∷ vs)) is.more (begin_lower (end_of (v ∷ vs)) to is.more sealed is.begin)
+      ap (free_below to) is.is ∙ free_front to (unwritten (v ∷ vs)) is.more (begin_lower (end_of (v ∷ vs)) to is.more sealed is.begin)
 
   pub current_holds : (place to : ℕ) (v : SegmentView) (vs : List SegmentView) → AreSegments size place (v ∷ vs) → to ≤ end_of (v ∷ vs) → held_below to (buffers_in sum size (v ∷ vs)) ≡ held_below to (unwritten (v ∷ vs))
   current_holds place to v vs are sealed =

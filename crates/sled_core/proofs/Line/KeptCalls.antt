@@ -1,5 +1,5 @@
 -- A call keeps what a log held and fitted where it leaves its device and what is written alone, and where it is two such calls in a row.
-use Rattle.std.proofs.Common.{◌≡◌, ◌∙◌, ◌≤◌, ℕ, Bool, List, [], None, refl, ap, subst, arith, Err}
+use Rattle.std.proofs.Common.{◌≡◌, ◌∙◌, ◌≤◌, ◌<◌, ℕ, Bool, List, [], None, refl, ap, subst, arith, Err}
 use Rattle.sled_codec.specs.declared.result.Error.{Error}
 use Rattle.sled_codec.specs.History.{Message, History}
 use Rattle.sled_store.specs.declared.config.Config.{Config}
@@ -12,9 +12,10 @@ use Rattle.sled_core.specs.declared.logger.Log.{Log}
 use Rattle.sled_core.specs.declared.reservation.Reservation.{Reservation}
 use Rattle.sled_store.proofs.Segments.Elements.{in_rest}
 use Rattle.sled_core.specs.Endings.{EndsTicket, GivesUp}
-use Rattle.sled_core.specs.Fits.{KeepsTickets, config_of, device_of, fault_of, given_up_of, segment_size_of, synced_end}
-use Rattle.sled_core.specs.Keeps.{ConfigKept, GoesOn, KeepsLog, Preserves, SamePosition}
+use Rattle.sled_core.specs.Fits.{KeepsTickets, config_of, device_of, fault_of, given_up_of, pins_of, segment_size_of, synced_end}
+use Rattle.sled_core.specs.Keeps.{ConfigKept, GoesOn, KeepsLog, KeepsWriting, Preserves, SamePlace, SamePosition}
 use Rattle.sled_core.specs.Logged.{in_log}
+use Rattle.sled_core.specs.Positions.{Position}
 use Rattle.sled_core.specs.Recoverable.{RecoverableIfOwn}
 use Rattle.sled_core.specs.invariants.Running.{Fits}
 use Rattle.sled_core.proofs.Line.NumbersKept.{fits_leaves}
@@ -96,7 +97,30 @@ position_still log = record { position = refl; reserved = refl; pins = refl; siz
 pub position_further : {D C : Type 0} (old mid new : Log D C) → SamePosition old mid → SamePosition mid new → SamePosition old new
 position_further old mid new first then = record { position = then.position ∙ first.position; reserved = then.reserved ∙ first.reserved; pins = then.pins ∙ first.pins; size = then.size ∙ first.size }
 
+-- So it is where slots come free.
+pub place_still : {D C : Type 0} (log : Log D C) → SamePlace log log
+place_still log = record { place = refl; pinned = λ pinned. refl; reserved = refl; pins = refl; size = refl }
+
+pub place_further : {D C : Type 0} (old mid new : Log D C) → SamePlace old mid → SamePlace mid new → SamePlace old new
+place_further old mid new first then = record {
+  place = then.place ∙ first.place;
+  pinned = λ pinned. then.pinned (let same = first.pins in omega (arith, pinned, same)) ∙ first.pinned pinned;
+  reserved = then.reserved ∙ first.reserved;
+  pins = then.pins ∙ first.pins;
+  size = then.size ∙ first.size;
+}
+
+pub position_place : {D C : Type 0} (old new : Log D C) → SamePosition old new → SamePlace old new
+position_place old new same = record { place = ap (λ (q : Position). q.place) same.position; pinned = λ pinned. same.position; reserved = same.reserved; pins = same.pins; size = same.size }
+
+-- While a pin is out none does.
+pub place_pinned : {D C : Type 0} (old new : Log D C) → 0 < pins_of old → SamePlace old new → SamePosition old new
+place_pinned old new out same = record { position = same.pinned out; reserved = same.reserved; pins = same.pins; size = same.size }
+
 -- All of it.
+pub writing_still : {D C : Type 0} (trace : D → Trace) (sum : List ℕ → ℕ) (log : Log D C) → KeepsWriting trace sum log log
+writing_still trace sum log = record { preserves = kept_still trace sum log; tickets = tickets_still log; position = place_still log }
+
 pub log_still : {D C : Type 0} (trace : D → Trace) (sum : List ℕ → ℕ) (log : Log D C) → KeepsLog trace sum log log
 log_still trace sum log = record { preserves = kept_still trace sum log; tickets = tickets_still log; position = position_still log }
 

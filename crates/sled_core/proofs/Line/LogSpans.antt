@@ -3,20 +3,20 @@ use Rattle.std.proofs.Common.{◌≡◌, ◌∙◌, ◌≤◌, ◌<◌, ◌+◌,
 use Rattle.std.specs.List.{slice_get}
 use Rattle.std.proofs.lemmas.Bool.Decides.{nat_tests}
 use Rattle.sled_store.specs.Device.{Event}
-use Rattle.sled_store.specs.SegmentStates.{next_slot}
+use Rattle.sled_store.specs.SegmentStates.{Machine, next_slot}
 use Rattle.sled_core.specs.Begun.{SegmentView, segment_view}
 use Rattle.sled_core.specs.declared.iobuf.Reserved.{Reserved}
 use Rattle.sled_core.specs.declared.iobuf.ReservationState.{ReservationState}
 use Rattle.sled_core.specs.declared.logger.Log.{Log}
-use Rattle.sled_core.specs.Fits.{KeepsBuffers, buffers_of, current_begin, current_of, is_moved, line_of, machine_at, segment_size_of, start_behind, start_of, waiting_behind, waiting_of}
-use Rattle.sled_core.specs.Keeps.{LeavesAbove, LeavesSome, sealed_for, start_for, start_sealed}
-use Rattle.sled_core.specs.Positions.{is_short}
+use Rattle.sled_core.specs.Fits.{KeepsBuffers, buffers_of, current_begin, current_of, is_moved, ledger_for, ledger_of, ledger_sealed, line_of, machine_at, position_sealed, position_with, segment_size_of, start_behind, start_of, waiting_behind, waiting_of}
+use Rattle.sled_core.specs.Keeps.{LeavesAbove, LeavesSome, position_for, sealed_for, start_for, start_sealed}
+use Rattle.sled_core.specs.Ledger.{ledger_behind}
+use Rattle.sled_core.specs.Positions.{is_short, position_in}
 use Rattle.sled_core.specs.inside.Turned.{ended_now, next_line, promoted, reserved_now, written_now}
 use Rattle.sled_core.specs.Waiting.{BufferAt, BufferStart, at_last, closed_now, last_of, front_below, not_below, sealed_now, spans, start_in, unwritten}
 use Rattle.sled_core.proofs.Line.Below.{BeginFrom, IsFirst}
 use Rattle.sled_core.proofs.Holds.Facts.{current_facts}
 use Rattle.sled_core.proofs.Line.Spans.{ended_spans, ended_start, next_start, next_unwritten, reserved_start, reserved_unwritten, sealed_start, written_start}
-use Rattle.sled_core.specs.Account.{account_behind, account_of}
 
 -- A log whose segments are these has these buffers, and its current one begins there.
 
@@ -35,6 +35,10 @@ ended_buffers old new n v i r ending state there is = record {
 -- nor where nothing is another
 pub same_buffers : {D C : Type 0} (old new : Log D C) → line_of new ≡ line_of old → (waiting_of new ≡ waiting_of old) × (start_of new ≡ start_of old)
 same_buffers old new is = (ap unwritten is, ap (start_at old) is)
+
+-- The next record begins in the same place then, whichever slots are left.
+pub same_with : {D C : Type 0} (old new : Log D C) → line_of new ≡ line_of old → segment_size_of new ≡ segment_size_of old → (m : Machine) → position_with new m ≡ position_with old m
+same_with old new line size m = λ i. position_in (size i) (last_of (segment_view old.segments.first) (line i)) m
 
 -- A reservation is made in the current segment: the sealed buffers are those that they were, and the current one begins where it did.
 pub reserved_buffers : {D C : Type 0} (old new : Log D C) (more : List ℕ) (r : Reserved) → line_of new ≡ at_last (reserved_now more r) (line_of old) → (waiting_of new ≡ waiting_of old) × (start_of new ≡ start_of old)
@@ -136,22 +140,46 @@ module _ {D C : Type 0} (sum : List ℕ → ℕ) (to : ℕ) where
     start_is : start_for to old ≡ start_of old
     start_is = ap (λ (o : Bool). if o then start_sealed old else start_of old) not_current
 
-    pub leaves_above : IsLeft to (waiting_of old) (waiting_of new) → BeginFrom to (waiting_of new) → account_of new ≡ account_behind (front_below to (waiting_of old)) (account_of old) → LeavesAbove sum to old new
-    leaves_above left begin account = record { left = left_above to (waiting_of old) (waiting_of new) left begin ∙ ap (not_below to) (sym for_is); start = start ∙ sym start_is; account = account ∙ ap (λ (l : List BufferAt). account_behind (front_below to l) (account_of old)) (sym for_is) }
+    ledger_is : ledger_for to old ≡ ledger_of old
+    ledger_is = ap (λ (o : Bool). if o then ledger_sealed old else ledger_of old) not_current
+
+    position_is : (m : Machine) → position_for to old m ≡ position_with old m
+    position_is m = ap (λ (o : Bool). if o then position_sealed old m else position_with old m) not_current
+
+    pub leaves_above : IsLeft to (waiting_of old) (waiting_of new) → BeginFrom to (waiting_of new) → ((m : Machine) → position_with new m ≡ position_with old m)
+        → ledger_of new ≡ ledger_behind (segment_size_of old) (front_below to (waiting_of old)) (ledger_of old) → LeavesAbove sum to old new
+    leaves_above left begin with_slots ledger = record {
+      left = left_above to (waiting_of old) (waiting_of new) left begin ∙ ap (not_below to) (sym for_is);
+      start = start ∙ sym start_is;
+      position = λ m. with_slots m ∙ sym (position_is m);
+      ledger = ledger ∙ (λ i. ledger_behind (segment_size_of old) (front_below to (sym for_is i)) (sym ledger_is i));
+    }
 
   -- and where the current one is sealed first, which begins below the place
-  module _ (old mid new : Log D C) (below : current_begin old < to) (sealed : to ≤ current_begin mid) (waiting : waiting_of mid ≡ buffers_of sum old) (start : start_of mid ≡ start_sealed old) where
+  module _ (old mid new : Log D C) (below : current_begin old < to) (sealed : to ≤ current_begin mid) (waiting : waiting_of mid ≡ buffers_of sum old) (start : start_of mid ≡ start_sealed old)
+      (with_slots : (m : Machine) → position_with mid m ≡ position_sealed old m) (ledger : ledger_of mid ≡ ledger_sealed old) (size : segment_size_of mid ≡ segment_size_of old) where
     current : nat_lt (current_begin old) to ≡ true
     current = grind (arith, nat_tests, below)
 
-    same_for : sealed_for sum to mid ≡ sealed_for sum to old
+    pub same_for : sealed_for sum to mid ≡ sealed_for sum to old
     same_for = for_is mid mid sealed refl ∙ waiting ∙ sym (ap (λ (o : Bool). if o then buffers_of sum old else waiting_of old) current)
 
-    same_start : start_for to mid ≡ start_for to old
+    pub same_start : start_for to mid ≡ start_for to old
     same_start = start_is mid mid sealed refl ∙ start ∙ sym (ap (λ (o : Bool). if o then start_sealed old else start_of old) current)
 
-    pub above_first : account_of mid ≡ account_of old → LeavesAbove sum to mid new → LeavesAbove sum to old new
-    above_first account leaves = record { left = leaves.left ∙ ap (not_below to) same_for; start = leaves.start ∙ same_start; account = leaves.account ∙ (λ i. account_behind (front_below to (same_for i)) (account i)) }
+    pub same_position : (m : Machine) → position_for to mid m ≡ position_for to old m
+    same_position m = position_is mid mid sealed refl m ∙ with_slots m ∙ sym (ap (λ (o : Bool). if o then position_sealed old m else position_with old m) current)
+
+    pub same_ledger : ledger_for to mid ≡ ledger_for to old
+    same_ledger = ledger_is mid mid sealed refl ∙ ledger ∙ sym (ap (λ (o : Bool). if o then ledger_sealed old else ledger_of old) current)
+
+    pub above_first : LeavesAbove sum to mid new → LeavesAbove sum to old new
+    above_first leaves = record {
+      left = leaves.left ∙ ap (not_below to) same_for;
+      start = leaves.start ∙ same_start;
+      position = λ m. leaves.position m ∙ same_position m;
+      ledger = leaves.ledger ∙ (λ i. ledger_behind (size i) (front_below to (same_for i)) (same_ledger i));
+    }
 
     pub some_first : LeavesSome sum to mid new → LeavesSome sum to old new
     some_first (inl same) = inr (0, same.0 ∙ waiting ∙ sym (ap (λ (o : Bool). if o then buffers_of sum old else waiting_of old) current), same.1 ∙ start ∙ sym (ap (λ (o : Bool). if o then start_sealed old else start_of old) current))

@@ -18,73 +18,79 @@ use Rattle.sled_codec.specs.Places.{MayBegin}
 use Rattle.sled_codec.specs.Pointers.{lid_of}
 use Rattle.sled_codec.specs.Snapshots.{SnapshotModel, stable_place}
 use Rattle.sled_store.specs.Answers.{is_fault_kind}
-use Rattle.sled_store.specs.Device.{NamesState, State, Trace, state_of}
+use Rattle.sled_store.specs.Device.{Event, NamesState, State, Synced, Trace, Wrote, state_of}
 use Rattle.sled_store.specs.Script.{Performs, after_all}
 use Rattle.sled_store.specs.SnapshotFiles.{BeginsFrom}
 use Rattle.sled_store.proofs.Names.OneBegin.{one_begin}
-use Rattle.sled_store.proofs.Traces.ScriptLemmas.{performs_whole}
+use Rattle.sled_store.proofs.Traces.ScriptLemmas.{after_joined, performs_whole}
 use Rattle.sled_core.specs.inside.Shown.{shown_of}
 use Rattle.sled_core.specs.Begun.{segment_view}
 use Rattle.sled_core.specs.Causes.{HeldAnswers, IsFault, IsFaultAt, IsHeld, OnDone}
 use Rattle.sled_core.specs.inside.Causes.{RecordAnswers}
 use Rattle.sled_core.specs.declared.logger.Log.{Log}
-use Rattle.sled_core.specs.Fits.{HasRecordOf, current_begin, device_of, fault_of, line_of, machine_at, noted_in, reserved_end, segment_size_of, start_of, synced_end, waiting_of}
+use Rattle.sled_core.specs.Fits.{HasRecordOf, current_begin, device_of, fault_of, ledger_of, line_of, machine_at, noted_in, position_with, reserved_end, segment_size_of, start_of, synced_end, waiting_of}
 use Rattle.sled_core.specs.invariants.Fits.{Holds}
 use Rattle.sled_core.specs.inside.Fits.{HoldsLine}
 use Rattle.sled_core.specs.LogFile.{StaysFrom}
 use Rattle.sled_core.specs.Logged.{in_log, logged}
 use Rattle.sled_core.specs.inside.Marked.{KeepsSegment}
-use Rattle.sled_core.specs.ReadBuffer.{IsSettled, IsWrittenPlace, LeavesWritten, ReadAnswers, RefusesPlace, SealsAround, Settles, WritesAround, held_at, settling}
+use Rattle.sled_core.specs.ReadBuffer.{IsSettled, IsWrittenPlace, LeavesUnsealed, LeavesWritten, ReadAnswers, RefusesPlace, SealsAround, Settles, WritesAround, held_at, ledger_at, settling}
 use Rattle.sled_core.specs.inside.ReadBuffer.{SettleAnswers}
 use Rattle.sled_core.specs.ReadPointer.{GivesBlob, place_read, IsDamageAt}
 use Rattle.sled_core.specs.Reading.{IsNoPlace}
 use Rattle.sled_core.specs.invariants.Running.{Fits}
-use Rattle.sled_core.specs.SealedBuffers.{writing}
+use Rattle.sled_core.specs.Freeing.{Ledger}
+use Rattle.sled_core.specs.Ledger.{writings, written_ledger, written_step}
 use Rattle.sled_core.specs.Stable.{IsNotReserved}
-use Rattle.sled_core.specs.Waiting.{BufferAt, has_place, unless_held, write_around, BufferStart}
+use Rattle.sled_core.specs.Waiting.{BufferAt, free_around, BufferStart}
 use Rattle.sled_core.specs.Fits.{buffers_of}
 use Rattle.sled_core.proofs.Line.Shown.{holds_real}
 use Rattle.sled_core.proofs.Line.HeaderMarks.{marked_same}
 use Rattle.sled_core.proofs.Line.Around.{is_none, none_found}
+use Rattle.sled_core.proofs.Line.FreeingStep.{step_blobs, step_names}
 use Rattle.sled_core.proofs.Line.Outcomes.{all_done, all_err, all_ok, held_alike}
 use Rattle.sled_core.proofs.Line.Records.{IsHeldAt, entry_stays, first_stable, line_begins, line_record}
 use Rattle.sled_core.proofs.Line.Segments.{line_segments}
 use Rattle.sled_core.proofs.Line.Settles.{stable_written}
 use Rattle.sled_core.proofs.Logged.Messages.{in_map, inline_same, inline_there, table_logged}
 use Rattle.sled_core.proofs.Stable.EndLemmas.{or_beyond}
-use Rattle.sled_core.specs.Account.{account_of}
+use Rattle.sled_store.specs.SegmentStates.{Machine}
 
 -- The calls that settle a place leave the snapshots as they were.
-around_names : (at : ℕ) (bs : List BufferAt) (t : Trace) → (state_of (after_all (write_around at bs) t)).snapshots ≡ (state_of t).snapshots
-around_names at [] t = refl
-around_names at (b ∷ bs) t = by_test (around_names at bs t) (has_place at b) b.held where
-  by_test : (state_of (after_all (write_around at bs) t)).snapshots ≡ (state_of t).snapshots → (o : Bool) (held : Option ℕ)
-      → (state_of (after_all (if o then unless_held held (writing b.lid b.bytes []) else write_around at bs) t)).snapshots ≡ (state_of t).snapshots
-  by_test rest true None = refl
-  by_test rest true (Some place) = refl
-  by_test rest false held = rest
+writings_names : (size : ℕ) (bs : List BufferAt) (l : Ledger) (t : Trace) → (state_of (after_all (writings size bs l) t)).snapshots ≡ (state_of t).snapshots
+writings_names size [] l t = refl
+writings_names size (b ∷ bs) l t =
+    let calls : List Event = (written_step size b.mark l).calls in
+    let next : Ledger = written_ledger size b.mark l in
+    let there : Trace = Synced ∷ Wrote b.lid b.bytes b.bytes ∷ t in
+    ap (λ (x : Trace). (state_of x).snapshots) (after_joined calls (writings size bs next) there)
+    ∙ writings_names size bs next (after_all calls there)
+    ∙ step_names size b.mark l there
 
 pub settled_names : {D C : Type 0} (sum : List ℕ → ℕ) (log : Log D C) (lsn : ℤ) (t : Trace) → (state_of (after_all (settling sum log lsn) t)).snapshots ≡ (state_of t).snapshots
 settled_names sum log lsn t = by_test (int_lt lsn (pos (synced_end log))) where
-  by_test : (o : Bool) → (state_of (after_all (if o then [] else write_around (unsigned_abs lsn) (buffers_of sum log)) t)).snapshots ≡ (state_of t).snapshots
+  by_test : (o : Bool)
+      → (state_of (after_all (if o then [] else writings (segment_size_of log) (free_around (unsigned_abs lsn) (buffers_of sum log)) (ledger_at (unsigned_abs lsn) log)) t)).snapshots ≡ (state_of t).snapshots
   by_test true = refl
-  by_test false = around_names (unsigned_abs lsn) (buffers_of sum log) t
+  by_test false = writings_names (segment_size_of log) (free_around (unsigned_abs lsn) (buffers_of sum log)) (ledger_at (unsigned_abs lsn) log) t
 
 -- and the blobs
-around_blobs : (at : ℕ) (bs : List BufferAt) (t : Trace) → (state_of (after_all (write_around at bs) t)).blobs ≡ (state_of t).blobs
-around_blobs at [] t = refl
-around_blobs at (b ∷ bs) t = by_test (around_blobs at bs t) (has_place at b) b.held where
-  by_test : (state_of (after_all (write_around at bs) t)).blobs ≡ (state_of t).blobs → (o : Bool) (held : Option ℕ)
-      → (state_of (after_all (if o then unless_held held (writing b.lid b.bytes []) else write_around at bs) t)).blobs ≡ (state_of t).blobs
-  by_test rest true None = refl
-  by_test rest true (Some place) = refl
-  by_test rest false held = rest
+writings_blobs : (size : ℕ) (bs : List BufferAt) (l : Ledger) (t : Trace) → (state_of (after_all (writings size bs l) t)).blobs ≡ (state_of t).blobs
+writings_blobs size [] l t = refl
+writings_blobs size (b ∷ bs) l t =
+    let calls : List Event = (written_step size b.mark l).calls in
+    let next : Ledger = written_ledger size b.mark l in
+    let there : Trace = Synced ∷ Wrote b.lid b.bytes b.bytes ∷ t in
+    ap (λ (x : Trace). (state_of x).blobs) (after_joined calls (writings size bs next) there)
+    ∙ writings_blobs size bs next (after_all calls there)
+    ∙ step_blobs size b.mark l there
 
 pub settled_blobs : {D C : Type 0} (sum : List ℕ → ℕ) (log : Log D C) (lsn : ℤ) (t : Trace) → (state_of (after_all (settling sum log lsn) t)).blobs ≡ (state_of t).blobs
 settled_blobs sum log lsn t = by_test (int_lt lsn (pos (synced_end log))) where
-  by_test : (o : Bool) → (state_of (after_all (if o then [] else write_around (unsigned_abs lsn) (buffers_of sum log)) t)).blobs ≡ (state_of t).blobs
+  by_test : (o : Bool)
+      → (state_of (after_all (if o then [] else writings (segment_size_of log) (free_around (unsigned_abs lsn) (buffers_of sum log)) (ledger_at (unsigned_abs lsn) log)) t)).blobs ≡ (state_of t).blobs
   by_test true = refl
-  by_test false = around_blobs (unsigned_abs lsn) (buffers_of sum log) t
+  by_test false = writings_blobs (segment_size_of log) (free_around (unsigned_abs lsn) (buffers_of sum log)) (ledger_at (unsigned_abs lsn) log) t
 
 none_is : (o : Option BufferAt) → is_none o ≡ true → o ≡ None
 none_is None is = refl
@@ -305,16 +311,19 @@ module _ {D C : Type 0} (lsn : ℤ) (old mid : Log D C) where
   pub around_err : {T T' : Type 0} (sum : List ℕ → ℕ) (e : Error) → WritesAround {T = T} sum (Err e) lsn old mid → WritesAround {T = T'} sum (Err e) lsn old mid
   around_err {T = T} {T' = T'} sum e is = record { still = is.still; written = λ _. tt; held = λ held. is.held (held_alike T T' e held); some = is.some; marked = is.marked }
 
-  pub around_read : {T T' : Type 0} (sum : List ℕ → ℕ) (r : Result T' Error) (new : Log D C) (x : T) → WritesAround {T = T} sum (Ok x) lsn old mid → waiting_of new ≡ waiting_of mid → start_of new ≡ start_of mid → account_of new ≡ account_of mid → (IsHeld r → ⊥) → KeepsSegment mid new → WritesAround sum r lsn old new
-  around_read sum r new x is waiting start account free segment = record {
-    still = λ below. (waiting ∙ (is.still below).0, start ∙ (is.still below).1, account ∙ (is.still below).2);
+  pub around_read : {T T' : Type 0} (sum : List ℕ → ℕ) (r : Result T' Error) (new : Log D C) (x : T) → WritesAround {T = T} sum (Ok x) lsn old mid → waiting_of new ≡ waiting_of mid → start_of new ≡ start_of mid → ledger_of new ≡ ledger_of mid → ((m : Machine) → position_with new m ≡ position_with mid m) → (IsHeld r → ⊥) → KeepsSegment mid new → WritesAround sum r lsn old new
+  around_read sum r new x is waiting start ledger with_slots free segment = record {
+    still = still;
     written = λ behind. all_ok r _ (left behind);
     held = λ held. absurd (free held);
-    some = elim (or_beyond (pos (synced_end old)) lsn) [ inl behind ↦ all_err r _ (inr (inr (left behind))) | inr below ↦ all_err r _ (inl (waiting ∙ (is.still below).0, start ∙ (is.still below).1, account ∙ (is.still below).2)) ];
+    some = elim (or_beyond (pos (synced_end old)) lsn) [ inl behind ↦ all_err r _ (inr (inr (left behind))) | inr below ↦ all_err r _ (inl (still below)) ];
     marked = marked_same sum old mid new is.marked segment (ap (λ (s : BufferStart). s.place) start);
   } where
     left : pos (synced_end old) ≤ℤ lsn → LeavesWritten sum (unsigned_abs lsn) old new
-    left behind = (waiting ∙ (is.written behind).0, start ∙ (is.written behind).1, account ∙ (is.written behind).2)
+    left behind = (waiting ∙ (is.written behind).0, start ∙ (is.written behind).1, ledger ∙ (is.written behind).2, λ m. with_slots m ∙ (is.written behind).3 m)
+
+    still : lsn <ℤ pos (synced_end old) → LeavesUnsealed sum (unsigned_abs lsn) old new
+    still below = (waiting ∙ (is.still below).0, start ∙ (is.still below).1, ledger ∙ (is.still below).2, λ m. with_slots m ∙ (is.still below).3 m)
 
 -- a place that isn't negative
 pub pos_abs : (z : ℤ) → pos 0 ≤ℤ z → pos (unsigned_abs z) ≡ z

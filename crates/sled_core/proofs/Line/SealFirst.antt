@@ -1,11 +1,12 @@
 -- A call that writes the buffers that begin below a place, and seals the current one first, where that does: what it makes of the log is what the write of those makes of the sealed one.
-use Rattle.std.proofs.Common.{◌≡◌, ◌∙◌, ◌≤◌, ◌<◌, ◌+◌, ◌*◌, ap, sym, refl, arith, subst, inl, ℕ, Bool, true, false, nat_lt, if◌then◌else◌, List, [], ◌∷◌, ◌++◌, length, take, drop, map, None, Some, Result, Ok, Err, OnOk, OnErr}
+use Rattle.std.proofs.Common.{◌≡◌, ◌∙◌, ◌≤◌, ◌<◌, ◌+◌, ap, sym, refl, arith, subst, inl, ℕ, Bool, true, false, if◌then◌else◌, List, [], ◌∷◌, ◌++◌, length, take, drop, map, None, Some, Result, Ok, Err, OnOk, OnErr}
 use Rattle.std.specs.declared.io.Error.{Error as IoError}
 use Rattle.std.specs.List.{Contains}
 use Rattle.std.proofs.lemmas.Bool.Decides.{nat_tests}
 use Rattle.sled_codec.specs.declared.result.Error.{Error}
 use Rattle.sled_store.specs.Device.{Event, Trace}
 use Rattle.sled_store.specs.Script.{Performs, after_all}
+use Rattle.sled_store.specs.SegmentStates.{Machine}
 use Rattle.sled_store.specs.declared.config.RunningConfig.{RunningConfig}
 use Rattle.sled_store.proofs.Segments.Elements.{in_nothing, only_in}
 use Rattle.sled_store.proofs.Traces.ScriptLemmas.{performs_nothing}
@@ -13,24 +14,25 @@ use Rattle.sled_core.specs.Begun.{SegmentView, segment_view}
 use Rattle.sled_core.specs.declared.logger.Log.{Log}
 use Rattle.sled_core.specs.Causes.{HeldAnswers, IsHeld, OnDone}
 use Rattle.sled_core.specs.inside.Fits.{AddsBuffers}
-use Rattle.sled_core.specs.Fits.{IsUnchanged, IsUsedUp, IsUsedUpBelow, KeepsAll, KeepsTickets, NoneSealed, buffers_of, current_begin, current_of, device_of, fault_of, holding_below, reserved_end, sealing_end, segment_size_of, start_of, synced_end, waiting_of, writing_below}
-use Rattle.sled_core.specs.Fronts.{CameTo, WroteFront, syncs}
-use Rattle.sled_core.specs.Keeps.{LeavesAbove, LeavesSome, Preserves, SamePosition, WritesBelow, start_sealed}
+use Rattle.sled_core.specs.Fits.{IsUnchanged, IsUsedUp, IsUsedUpBelow, KeepsAll, KeepsTickets, NoneSealed, buffers_of, current_begin, current_of, device_of, fault_of, holding_below, ledger_for, ledger_of, ledger_sealed, machine_at, position_of, position_sealed, position_with, reserved_end, sealing_end, segment_size_of, start_of, synced_end, waiting_of, writing_below, writing_some}
+use Rattle.sled_core.specs.Fronts.{CameTo, WroteFront, synced_writes}
+use Rattle.sled_core.specs.Keeps.{LeavesAbove, LeavesSome, Preserves, SamePlace, SamePosition, WritesBelow, start_sealed}
+use Rattle.sled_core.specs.Ledger.{ledger_behind, writings}
 use Rattle.sled_core.specs.Marked.{BeginsMarked}
-use Rattle.sled_core.specs.Positions.{is_short}
-use Rattle.sled_core.specs.Waiting.{BufferAt, held_below, holds_any, writes_below}
-use Rattle.sled_core.proofs.Line.KeptCalls.{kept_still, position_further, position_still, tickets_further, tickets_still}
-use Rattle.sled_core.proofs.Line.Below.{begin_all, held_front, line_past, writes_front}
+use Rattle.sled_core.specs.Positions.{Position, is_short}
+use Rattle.sled_core.specs.Waiting.{BufferAt, free_below, held_below, holds_any}
+use Rattle.sled_core.proofs.Line.KeptCalls.{kept_still, place_further, position_place, position_still, tickets_further, tickets_still}
+use Rattle.sled_core.proofs.Line.Below.{begin_all, free_front, held_front, line_past}
 use Rattle.sled_core.proofs.Line.Current.{ComeBehind, line_current}
 use Rattle.sled_core.proofs.Line.Entered.{filled_last}
 use Rattle.sled_core.proofs.Holds.Facts.{current_facts}
 use Rattle.sled_core.proofs.Line.HeaderMarks.{none_begun}
-use Rattle.sled_core.proofs.Line.LogSpans.{above_first, leaves_above, left_all, same_buffers, some_first}
+use Rattle.sled_core.proofs.Line.LogSpans.{above_first, leaves_above, left_all, same_buffers, same_for, same_ledger, same_position, same_start, same_with, some_first}
 use Rattle.sled_core.proofs.Line.Lying.{synced_up}
 use Rattle.sled_core.proofs.Line.Outcomes.{answers_used, held_alike, on_done, on_err, on_ok}
 use Rattle.sled_core.proofs.Line.Segments.{line_segments}
-use Rattle.sled_core.specs.Account.{account_behind, account_of}
-use Rattle.sled_core.proofs.Line.AccountBehind.{account_unchanged, front_none}
+use Rattle.sled_core.specs.Account.{account_of}
+use Rattle.sled_core.proofs.Line.AccountBehind.{front_none, ledger_unchanged}
 
 -- The current buffer holds something, where it begins below a place that was reserved.
 pub some_below : {D C : Type 0} (log : Log D C) (to : ℕ) → to ≤ reserved_end log → current_begin log < to → holds_any (current_of log) ≡ true
@@ -67,27 +69,35 @@ few_below from to old new none come below =
 module _ {D C : Type 0} (sum : List ℕ → ℕ) (to : ℕ) (old mid : Log D C) (reserved : to ≤ reserved_end old) where
   -- More buffers behind all that was reserved are none of those below the place.
   module _ (adds : AddsBuffers sum old mid) where
-    pub writing_more : writing_below sum mid to ≡ writing_below sum old to
-    writing_more = ap (writes_below to) adds.is ∙ writes_front to (buffers_of sum old) adds.more (begin_all (reserved_end old) to adds.more reserved adds.behind)
+    free_more : free_below to (buffers_of sum mid) ≡ free_below to (buffers_of sum old)
+    free_more = ap (free_below to) adds.is ∙ free_front to (buffers_of sum old) adds.more (begin_all (reserved_end old) to adds.more reserved adds.behind)
+
+    -- so the same is written
+    module _ (size : segment_size_of mid ≡ segment_size_of old) (ledger : ledger_for to mid ≡ ledger_for to old) where
+      pub writing_more : writing_below sum mid to ≡ writing_below sum old to
+      writing_more = λ i. writings (size i) (free_more i) (ledger i)
+
+      pub some_more : (count : ℕ) → writing_some count sum mid to ≡ writing_some count sum old to
+      some_more count = λ i. writings (size i) (take count (free_more i)) (ledger i)
 
     pub holding_more : holding_below sum mid to ≡ holding_below sum old to
     holding_more = ap (held_below to) adds.is ∙ held_front to (buffers_of sum old) adds.more (begin_all (reserved_end old) to adds.more reserved adds.behind)
 
   -- so many of them at the front are written of the one as of the other
-  pub front_first : {trace : D → Trace} (adds : AddsBuffers sum old mid) (new : Log D C) → current_begin old < to → to ≤ current_begin mid → waiting_of mid ≡ buffers_of sum old → start_of mid ≡ start_sealed old → device_of mid ≡ device_of old → account_of mid ≡ account_of old
+  pub front_first : {trace : D → Trace} (adds : AddsBuffers sum old mid) (new : Log D C) (below : current_begin old < to) (sealed : to ≤ current_begin mid) (waiting : waiting_of mid ≡ buffers_of sum old) (start : start_of mid ≡ start_sealed old)
+      → device_of mid ≡ device_of old → ((m : Machine) → position_with mid m ≡ position_sealed old m) → ledger_of mid ≡ ledger_sealed old → segment_size_of mid ≡ segment_size_of old
       → WroteFront trace sum to mid new → WroteFront trace sum to old new
-  front_first {trace} adds new below sealed waiting start device account front =
-      let before : nat_lt (current_begin old) to ≡ true = grind (arith, nat_tests, below) in
-      let behind : nat_lt (current_begin mid) to ≡ false = grind (arith, nat_tests, sealed) in
+  front_first {trace} adds new below sealed waiting start device with_slots ledger size front =
+      let same = same_for sum to old mid new below sealed waiting start with_slots ledger size in
+      let from = same_ledger sum to old mid new below sealed waiting start with_slots ledger size in
       record {
         count = front.count;
-        left = front.left ∙ (λ i. drop front.count (if behind i then buffers_of sum mid else waiting i)) ∙ sym (ap (λ (o : Bool). drop front.count (if o then buffers_of sum old else waiting_of old)) before);
-        start = front.start ∙ (λ i. if behind i then start_sealed mid else start i) ∙ sym (ap (λ (o : Bool). if o then start_sealed old else start_of old) before);
-        account = front.account
-            ∙ (λ i. account_behind (take front.count (if behind i then buffers_of sum mid else waiting i)) (account i))
-            ∙ sym (ap (λ (o : Bool). account_behind (take front.count (if o then buffers_of sum old else waiting_of old)) (account_of old)) before);
-        synced = front.synced ∙ ap (λ d. front.count + syncs (trace d)) device;
-        whole = λ sound. front.whole sound ∙ (λ i. after_all (take (2 * front.count) (writing_more adds i)) (trace (device i)));
+        left = front.left ∙ ap (drop front.count) same;
+        start = front.start ∙ same_start sum to old mid new below sealed waiting start with_slots ledger size;
+        position = λ m. front.position m ∙ same_position sum to old mid new below sealed waiting start with_slots ledger size m;
+        ledger = front.ledger ∙ (λ i. ledger_behind (size i) (take front.count (same i)) (from i));
+        written = front.written ∙ ap (λ d. front.count + synced_writes (trace d)) device;
+        whole = λ sound. front.whole sound ∙ (λ i. after_all (some_more adds size from front.count i) (trace (device i)));
         short = front.short;
       }
 
@@ -95,7 +105,8 @@ module _ {D C : Type 0} (sum : List ℕ → ℕ) (to : ℕ) (old mid : Log D C) 
   sealed_past begins = let most = ends_behind old in omega (arith, reserved, begins, most)
 
   -- What is written and what is left is of the log as it was.
-  module _ {T : Type 0} (new : Log D C) (result : Result T Error) (below : current_begin old < to) (begins : current_begin mid ≡ sealing_end old) (waiting : waiting_of mid ≡ buffers_of sum old) (start : start_of mid ≡ start_sealed old) (synced : synced_end mid ≡ synced_end old) (account : account_of mid ≡ account_of old)
+  module _ {T : Type 0} (new : Log D C) (result : Result T Error) (below : current_begin old < to) (begins : current_begin mid ≡ sealing_end old) (waiting : waiting_of mid ≡ buffers_of sum old) (start : start_of mid ≡ start_sealed old) (synced : synced_end mid ≡ synced_end old)
+      (with_slots : (m : Machine) → position_with mid m ≡ position_sealed old m) (ledger : ledger_of mid ≡ ledger_sealed old) (size : segment_size_of mid ≡ segment_size_of old)
       (current : current_begin new ≡ current_begin mid) (none : ((b : BufferAt) → Contains (waiting_of mid) b → b.place < to) → OnOk result (NoneSealed new)) (one : length (waiting_of mid) ≤ 1 → OnErr result (synced_end new ≡ synced_end mid))
       (above : OnOk result (LeavesAbove sum to mid new)) (some : OnErr result (LeavesSome sum to mid new)) (marked : BeginsMarked sum old new) where
     few : NoneSealed old → (length (waiting_of mid) ≤ 1) × ((b : BufferAt) → Contains (waiting_of mid) b → b.place < to)
@@ -111,8 +122,8 @@ module _ {D C : Type 0} (sum : List ℕ → ℕ) (to : ℕ) (old mid : Log D C) 
         none = λ unsealed. none (few unsealed).1;
         err = λ unsealed. on_err result (synced_end new ≡ synced_end mid) (synced_end new ≡ synced_end old) (λ same. same ∙ synced) (one (few unsealed).0);
       };
-      above = on_ok result (LeavesAbove sum to mid new) (LeavesAbove sum to old new) (above_first sum to old mid new below (sealed_past begins) waiting start account) above;
-      some = on_err result (LeavesSome sum to mid new) (LeavesSome sum to old new) (some_first sum to old mid new below (sealed_past begins) waiting start) some;
+      above = on_ok result (LeavesAbove sum to mid new) (LeavesAbove sum to old new) (above_first sum to old mid new below (sealed_past begins) waiting start with_slots ledger size) above;
+      some = on_err result (LeavesSome sum to mid new) (LeavesSome sum to old new) (some_first sum to old mid new below (sealed_past begins) waiting start with_slots ledger size) some;
       marked = marked;
     }
 
@@ -140,8 +151,8 @@ writes_already sum to log x past =
     let up = synced_up log in
     record {
       seals = record { held = λ held. absurd held; none = λ unsealed. unsealed; err = λ unsealed. tt };
-      above = leaves_above sum to log log (omega (arith, past, up)) refl (left_all to (waiting_of log)) (line_past size log.segments.first.site.place to first behind (line_segments log) past)
-          (ap (λ (l : List BufferAt). account_behind l (account_of log)) (sym (front_none to (waiting_of log) (line_past size log.segments.first.site.place to first behind (line_segments log) past))));
+      above = leaves_above sum to log log (omega (arith, past, up)) refl (left_all to (waiting_of log)) (line_past size log.segments.first.site.place to first behind (line_segments log) past) (λ m. refl)
+          (ap (λ (l : List BufferAt). ledger_behind size l (ledger_of log)) (sym (front_none to (waiting_of log) (line_past size log.segments.first.site.place to first behind (line_segments log) past))));
       some = tt;
       marked = none_begun sum log log refl (λ h there. there) (λ f there. there);
     }
@@ -175,13 +186,21 @@ writes_none sum to log e never = record {
 }
 
 pub still_came : {D C : Type 0} (trace : D → Trace) (sum : List ℕ → ℕ) (to : ℕ) (log : Log D C) (e : IoError) → fault_of log ≡ Some e → CameTo trace sum to log log
-still_came trace sum to log e kept = inl (record { fault = refl; waiting = refl; start = refl; account = refl; still = refl; due = λ none. absurd (let bad : None ≡ Some e = sym none ∙ kept in cc) })
+still_came trace sum to log e kept = inl (record { fault = refl; waiting = refl; start = refl; position = λ m. refl; ledger = refl; still = refl; due = λ none. absurd (let bad : None ≡ Some e = sym none ∙ kept in cc) })
 
 -- so none was written
 pub unchanged_came : {D C : Type 0} (trace : D → Trace) (sum : List ℕ → ℕ) (to : ℕ) (old new : Log D C) → current_begin old < to → IsUnchanged old new → CameTo trace sum to old new
 unchanged_came {D} {C} trace sum to old new below same =
     let buffers = same_buffers old new same.line in
-    inl (record { fault = same.fault; waiting = buffers.0; start = buffers.1; account = account_unchanged old new same; still = ap (λ (x : RunningConfig D C). trace x.device) same.config; due = λ _. below })
+    inl (record { fault = same.fault; waiting = buffers.0; start = buffers.1; position = same_with old new same.line (ap (λ (x : RunningConfig D C). x.config.segment_size) same.config); ledger = ledger_unchanged old new same; still = ap (λ (x : RunningConfig D C). trace x.device) same.config; due = λ _. below })
+
+-- With its current buffer sealed the log has the slots that are left behind where the next record begins.
+pub sealed_ledger : {D C : Type 0} (old mid : Log D C) → ((m : Machine) → position_with mid m ≡ position_sealed old m) → position_of mid ≡ position_of old → account_of mid ≡ account_of old → ledger_of mid ≡ ledger_sealed old
+sealed_ledger old mid with_slots position account =
+    ledger_parts (ap (λ (q : Position). q.machine) (sym (with_slots (machine_at mid)) ∙ position)) account
+  where
+    ledger_parts : machine_at mid ≡ (position_of old).machine → account_of mid ≡ account_of old → ledger_of mid ≡ ledger_sealed old
+    ledger_parts machine account = λ i. record { machine = machine i; account = account i }
 
 -- What a call has before it writes, where the buffers that begin below a place are sealed: the log that it was, or the one with its current buffer sealed.
 module _ {D C : Type 0} (trace : D → Trace) (sum : List ℕ → ℕ) (to : ℕ) where
@@ -219,8 +238,8 @@ module _ {D C : Type 0} (trace : D → Trace) (sum : List ℕ → ℕ) (to : ℕ
   }
 
   pub sealed_first : (old mid : Log D C) → fault_of old ≡ None → to ≤ reserved_end old → current_begin old < to → waiting_of mid ≡ buffers_of sum old → AddsBuffers sum old mid → current_begin mid ≡ sealing_end old → start_of mid ≡ start_sealed old
-      → Preserves trace sum old mid → KeepsTickets old mid → KeepsAll old mid → SamePosition old mid → (IsUsedUp old → ⊥) → BeginsMarked sum old mid → SealedFor old mid
-  sealed_first old mid fault reserved below waiting adds begins start keeps tickets same position unused marked = record {
+      → ((m : Machine) → position_with mid m ≡ position_sealed old m) → Preserves trace sum old mid → KeepsTickets old mid → KeepsAll old mid → SamePosition old mid → (IsUsedUp old → ⊥) → BeginsMarked sum old mid → SealedFor old mid
+  sealed_first old mid fault reserved below waiting adds begins start with_slots keeps tickets same position unused marked = record {
     fault = same.fault ∙ fault;
     reserved = let still = position.reserved in omega (arith, reserved, still);
     past = sealed_past sum to old mid reserved begins;
@@ -228,13 +247,15 @@ module _ {D C : Type 0} (trace : D → Trace) (sum : List ℕ → ℕ) (to : ℕ
     tickets = tickets;
     position = position;
     device = ap (λ (x : RunningConfig D C). x.device) same.config;
-    writing = writing_more sum to old mid reserved adds;
+    writing = writing_more sum to old mid reserved adds position.size (same_ledger sum to old mid mid below (sealed_past sum to old mid reserved begins) waiting start with_slots ledger position.size);
     holding = holding_more sum to old mid reserved adds;
     unused = λ used. unused used.1;
     marked = marked;
-    writes = λ new result current none one above some known. writes_sealed sum to old mid reserved new result below begins waiting start same.synced same.account current none one above some known;
-    fronts = λ new front. front_first sum to old mid reserved adds new below (sealed_past sum to old mid reserved begins) waiting start (ap (λ (x : RunningConfig D C). x.device) same.config) same.account front;
-  }
+    writes = λ new result current none one above some known. writes_sealed sum to old mid reserved new result below begins waiting start same.synced with_slots ledger position.size current none one above some known;
+    fronts = λ new front. front_first sum to old mid reserved adds new below (sealed_past sum to old mid reserved begins) waiting start (ap (λ (x : RunningConfig D C). x.device) same.config) with_slots ledger position.size front;
+  } where
+    ledger : ledger_of mid ≡ ledger_sealed old
+    ledger = sealed_ledger old mid with_slots position.position same.account
 
   -- and what it makes of the log as it was
   module _ (old mid new : Log D C) (ready : SealedFor old mid) where
@@ -251,5 +272,5 @@ module _ {D C : Type 0} (trace : D → Trace) (sum : List ℕ → ℕ) (to : ℕ
     pub first_tickets : KeepsTickets mid new → KeepsTickets old new
     first_tickets tickets = tickets_further old mid new ready.tickets tickets
 
-    pub first_position : SamePosition mid new → SamePosition old new
-    first_position position = position_further old mid new ready.position position
+    pub first_position : SamePlace mid new → SamePlace old new
+    first_position position = place_further old mid new (position_place old mid ready.position) position

@@ -1,5 +1,5 @@
 -- The current buffer is sealed: the log holds and fits what it did.
-use Rattle.std.proofs.Common.{◌≡◌, ◌∙◌, ◌<◌, ◌≤◌, ◌+◌, ap, sym, refl, arith, subst, inl, inr, ℕ, List, [], ◌∷◌, length, map, drop, Option, true, false, if◌then◌else◌}
+use Rattle.std.proofs.Common.{◌≡◌, ◌∙◌, ◌<◌, ◌≤◌, ◌+◌, ap, sym, refl, arith, subst, inl, inr, ℕ, Bool, List, [], ◌∷◌, length, map, drop, Option, true, false, if◌then◌else◌}
 use Rattle.std.specs.declared.io.Error.{Error as IoError}
 use Rattle.std.proofs.lemmas.Bool.Decides.{nat_tests}
 use Rattle.std.proofs.lemmas.List.{map-append}
@@ -19,7 +19,7 @@ use Rattle.sled_core.specs.declared.logger.Log.{Log}
 use Rattle.sled_core.specs.declared.reservation.Reservation.{Reservation}
 use Rattle.sled_core.specs.inside.Numbers.{HasNumbers}
 use Rattle.sled_core.specs.inside.Fits.{written_to, HoldsIn, HoldsLine, log_parts, parts_in}
-use Rattle.sled_core.specs.Fits.{AwaitsIn, KeepsAll, KeepsTickets, buffers_of, current_begin, current_of, device_of, fault_of, given_up_of, line_of, noted_in, machine_at, pins_of, segment_size_of, synced_end, waiting_of, fillings_of, heads_of}
+use Rattle.sled_core.specs.Fits.{AwaitsIn, KeepsAll, KeepsTickets, buffers_of, current_begin, current_of, device_of, fault_of, given_up_of, line_of, noted_in, machine_at, pins_of, position_sealed, position_with, segment_size_of, synced_end, waiting_of, fillings_of, heads_of}
 use Rattle.sled_core.specs.invariants.Fits.{Holds}
 use Rattle.sled_core.specs.inside.Begun.{line_end}
 use Rattle.sled_core.specs.inside.FreeSlots.{HasSlot, HasSlots, HaveOwn}
@@ -27,7 +27,7 @@ use Rattle.sled_core.specs.GivenUp.{given_up_along}
 use Rattle.sled_core.specs.Keeps.{Preserves, SamePosition}
 use Rattle.sled_core.specs.Logged.{logged, in_log}
 use Rattle.sled_core.specs.OpenPlaces.{open_places_along}
-use Rattle.sled_core.specs.Positions.{is_short, position_in}
+use Rattle.sled_core.specs.Positions.{Position, is_short, next_segment_at, position_in}
 use Rattle.sled_core.specs.invariants.Running.{Fits}
 use Rattle.sled_core.specs.inside.Running.{FitsIn, FitsLine}
 use Rattle.sled_core.specs.SealedBuffers.{seal_at, sealed_count}
@@ -145,6 +145,15 @@ module _ {D C : Type 0} (trace : D → Trace) (sum : List ℕ → ℕ) (old new 
   } where
     size_same : segment_size_of new ≡ size
     size_same = ap (λ (x : RunningConfig D C). x.config.segment_size) rest.config
+
+  pub sealed_with : is_short size (length (current_of old).parts.bytes) ≡ false → (m : Machine) → position_with new m ≡ position_sealed old m
+  sealed_with room m =
+      let w : SegmentView = current_of old in
+      let here : Machine → Position = λ x. record { place = w.parts.site.place + length w.parts.bytes; begins = w.parts.site.place; slot = w.parts.site.slot; machine = x } in
+      let sizes : segment_size_of new ≡ size = ap (λ (x : RunningConfig D C). x.config.segment_size) rest.config in
+      (λ i. position_in (sizes i) (sealed_current i) m)
+      ∙ ap (λ (o : Bool). if o then next_segment_at size w.parts.site.place m else here m) room
+      ∙ sym (ap (λ (o : Bool). record (if o then next_segment_at size w.parts.site.place (machine_at old) else here (machine_at old)) { machine = m }) room)
 
   -- The current buffer begins behind all bytes now.
   pub sealed_begins : current_begin new ≡ (current_of old).parts.site.place + length (current_of old).parts.bytes

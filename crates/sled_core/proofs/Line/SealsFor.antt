@@ -6,27 +6,29 @@ use Rattle.std.proofs.lemmas.Bool.Decides.{nat_tests}
 use Rattle.std.proofs.lemmas.Int.{ints}
 use Rattle.sled_codec.specs.declared.result.Error.{Error}
 use Rattle.sled_store.specs.Device.{Trace}
+use Rattle.sled_store.specs.SegmentStates.{Machine}
 use Rattle.sled_store.specs.declared.config.RunningConfig.{RunningConfig}
 use Rattle.sled_store.proofs.Segments.Elements.{in_nothing, only_in}
 use Rattle.sled_core.specs.Begun.{SegmentView, segment_view}
 use Rattle.sled_core.specs.declared.logger.Log.{Log}
 use Rattle.sled_core.specs.inside.Fits.{AddsBuffers}
-use Rattle.sled_core.specs.Fits.{IsUsedUp, KeepsAll, KeepsTickets, buffers_of, current_begin, current_of, device_of, fault_of, held_len, reserved_end, sealing_end, segment_size_of, start_of, synced_end, waiting_of}
-use Rattle.sled_core.specs.Fronts.{CameAround, WroteNone, syncs}
+use Rattle.sled_core.specs.Fits.{IsUsedUp, KeepsAll, KeepsTickets, buffers_of, current_begin, current_of, device_of, fault_of, held_len, ledger_of, ledger_sealed, position_sealed, position_with, reserved_end, sealing_end, segment_size_of, start_of, synced_end, waiting_of}
+use Rattle.sled_core.specs.Fronts.{CameAround, WroteNone, synced_writes, syncs}
 use Rattle.sled_core.specs.Keeps.{Preserves, SamePosition, start_sealed}
+use Rattle.sled_core.specs.Ledger.{ledger_behind, writings}
 use Rattle.sled_core.specs.Marked.{BeginsMarked}
 use Rattle.sled_core.specs.inside.Marked.{KeepsSegment}
-use Rattle.sled_core.specs.ReadBuffer.{IsUsedUpAt, LeavesSealed, LeavesWritten, WritesAround, held_at, settling}
-use Rattle.sled_core.specs.Waiting.{BufferAt, Span, has_place, one_around, without_around, BufferStart}
+use Rattle.sled_core.specs.Account.{account_of}
+use Rattle.sled_core.specs.ReadBuffer.{IsUsedUpAt, LeavesSealed, LeavesWritten, WritesAround, held_at, ledger_at, settling}
+use Rattle.sled_core.specs.Waiting.{BufferAt, Span, free_around, has_place, one_around, without_around, BufferStart}
 use Rattle.sled_core.proofs.Line.KeptCalls.{kept_still, position_still, tickets_still}
-use Rattle.sled_core.proofs.Line.Around.{found, found_front, held_found, held_of, writes_found, writes_of}
+use Rattle.sled_core.proofs.Line.Around.{found, found_front, free_found, free_of, held_found, held_of}
 use Rattle.sled_core.proofs.Line.Below.{begin_all}
 use Rattle.sled_core.proofs.Line.Entered.{filled_last}
 use Rattle.sled_core.proofs.Line.HeaderMarks.{marked_same, none_begun}
 use Rattle.sled_core.proofs.Line.Outcomes.{held_err, on_err, on_ok}
-use Rattle.sled_core.proofs.Line.SealFirst.{ends_behind}
+use Rattle.sled_core.proofs.Line.SealFirst.{ends_behind, sealed_ledger}
 use Rattle.sled_core.proofs.Line.Shows.{buffers_add}
-use Rattle.sled_core.specs.Account.{account_behind, account_of}
 
 -- What a call has before it writes the buffer that has the place: the log that it was, or the one with its current buffer sealed.
 pub record SealsFor {D C : Type 0} (trace : D → Trace) (sum : List ℕ → ℕ) (place : ℕ) (old mid : Log D C) : Type 0 where
@@ -42,6 +44,7 @@ pub record SealsFor {D C : Type 0} (trace : D → Trace) (sum : List ℕ → ℕ
   pub apart : place < current_begin old → current_begin mid ≡ current_begin old
   pub once : (current_begin mid ≡ current_begin old) ⊎ (current_begin mid ≡ sealing_end old)
   pub sealed : LeavesSealed sum place old mid
+  pub account : account_of mid ≡ account_of old
   pub marked : BeginsMarked sum old mid
   pub none : waiting_of old ≡ [] → (b : BufferAt) → Contains (waiting_of mid) b → has_place place b ≡ true
 
@@ -59,6 +62,7 @@ seals_still trace sum place log lower = record {
   unused = λ used. let up = used.0 in omega (arith, ints, up, lower);
   apart = λ _. refl;
   once = inl refl;
+  account = refl;
   sealed = still (let no : nat_le (current_begin log) place ≡ false = grind (arith, nat_tests, lower) in no);
   marked = none_begun sum log log refl (λ h there. there) (λ f there. there);
   none = λ none b has. absurd (in_nothing b (subst (λ (l : List BufferAt). Contains l b) none has));
@@ -67,7 +71,8 @@ seals_still trace sum place log lower = record {
   still test = (
     sym (ap (λ (o : Bool). if o then buffers_of sum log else waiting_of log) test),
     sym (ap (λ (o : Bool). if o then start_sealed log else start_of log) test),
-    refl,
+    sym (ap (λ (o : Bool). if o then ledger_sealed log else ledger_of log) test),
+    λ m. sym (ap (λ (o : Bool). if o then position_sealed log m else position_with log m) test),
   )
 
 -- what the current buffer holds, where that has a place that was reserved
@@ -81,8 +86,8 @@ holds_reserved log place above reserved =
 
 -- It has.
 pub seals_current : {D C : Type 0} (trace : D → Trace) (sum : List ℕ → ℕ) (place : ℕ) (old mid : Log D C) → current_begin old ≤ place → place < reserved_end old → AddsBuffers sum old mid → waiting_of mid ≡ buffers_of sum old → current_begin mid ≡ sealing_end old → start_of mid ≡ start_sealed old
-    → Preserves trace sum old mid → KeepsTickets old mid → SamePosition old mid → KeepsAll old mid → (IsUsedUp old → ⊥) → BeginsMarked sum old mid → SealsFor trace sum place old mid
-seals_current {D} {C} trace sum place old mid above reserved adds waiting begins start keeps tickets position same unused marked =
+    → ((m : Machine) → position_with mid m ≡ position_sealed old m) → Preserves trace sum old mid → KeepsTickets old mid → SamePosition old mid → KeepsAll old mid → (IsUsedUp old → ⊥) → BeginsMarked sum old mid → SealsFor trace sum place old mid
+seals_current {D} {C} trace sum place old mid above reserved adds waiting begins start with_slots keeps tickets position same unused marked =
     let held = holds_reserved old place above reserved in
     let current = buffers_add sum old held.0 in
     record {
@@ -97,6 +102,7 @@ seals_current {D} {C} trace sum place old mid above reserved adds waiting begins
       unused = λ used. unused used.1;
       apart = λ lower. absurd (omega (arith, above, lower));
       once = inr begins;
+      account = same.account;
       sealed = by_test (let yes : nat_le (current_begin old) place ≡ true = grind (arith, nat_tests, above) in yes);
       marked = marked;
       none = λ none b has. by_more (ap (λ (s : Span). s.place) current.seen) (ap (λ (s : Span). s.end) current.seen) held.1 (only_in current.more b (subst (λ (l : List BufferAt). Contains l b) (waiting ∙ current.is ∙ ap (λ (l : List BufferAt). l ++ current.more ∷ []) none) has));
@@ -106,7 +112,8 @@ seals_current {D} {C} trace sum place old mid above reserved adds waiting begins
     by_test test = (
       waiting ∙ sym (ap (λ (o : Bool). if o then buffers_of sum old else waiting_of old) test),
       start ∙ sym (ap (λ (o : Bool). if o then start_sealed old else start_of old) test),
-      same.account,
+      sealed_ledger old mid with_slots position.position same.account ∙ sym (ap (λ (o : Bool). if o then ledger_sealed old else ledger_of old) test),
+      λ m. with_slots m ∙ sym (ap (λ (o : Bool). if o then position_sealed old m else position_with old m) test),
     )
 
     by_more : {x b : BufferAt} → x.place ≡ current_begin old → x.end ≡ sealing_end old → place < sealing_end old → x ≡ b → has_place place b ≡ true
@@ -114,33 +121,48 @@ seals_current {D} {C} trace sum place old mid above reserved adds waiting begins
 
 -- So the same is written then, and the same holds it up.
 module _ {D C : Type 0} (trace : D → Trace) (sum : List ℕ → ℕ) (place : ℕ) (old mid : Log D C) (seals : SealsFor trace sum place old mid) where
+  ledger_same_at : ledger_at place mid ≡ ledger_at place old
+  ledger_same_at =
+      let lower = seals.lower in
+      let no : nat_le (current_begin mid) place ≡ false = grind (arith, nat_tests, lower) in
+      ap (λ (o : Bool). if o then ledger_sealed mid else ledger_of mid) no ∙ seals.sealed.2
+
+  free_same : free_around place (buffers_of sum mid) ≡ free_around place (buffers_of sum old)
+  free_same = free_found place (buffers_of sum mid) ∙ ap free_of seals.has ∙ sym (free_found place (buffers_of sum old))
+
   pub settling_same : settling sum mid (pos place) ≡ settling sum old (pos place)
-  settling_same = λ i. if int_lt (pos place) (pos (seals.synced i)) then [] else (writes_found place (buffers_of sum mid) ∙ ap writes_of seals.has ∙ sym (writes_found place (buffers_of sum old))) i
+  settling_same = λ i. if int_lt (pos place) (pos (seals.synced i)) then [] else writings (seals.position.size i) (free_same i) (ledger_same_at i)
 
   pub held_at_same : held_at sum mid (pos place) ≡ held_at sum old (pos place)
   held_at_same = λ i. if int_lt (pos place) (pos (seals.synced i)) then None else (held_found place (buffers_of sum mid) ∙ ap held_of seals.has ∙ sym (held_found place (buffers_of sum old))) i
 
   -- and the buffer that has the place is left out, where it is written.
-  module _ (new : Log D C) (start : start_of new ≡ start_of mid) where
-    pub leaves_sealed : (waiting_of new ≡ waiting_of mid) × (account_of new ≡ account_of mid) → LeavesSealed sum place old new
-    leaves_sealed same = (same.0 ∙ seals.sealed.0, start ∙ seals.sealed.1, same.1 ∙ seals.sealed.2)
+  module _ (new : Log D C) (start : start_of new ≡ start_of mid) (with_slots : (m : Machine) → position_with new m ≡ position_with mid m) where
+    pub leaves_sealed : (waiting_of new ≡ waiting_of mid) × (ledger_of new ≡ ledger_of mid) → LeavesSealed sum place old new
+    leaves_sealed same = (same.0 ∙ seals.sealed.0, start ∙ seals.sealed.1, same.1 ∙ seals.sealed.2, λ m. with_slots m ∙ seals.sealed.3 m)
 
-    pub leaves_written : (waiting_of new ≡ without_around place (waiting_of mid)) × (account_of new ≡ account_behind (one_around place (waiting_of mid)) (account_of mid)) → LeavesWritten sum place old new
-    leaves_written is = (is.0 ∙ ap (without_around place) seals.sealed.0, start ∙ seals.sealed.1, is.1 ∙ (λ i. account_behind (one_around place (seals.sealed.0 i)) (seals.sealed.2 i)))
+    pub leaves_written : (waiting_of new ≡ without_around place (waiting_of mid)) × (ledger_of new ≡ ledger_behind (segment_size_of mid) (one_around place (waiting_of mid)) (ledger_of mid)) → LeavesWritten sum place old new
+    leaves_written is = (
+      is.0 ∙ ap (without_around place) seals.sealed.0,
+      start ∙ seals.sealed.1,
+      is.1 ∙ (λ i. ledger_behind (seals.position.size i) (one_around place (seals.sealed.0 i)) (seals.sealed.2 i)),
+      λ m. with_slots m ∙ seals.sealed.3 m,
+    )
 
     -- or it could not be
-    pub came_sealed : (waiting_of new ≡ waiting_of mid) × WroteNone trace mid new → CameAround trace sum (pos place) old new
+    pub came_sealed : (waiting_of new ≡ waiting_of mid) × WroteNone trace mid new × (ledger_of new ≡ ledger_of mid) → CameAround trace sum (pos place) old new
     came_sealed failed = inr (inl (
-      leaves_sealed (failed.0, failed.1.account),
+      leaves_sealed (failed.0, failed.2),
       record {
         synced = failed.1.synced ∙ ap (λ d. syncs (trace d)) seals.device;
+        written = failed.1.written ∙ ap (λ d. synced_writes (trace d)) seals.device;
         still = λ sound. failed.1.still sound ∙ ap trace seals.device;
-        account = failed.1.account ∙ seals.sealed.2;
+        account = failed.1.account ∙ seals.account;
       },
     ))
 
-    pub writes_around : {T : Type 0} (r : Result T Error) → synced_end old ≤ place → OnOk r ((waiting_of new ≡ without_around place (waiting_of mid)) × (account_of new ≡ account_behind (one_around place (waiting_of mid)) (account_of mid)))
-        → OnErr r ((waiting_of new ≡ waiting_of mid) × (account_of new ≡ account_of mid)) → KeepsSegment mid new → WritesAround sum r (pos place) old new
+    pub writes_around : {T : Type 0} (r : Result T Error) → synced_end old ≤ place → OnOk r ((waiting_of new ≡ without_around place (waiting_of mid)) × (ledger_of new ≡ ledger_behind (segment_size_of mid) (one_around place (waiting_of mid)) (ledger_of mid)))
+        → OnErr r ((waiting_of new ≡ waiting_of mid) × (ledger_of new ≡ ledger_of mid)) → KeepsSegment mid new → WritesAround sum r (pos place) old new
     writes_around r behind done failed segment = record {
       still = λ below. absurd (omega (arith, ints, below, behind));
       written = λ _. on_ok r _ _ leaves_written done;

@@ -5,17 +5,17 @@ use Rattle.std.proofs.lemmas.Bool.Decides.{nat_tests}
 use Rattle.std.proofs.lemmas.List.Elements.{All-cons, All-nil}
 use Rattle.sled_codec.proofs.Segments.{length-short_header}
 use Rattle.sled_store.specs.Device.{Trace}
-use Rattle.sled_store.specs.SegmentStates.{handed_out}
+use Rattle.sled_store.specs.SegmentStates.{Machine, handed_out}
 use Rattle.sled_store.specs.declared.config.RunningConfig.{RunningConfig}
 use Rattle.sled_core.specs.Begun.{SegmentView, segment_view}
 use Rattle.sled_core.specs.declared.logger.Log.{Log}
 use Rattle.sled_core.specs.inside.Fits.{AddsBuffers}
-use Rattle.sled_core.specs.Fits.{buffers_of, current_begin, current_of, line_of, machine_at, reserved_end, sealing_end, segment_size_of, stable_end, waiting_of}
+use Rattle.sled_core.specs.Fits.{buffers_of, current_begin, current_of, line_of, machine_at, position_sealed, position_with, reserved_end, sealing_end, segment_size_of, stable_end, waiting_of}
 use Rattle.sled_core.specs.Keeps.{SamePosition}
 use Rattle.sled_core.specs.Positions.{is_short, next_segment_at}
 use Rattle.sled_core.specs.inside.Turned.{ChangesSlots, begun_view, next_line}
 use Rattle.sled_core.specs.Waiting.{BufferAt, as_sealed, at_last, buffer_at, closed_now, holds_any, sealed_now, turned_now, unwritten}
-use Rattle.sled_core.proofs.Line.Begins.{begins_position}
+use Rattle.sled_core.proofs.Line.Begins.{begins_position, begins_with}
 use Rattle.sled_core.proofs.Line.Entered.{filled_last}
 use Rattle.sled_core.proofs.Holds.Facts.{current_facts}
 use Rattle.sled_core.proofs.Line.Last.{at_last_same, unwritten-append}
@@ -74,6 +74,11 @@ module _ {D C : Type 0} (trace : D → Trace) (sum : List ℕ → ℕ) (old new 
     pins = rest.pins;
     size = ap (λ (x : RunningConfig D C). x.config.segment_size) rest.config;
   }
+
+  pub turns_with : (m : Machine) → position_with new m ≡ position_sealed old m
+  turns_with m =
+      begins_with trace sum old new line machine rest m
+      ∙ sym (ap (λ (o : Bool). record (if o then next_segment_at size v.parts.site.place (machine_at old) else record { place = v.parts.site.place + length v.parts.bytes; begins = v.parts.site.place; slot = v.parts.site.slot; machine = machine_at old }) { machine = m }) short)
 
   -- The header of the new segment is a further buffer.
   pub turns_buffers : AddsBuffers sum old new

@@ -17,7 +17,9 @@ use Rattle.sled_core.specs.Begun.{SegmentView, view_at}
 use Rattle.sled_core.specs.inside.Buffers.{ended}
 use Rattle.sled_core.specs.Buffers.{most_open, open_in, pointer_as}
 use Rattle.sled_core.specs.Fits.{current_of, segment_size_of}
+use Rattle.sled_core.specs.Freeing.{Ledger}
 use Rattle.sled_core.specs.HeaderMark.{mark_at}
+use Rattle.sled_core.specs.Ledger.{written_step}
 use Rattle.sled_core.specs.inside.SealedBuffers.{behind_run, first_ready, is_ready, one_ended, run_count, run_end, written_at}
 use Rattle.sled_core.specs.SealedBuffers.{bytes_between, sealed_count, sealed_end, writing}
 use Rattle.sled_core.specs.declared.reservation.Reservation.{Reservation}
@@ -195,6 +197,14 @@ write_in line n k = write_of k (slice_get line n)
 -- the mark of the segment, where that buffer begins with its header
 abbrev pub mark_of : ℕ → SegmentView → Option ℤ
 mark_of k v = mark_at (begin_at v k) (bytes_between v.parts.bytes (begin_at v k) (begin_at v (k + 1)))
+
+-- the calls that write that buffer and settle it, with those of the accountant's step behind it
+abbrev pub writing_of : ℕ → Ledger → ℕ → Option SegmentView → List Event
+writing_of size l k None = []
+writing_of size l k (Some v) = write_of k (Some v) ++ (written_step size (mark_of k v) l).calls
+
+abbrev pub writing_in : ℕ → Ledger → List SegmentView → ℕ → ℕ → List Event
+writing_in size l line n k = writing_of size l k (slice_get line n)
 
 -- the first sealed buffer of the first segment begins below a place, and can be written
 abbrev pub ready_below : List SegmentView → ℕ → Bool

@@ -3,12 +3,12 @@
 ghost use Rattle.std.specs.Prelude.{◌≡◌, ◌+◌, ◌-◌, ◌*◌, ◌/◌, ◌<◌, ◌≤◌, ◌^◌, true, false, length, slice_get, OnOk, OnErr, IfOk, IsOkUnless, IsTrue, ◌↔◌, None, Some};
 ghost use Rattle.std.specs.VecDeque.{deque_len, deque_capacity};
 ghost use Rattle.sled_store.specs.Accounts.{MayHandOut, NextAnswers};
-ghost use Rattle.sled_store.specs.SegmentStates.{handed_out};
+ghost use Rattle.sled_store.specs.SegmentStates.{Machine, handed_out};
 ghost use Rattle.sled_core.specs.inside.Begun.{last_buffer_in};
 ghost use Rattle.sled_core.specs.Begun.{view_at};
 ghost use Rattle.sled_core.specs.Causes.{FaultOrMemory};
 ghost use Rattle.sled_core.specs.inside.Fits.{AddsBuffers};
-ghost use Rattle.sled_core.specs.Fits.{IsUnchanged, IsUsedUp, KeepsAll, buffers_of, current_begin, current_of, line_of, machine_at, reserved_end, sealing_end, segment_size_of, stable_end, start_of, waiting_of};
+ghost use Rattle.sled_core.specs.Fits.{IsUnchanged, IsUsedUp, KeepsAll, buffers_of, current_begin, current_of, line_of, machine_at, position_sealed, position_with, reserved_end, sealing_end, segment_size_of, stable_end, start_of, waiting_of};
 ghost use Rattle.sled_core.specs.Keeps.{KeepsLog, start_sealed};
 ghost use Rattle.sled_core.specs.Marked.{BeginsMarked};
 ghost use Rattle.sled_core.specs.Positions.{is_short};
@@ -74,6 +74,7 @@ impl<D: Device, C: Checksum> Log<D, C> {
         ensures buffers { OnOk result (AddsBuffers C.sum_of self.old self.new) }
         ensures begins { OnOk result (current_begin self.new ≡ sealing_end self.old) }
         ensures start { OnOk result (start_of self.new ≡ start_sealed self.old) }
+        ensures position { OnOk result ((m : Machine) → position_with self.new m ≡ position_sealed self.old m) }
         ensures marked { OnOk result (BeginsMarked C.sum_of self.old self.new) }
         ensures keeps { KeepsLog D.trace C.sum_of self.old self.new }
         ensures same { KeepsAll self.old self.new }

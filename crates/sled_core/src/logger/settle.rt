@@ -3,11 +3,12 @@
 //! The others aren't written, so it may lie behind a gap (`specs/ReadBuffer.antt`).
 ghost use Rattle.std.specs.Prelude.{◌≡◌, ◌<◌, ◌≤◌, ◌<ℤ◌, ◌≤ℤ◌, ◌⊎◌, Contains, pos, unsigned_abs, None, true, OnErr, OnOk};
 ghost use Rattle.sled_store.specs.Script.{after_all, Performs};
-ghost use Rattle.sled_core.specs.Account.{account_behind, account_of};
+ghost use Rattle.sled_store.specs.SegmentStates.{Machine};
 ghost use Rattle.sled_core.specs.Causes.{HeldAnswers, OnDone};
-ghost use Rattle.sled_core.specs.Fits.{NoneSealed, current_begin, device_of, fault_of, reserved_end, start_of, synced_end, waiting_of};
+ghost use Rattle.sled_core.specs.Fits.{NoneSealed, current_begin, device_of, fault_of, ledger_of, position_with, reserved_end, segment_size_of, start_of, synced_end, waiting_of};
 ghost use Rattle.sled_core.specs.Fronts.{CameAround, WroteNone};
-ghost use Rattle.sled_core.specs.Keeps.{KeepsLog};
+ghost use Rattle.sled_core.specs.Keeps.{KeepsWriting};
+ghost use Rattle.sled_core.specs.Ledger.{ledger_behind};
 ghost use Rattle.sled_core.specs.inside.Marked.{KeepsSegment};
 ghost use Rattle.sled_core.specs.ReadBuffer.{IsUsedUpAt, IsWrittenPlace, SealsAround, WritesAround, held_at, settling};
 ghost use Rattle.sled_core.specs.inside.ReadBuffer.{SettleAnswers};
@@ -28,7 +29,7 @@ impl<D: Device, C: Checksum> Log<D, C> {
         ensures unchanged { IsNotReserved result → self.new ≡ self.old }
         ensures calls { OnDone result (D.trace (device_of self.new) ≡ after_all (settling C.sum_of self.old place) (D.trace (device_of self.old))) }
         ensures at_most { Performs (settling C.sum_of self.old place) (D.trace (device_of self.old)) (D.trace (device_of self.new)) }
-        ensures keeps { KeepsLog D.trace C.sum_of self.old self.new }
+        ensures keeps { KeepsWriting D.trace C.sum_of self.old self.new }
         ensures answers { SettleAnswers result place (synced_end self.old) (reserved_end self.old) (held_at C.sum_of self.old place) (IsUsedUpAt self.old place)
             (fault_of self.new) (D.faults (device_of self.old)) (D.faults (device_of self.new)) }
         ensures seals { SealsAround result place self.old self.new }
@@ -53,7 +54,7 @@ impl<D: Device, C: Checksum> Log<D, C> {
         ensures still { place < synced_end self.old → self.new ≡ self.old }
         ensures calls { OnDone result (D.trace (device_of self.new) ≡ after_all (settling C.sum_of self.old (pos place)) (D.trace (device_of self.old))) }
         ensures at_most { Performs (settling C.sum_of self.old (pos place)) (D.trace (device_of self.old)) (D.trace (device_of self.new)) }
-        ensures keeps { KeepsLog D.trace C.sum_of self.old self.new }
+        ensures keeps { KeepsWriting D.trace C.sum_of self.old self.new }
         ensures answers { HeldAnswers result (held_at C.sum_of self.old (pos place)) (IsUsedUpAt self.old (pos place)) None (fault_of self.new)
             (D.faults (device_of self.old)) (D.faults (device_of self.new)) }
         ensures seals { SealsAround result (pos place) self.old self.new }
@@ -77,13 +78,16 @@ impl<D: Device, C: Checksum> Log<D, C> {
         ensures written { OnOk result (IsWrittenPlace self.new place) }
         ensures calls { OnDone result (D.trace (device_of self.new) ≡ after_all (settling C.sum_of self.old (pos place)) (D.trace (device_of self.old))) }
         ensures at_most { Performs (settling C.sum_of self.old (pos place)) (D.trace (device_of self.old)) (D.trace (device_of self.new)) }
-        ensures keeps { KeepsLog D.trace C.sum_of self.old self.new }
+        ensures keeps { KeepsWriting D.trace C.sum_of self.old self.new }
         ensures answers { HeldAnswers result (held_at C.sum_of self.old (pos place)) ⊥ None (fault_of self.new)
             (D.faults (device_of self.old)) (D.faults (device_of self.new)) }
         ensures start { start_of self.new ≡ start_of self.old }
         ensures without { OnOk result (waiting_of self.new ≡ without_around place (waiting_of self.old)) }
-        ensures account { OnOk result (account_of self.new ≡ account_behind (one_around place (waiting_of self.old)) (account_of self.old)) }
-        ensures same { OnErr result ((waiting_of self.new ≡ waiting_of self.old) × WroteNone D.trace self.old self.new) }
+        ensures position { (m : Machine) → position_with self.new m ≡ position_with self.old m }
+        ensures ledger { OnOk result (ledger_of self.new
+            ≡ ledger_behind (segment_size_of self.old) (one_around place (waiting_of self.old)) (ledger_of self.old)) }
+        ensures same { OnErr result ((waiting_of self.new ≡ waiting_of self.old) × WroteNone D.trace self.old self.new
+            × (ledger_of self.new ≡ ledger_of self.old)) }
         ensures one { ((b : BufferAt) → Contains (waiting_of self.old) b → has_place place b ≡ true) → OnOk result (NoneSealed self.new) }
         ensures segment { KeepsSegment self.old self.new }
     {

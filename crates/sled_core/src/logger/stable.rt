@@ -9,7 +9,7 @@ ghost use Rattle.sled_store.specs.Script.{after_all, Performs};
 ghost use Rattle.sled_core.specs.Causes.{OnDone};
 ghost use Rattle.sled_core.specs.Fits.{IsUsedUpBelow, config_of, device_of, fault_of, flushing, holding_below, reserved_end, segment_size_of, stable_end};
 ghost use Rattle.sled_core.specs.Fronts.{CameTo, ClosedAt};
-ghost use Rattle.sled_core.specs.Keeps.{KeepsLog, ConfigKept, WritesBelow};
+ghost use Rattle.sled_core.specs.Keeps.{KeepsWriting, ConfigKept, WritesBelow};
 ghost use Rattle.sled_core.specs.Recoverable.{LeavesRecoverable, RecoverableIfOwn};
 ghost use Rattle.sled_core.specs.invariants.Running.{Fits};
 ghost use Rattle.sled_core.specs.Running.{end_below};
@@ -36,7 +36,7 @@ impl<D: Device, C: Checksum> Log<D, C> {
         ensures target { OnOk result (lsn <ℤ pos (stable_end self.new)) }
         ensures made { OnDone result (D.trace (device_of self.new) ≡ after_all (stabilizing C.sum_of self.old lsn) (D.trace (device_of self.old))) }
         ensures at_most { Performs (stabilizing C.sum_of self.old lsn) (D.trace (device_of self.old)) (D.trace (device_of self.new)) }
-        ensures keeps { KeepsLog D.trace C.sum_of self.old self.new }
+        ensures keeps { KeepsWriting D.trace C.sum_of self.old self.new }
         ensures acknowledges { (H : History) (A f : ℕ) (U : List Message) → Fits D.trace C.sum_of self.old H A f U
             → OnOk result (Fits D.trace C.sum_of self.new H (max A (end_below (stable_end self.new) H)) f U) }
         ensures answers { StableAnswers result lsn (stable_end self.old) (reserved_end self.old) (held_for C.sum_of self.old lsn)

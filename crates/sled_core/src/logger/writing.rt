@@ -11,23 +11,24 @@ ghost use Rattle.sled_store.specs.Answers.{Counts, FailsOr};
 ghost use Rattle.sled_store.specs.Blobs.{UnlessFault};
 ghost use Rattle.sled_store.specs.Device.{state_of, Wrote, Synced};
 ghost use Rattle.sled_store.specs.Script.{after_all, Performs};
-ghost use Rattle.sled_core.specs.Account.{account_behind, account_of, written_account};
+ghost use Rattle.sled_store.specs.SegmentStates.{Machine};
 ghost use Rattle.sled_core.specs.Among.{AreAmong};
 ghost use Rattle.sled_core.specs.Begun.{SegmentView};
 ghost use Rattle.sled_core.specs.Buffers.{first_open_in, open_in};
 ghost use Rattle.sled_core.specs.Causes.{Answers, FaultOrMemory, HeldAnswers, OnDone};
 ghost use Rattle.sled_core.specs.invariants.Fits.{Holds};
-ghost use Rattle.sled_core.specs.Fits.{IsUnchanged, IsUsedUp, IsUsedUpBelow, IsWritten, KeepsAll, NoneSealed, buffers_of, config_of, current_begin, current_of, device_of, fault_of, fillings_of, flushing, heads_of, held_len, holding_below, line_of, pending_of, reserved_end, sealing_end, segment_size_of, stable_end, start_of, synced_end, waiting_of, writing_below, writing_pending};
-ghost use Rattle.sled_core.specs.Fronts.{CameTo, WroteFront, WroteNone, syncs};
-ghost use Rattle.sled_core.specs.Keeps.{KeepsLog, LeavesAbove, WritesBelow, sealed_for, start_for, start_sealed};
+ghost use Rattle.sled_core.specs.Fits.{IsUnchanged, IsUsedUp, IsUsedUpBelow, IsWritten, KeepsAll, NoneSealed, buffers_of, config_of, current_begin, current_of, device_of, fault_of, fillings_of, flushing, heads_of, held_len, holding_below, ledger_for, ledger_of, line_of, pending_of, position_with, reserved_end, sealing_end, segment_size_of, stable_end, start_of, synced_end, waiting_of, writing_below, writing_pending};
+ghost use Rattle.sled_core.specs.Fronts.{CameTo, WroteFront, WroteNone, synced_writes, syncs};
+ghost use Rattle.sled_core.specs.Keeps.{KeepsLog, KeepsWriting, LeavesAbove, WritesBelow, position_for, sealed_for, start_for, start_sealed};
+ghost use Rattle.sled_core.specs.Ledger.{ledger_behind, written_ledger};
 ghost use Rattle.sled_core.specs.LogStatus.{flushed, rolled, status_of};
 ghost use Rattle.sled_core.specs.Marked.{BeginsMarked};
 ghost use Rattle.sled_core.specs.inside.Marked.{KeepsSegment};
 ghost use Rattle.sled_core.specs.invariants.Running.{Fits};
 ghost use Rattle.sled_core.specs.Running.{end_below};
 ghost use Rattle.sled_core.specs.Stable.{SparesDevice, SyncsAll};
-ghost use Rattle.sled_core.specs.inside.Turned.{ChangesDevice, IsReadyIn, mark_of, promoted, ready_below, write_in, written_now};
-ghost use Rattle.sled_core.specs.Waiting.{BufferAt, holds_any, one_pending, unwritten, without_pending};
+ghost use Rattle.sled_core.specs.inside.Turned.{ChangesDevice, IsReadyIn, mark_of, promoted, ready_below, write_in, writing_in, written_now};
+ghost use Rattle.sled_core.specs.Waiting.{BufferAt, holds_any, one_pending, unwritten, without_pending, write_pending};
 
 use crate::logger::Log;
 use crate::logger::joined_marks::mark_at;
@@ -55,15 +56,17 @@ impl<D: Device, C: Checksum> Log<D, C> {
         ensures calls { OnOk result (D.trace (device_of self.new) ≡ after_all (writing_pending self.old i) (D.trace (device_of self.old))) }
         ensures at_most { Performs (writing_pending self.old i) (D.trace (device_of self.old)) (D.trace (device_of self.new)) }
         ensures written { OnOk result (waiting_of self.new ≡ without_pending i (waiting_of self.old)) }
-        ensures account { OnOk result (account_of self.new ≡ account_behind (one_pending i (waiting_of self.old)) (account_of self.old)) }
-        ensures keeps { KeepsLog D.trace C.sum_of self.old self.new }
+        ensures ledger { OnOk result (ledger_of self.new
+            ≡ ledger_behind (segment_size_of self.old) (one_pending i (waiting_of self.old)) (ledger_of self.old)) }
+        ensures keeps { KeepsWriting D.trace C.sum_of self.old self.new }
         ensures start { start_of self.new ≡ start_of self.old }
+        ensures position { (m : Machine) → position_with self.new m ≡ position_with self.old m }
         ensures heads { AreAmong (heads_of self.new) (heads_of self.old) }
         ensures fillings { AreAmong (fillings_of self.new) (fillings_of self.old) }
         ensures answers { Answers result (fault_of self.old) (fault_of self.new) (D.faults (device_of self.old)) (D.faults (device_of self.new)) }
         ensures faulty { (e : IoError) → fault_of self.old ≡ Some e → self.new ≡ self.old }
         ensures err { OnErr result ((synced_end self.new ≡ synced_end self.old) × (waiting_of self.new ≡ waiting_of self.old)
-            × (syncs (D.trace (device_of self.new)) ≡ syncs (D.trace (device_of self.old))) × (account_of self.new ≡ account_of self.old)) }
+            × (syncs (D.trace (device_of self.new)) ≡ syncs (D.trace (device_of self.old))) × (ledger_of self.new ≡ ledger_of self.old)) }
         ensures refused { UnlessFault result (D.trace (device_of self.old)) (D.trace (device_of self.new)) }
     {
         if let Some(e) = self.fault.kept {
@@ -77,7 +80,7 @@ impl<D: Device, C: Checksum> Log<D, C> {
     fn ready_at(&self, i: usize) -> (usize, usize)
         requires { i < pending_of self.now }
         ensures ready { IsReadyIn (line_of self.now) result.0 result.1 }
-        ensures writes { write_in (line_of self.now) result.0 result.1 ≡ writing_pending self.now i }
+        ensures writes { write_in (line_of self.now) result.0 result.1 ≡ write_pending i (waiting_of self.now) }
         ensures left { (v : SegmentView) → slice_get (line_of self.now) result.0 ≡ Some v
             → unwritten (set (line_of self.now) result.0 (written_now result.1 v)) ≡ without_pending i (waiting_of self.now) }
         ensures one { (v : SegmentView) → slice_get (line_of self.now) result.0 ≡ Some v
@@ -135,12 +138,13 @@ impl<D: Device, C: Checksum> Log<D, C> {
     pub fn flush(&mut self) -> Result<usize>
         ensures answer { IfOk result (λ n. stable_end self.new ≡ stable_end self.old + n) }
         ensures status { OnOk result (status_of self.new
-            ≡ flushed (sealed_for C.sum_of (reserved_end self.old) self.old) (start_for (reserved_end self.old) self.old) (status_of self.old)) }
+            ≡ flushed (segment_size_of self.old) (sealed_for C.sum_of (reserved_end self.old) self.old) (start_for (reserved_end self.old) self.old)
+            (ledger_for (reserved_end self.old) self.old) (position_for (reserved_end self.old) self.old) (status_of self.old)) }
         ensures synced { OnOk result (SyncsAll self.old self.new) }
         ensures records { (H : History) → Holds D.trace C.sum_of self.old H → OnOk result (IsWritten D.trace C.sum_of self.new H) }
         ensures calls { OnDone result (D.trace (device_of self.new) ≡ after_all (flushing C.sum_of self.old) (D.trace (device_of self.old))) }
         ensures at_most { Performs (flushing C.sum_of self.old) (D.trace (device_of self.old)) (D.trace (device_of self.new)) }
-        ensures keeps { KeepsLog D.trace C.sum_of self.old self.new }
+        ensures keeps { KeepsWriting D.trace C.sum_of self.old self.new }
         ensures acknowledges { (H : History) (A f : ℕ) (U : List Message) → Fits D.trace C.sum_of self.old H A f U
             → OnOk result (Fits D.trace C.sum_of self.new H (max A (end_below (synced_end self.new) H)) f U) }
         ensures answers { HeldAnswers result (holding_below C.sum_of self.old (reserved_end self.old)) (IsUsedUpBelow self.old (reserved_end self.old))
@@ -174,7 +178,7 @@ impl<D: Device, C: Checksum> Log<D, C> {
         ensures written { OnOk result (to ≤ synced_end self.new) }
         ensures calls { OnDone result (D.trace (device_of self.new) ≡ after_all (writing_below C.sum_of self.old to) (D.trace (device_of self.old))) }
         ensures at_most { Performs (writing_below C.sum_of self.old to) (D.trace (device_of self.old)) (D.trace (device_of self.new)) }
-        ensures keeps { KeepsLog D.trace C.sum_of self.old self.new }
+        ensures keeps { KeepsWriting D.trace C.sum_of self.old self.new }
         ensures answers { HeldAnswers result (holding_below C.sum_of self.old to) (IsUsedUpBelow self.old to) None (fault_of self.new)
             (D.faults (device_of self.old)) (D.faults (device_of self.new)) }
         ensures idle { writing_below C.sum_of self.old to ≡ [] → D.faults (device_of self.new) ≡ D.faults (device_of self.old) }
@@ -195,7 +199,7 @@ impl<D: Device, C: Checksum> Log<D, C> {
         ensures written { OnOk result (to ≤ synced_end self.new) }
         ensures calls { OnDone result (D.trace (device_of self.new) ≡ after_all (writing_below C.sum_of self.old to) (D.trace (device_of self.old))) }
         ensures at_most { Performs (writing_below C.sum_of self.old to) (D.trace (device_of self.old)) (D.trace (device_of self.new)) }
-        ensures keeps { KeepsLog D.trace C.sum_of self.old self.new }
+        ensures keeps { KeepsWriting D.trace C.sum_of self.old self.new }
         ensures answers { HeldAnswers result (holding_below C.sum_of self.old to) ⊥ None (fault_of self.new)
             (D.faults (device_of self.old)) (D.faults (device_of self.new)) }
         ensures current { (current_begin self.new ≡ current_begin self.old) × KeepsSegment self.old self.new }
@@ -243,14 +247,17 @@ impl<D: Device, C: Checksum> Log<D, C> {
         ensures line { (v : SegmentView) → slice_get (line_of self.old) n ≡ Some v
             → OnOk result (line_of self.new ≡ promoted (segment_size_of self.old) (set (line_of self.old) n (written_now k v))) }
         ensures same { OnErr result (line_of self.new ≡ line_of self.old) }
-        ensures account { (v : SegmentView) → slice_get (line_of self.old) n ≡ Some v
-            → OnOk result (account_of self.new ≡ written_account (mark_of k v) (account_of self.old)) }
-        ensures calls { OnOk result (D.trace (device_of self.new) ≡ after_all (write_in (line_of self.old) n k) (D.trace (device_of self.old))) }
-        ensures at_most { Performs (write_in (line_of self.old) n k) (D.trace (device_of self.old)) (D.trace (device_of self.new)) }
-        ensures keeps { KeepsLog D.trace C.sum_of self.old self.new }
+        ensures ledger { (v : SegmentView) → slice_get (line_of self.old) n ≡ Some v
+            → OnOk result (ledger_of self.new ≡ written_ledger (segment_size_of self.old) (mark_of k v) (ledger_of self.old)) }
+        ensures calls { OnOk result (D.trace (device_of self.new)
+            ≡ after_all (writing_in (segment_size_of self.old) (ledger_of self.old) (line_of self.old) n k) (D.trace (device_of self.old))) }
+        ensures at_most { Performs (writing_in (segment_size_of self.old) (ledger_of self.old) (line_of self.old) n k)
+            (D.trace (device_of self.old)) (D.trace (device_of self.new)) }
+        ensures position { (m : Machine) → position_with self.new m ≡ position_with self.old m }
+        ensures keeps { KeepsWriting D.trace C.sum_of self.old self.new }
         ensures answers { Answers result None (fault_of self.new) (D.faults (device_of self.old)) (D.faults (device_of self.new)) }
         ensures refused { UnlessFault result (D.trace (device_of self.old)) (D.trace (device_of self.new)) }
-        ensures unwritten { OnErr result (WroteNone D.trace self.old self.new) }
+        ensures unwritten { OnErr result (WroteNone D.trace self.old self.new × (ledger_of self.new ≡ ledger_of self.old)) }
     {
         self.write_bytes(n, k)?;
         let mark = self.mark_of(n, k);
@@ -282,7 +289,8 @@ impl<D: Device, C: Checksum> Log<D, C> {
         ensures rest { ChangesDevice self.old self.new }
         ensures snapshots { (state_of (D.trace (device_of self.new))).snapshots ≡ (state_of (D.trace (device_of self.old))).snapshots }
         ensures refused { OnErr result (fault_of self.new ≡ None → D.trace (device_of self.new) ≡ D.trace (device_of self.old)) }
-        ensures unsynced { OnErr result (syncs (D.trace (device_of self.new)) ≡ syncs (D.trace (device_of self.old))) }
+        ensures unsynced { OnErr result ((syncs (D.trace (device_of self.new)) ≡ syncs (D.trace (device_of self.old)))
+            × (synced_writes (D.trace (device_of self.new)) ≡ synced_writes (D.trace (device_of self.old)))) }
     {
         let s = self.segments.segment(n);
         let (from, to) = s.buffer.span(k);
@@ -304,7 +312,8 @@ fn write_out<D: Device>(device: &mut D, at: LogOffset, bytes: &[u8]) -> io::Resu
     ensures error { FailsOr OutOfMemory result }
     ensures names { (state_of (D.trace device.new)).snapshots ≡ (state_of (D.trace device.old)).snapshots }
     ensures calls { Performs (Wrote at bytes.now bytes.now ∷ Synced ∷ []) (D.trace device.old) (D.trace device.new) }
-    ensures unsynced { OnErr result (syncs (D.trace device.new) ≡ syncs (D.trace device.old)) }
+    ensures unsynced { OnErr result ((syncs (D.trace device.new) ≡ syncs (D.trace device.old))
+        × (synced_writes (D.trace device.new) ≡ synced_writes (D.trace device.old))) }
 {
     device.write_at(at, bytes)?;
     device.sync()

@@ -13,7 +13,7 @@ use Rattle.sled_store.specs.Script.{Performs, after_all}
 use Rattle.sled_log.proofs.Sessions.BegunHeads.{heads_still}
 use Rattle.sled_core.specs.Causes.{HeldAnswers, IsHeld, OnDone}
 use Rattle.sled_core.specs.declared.logger.Log.{Log}
-use Rattle.sled_core.specs.Fits.{FirstWaits, IsUsedUpBelow, buffers_of, current_begin, device_of, fault_of, held_len, holding_below, reserved_end, segment_size_of, stable_end, synced_end, waiting_of, writing_below, start_of}
+use Rattle.sled_core.specs.Fits.{FirstWaits, IsUsedUpBelow, buffers_of, current_begin, device_of, fault_of, held_len, holding_below, pins_of, reserved_end, segment_size_of, stable_end, synced_end, waiting_of, writing_below, start_of}
 use Rattle.sled_core.specs.Fronts.{CameTo}
 use Rattle.sled_core.proofs.Line.Places.{behind_stable}
 use Rattle.sled_core.specs.Stable.{IsNotReserved, StableAnswers, held_for, stabilizing, target_for}
@@ -21,7 +21,7 @@ use Rattle.sled_core.specs.Waiting.{BufferAt, Span, spans}
 use Rattle.sled_core.specs.inside.Waiting.{begun_below}
 use Rattle.sled_core.proofs.Line.Settles.{stable_up}
 use Rattle.sled_core.proofs.Line.Shows.{buffers_add}
-use Rattle.sled_core.proofs.PublicLaws.{first_waits, shows_empty}
+use Rattle.sled_core.proofs.PublicLaws.{first_waits, pinned_below, shows_empty}
 use Rattle.sled_log.proofs.Sessions.NotedSeen.{target_reserved}
 use Rattle.sled_log.specs.declared.session.command.Reply.TheVariants as reply
 use Rattle.sled_log.specs.RunPhases.{seen_log, traces}
@@ -80,11 +80,11 @@ module _ {D C : Type 0} (log : Log D C) (sum : List ℕ → ℕ) (begun : ℕ) (
     some_known (inr reserved) = some_reserved log sum begun tickets given_up heads target (target_reserved log place reserved)
 
     -- what makes it stable
-    pub stabilizing_seen : stabilizing sum log place ≡ writes_free (begun_below target (buffers_of sum log))
-    stabilizing_seen = by (int_lt place (pos (stable_end log))) refl where
+    pub stabilizing_seen : 0 < pins_of log → stabilizing sum log place ≡ writes_free (begun_below target (buffers_of sum log))
+    stabilizing_seen out = by (int_lt place (pos (stable_end log))) refl where
       by : (o : Bool) → int_lt place (pos (stable_end log)) ≡ o → (if o then [] else writing_below sum log target) ≡ writes_free (begun_below target (buffers_of sum log))
       by true is = sym (ap writes_free (none_below target (target_synced (below_test (stable_end log) is))))
-      by false is = below_writes target (buffers_of sum log)
+      by false is = pinned_below log out sum target ∙ below_writes target (buffers_of sum log)
 
     -- and what holds that up
     pub held_seen : (known : IsKnownPlace view_of place) → held_for sum log place ≡ holding target view_of
@@ -97,7 +97,7 @@ module _ {D C : Type 0} (log : Log D C) (sum : List ℕ → ℕ) (begun : ℕ) (
 
 -- A call that makes a place stable, and failed: it wasn't reserved, or the log kept a failure, and nothing was done; or it was reserved.
 module _ {D C : Type 0} (view : D → DeviceView) (sum : List ℕ → ℕ) (log new : Log D C) (begun : ℕ) (tickets : List (Option Message)) (given_up : List Message) (heads : List MarkAt) (place : ℤ) (H : History) (A f : ℕ) (position : StaysPut log new)
-    (whole : fault_of log ≡ None → AreWhole sum log given_up heads) where
+    (whole : fault_of log ≡ None → AreWhole sum log given_up heads) (out : 0 < pins_of log) where
   abbrev old_device : DeviceView
   old_device = view (device_of log)
 
@@ -127,11 +127,11 @@ module _ {D C : Type 0} (view : D → DeviceView) (sum : List ℕ → ℕ) (log 
       let known : IsKnownPlace (seen_log log begun tickets given_up heads) place = inr reserved in (
         above,
         reserved,
-        fails_to log sum begun tickets given_up heads (target_for log place) (some_known log sum begun tickets given_up heads place known) new old_device new_device H A f position (whole none) (traces view) e refl refl none
+        fails_to log sum begun tickets given_up heads (target_for log place) (some_known log sum begun tickets given_up heads place known) new old_device new_device H A f position out (whole none) (traces view) e refl refl none
             (why_of ℕ e (held_for sum log place) _ (IsUsedUpBelow log (target_for log place)) _ (fault_of log) (fault_of new) old_device.failures new_device.failures none (held_seen log sum begun tickets given_up heads place known)
             (λ used. (used.0, flush_out log sum begun tickets given_up heads used.1)) (λ free needs. needs.1 (flush_in log sum begun tickets given_up heads (λ used. free (needs.0, used)))) answers)
-            (subst (λ (es : List Event). Performs es old_device.trace new_device.trace) (stabilizing_seen log sum begun tickets given_up heads place) made)
-            (if_held ℕ e _ _ (λ all. all ∙ ap (λ (es : List Event). after_all es old_device.trace) (stabilizing_seen log sum begun tickets given_up heads place)) done) sealed (elim came [ inl other ↦ absurd (known_place other) | inr far ↦ far ]),
+            (subst (λ (es : List Event). Performs es old_device.trace new_device.trace) (stabilizing_seen log sum begun tickets given_up heads place out) made)
+            (if_held ℕ e _ _ (λ all. all ∙ ap (λ (es : List Event). after_all es old_device.trace) (stabilizing_seen log sum begun tickets given_up heads place out)) done) sealed (elim came [ inl other ↦ absurd (known_place other) | inr far ↦ far ]),
       )
 
   pub stable_failed : (e : Error) → StableFails e → OnDone {T = ℕ} (Err e) (new_device.trace ≡ after_all (stabilizing sum log place) old_device.trace) → Performs (stabilizing sum log place) old_device.trace new_device.trace

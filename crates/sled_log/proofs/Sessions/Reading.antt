@@ -32,20 +32,20 @@ use Rattle.sled_core.specs.declared.logger.Log.{Log}
 use Rattle.sled_core.specs.Begun.{segment_view}
 use Rattle.sled_core.specs.OpenBatches.{not_whole}
 use Rattle.sled_core.proofs.Line.LineEnds.{noted_still}
-use Rattle.sled_core.specs.Fits.{HasRecordOf, buffers_of, current_begin, current_of, device_of, fault_of, held_len, next_place, noted_in, reserved_end, segment_size_of, start_of, synced_end, waiting_of}
-use Rattle.sled_core.specs.Keeps.{SamePosition, start_sealed}
+use Rattle.sled_core.specs.Fits.{HasRecordOf, buffers_of, current_begin, current_of, device_of, fault_of, held_len, next_place, noted_in, pins_of, reserved_end, segment_size_of, start_of, synced_end, waiting_of}
+use Rattle.sled_core.specs.Keeps.{SamePlace, start_sealed}
 use Rattle.sled_core.specs.OpenPlaces.{first_between}
 use Rattle.sled_core.specs.Fronts.{CameAround, syncs}
 use Rattle.sled_core.specs.ReadBuffer.{IsUsedUpAt, LeavesSealed, ReadAnswers, Settles, WritesAround, held_at, sealed_at, settling, start_at}
 use Rattle.sled_core.specs.SealedBuffers.{writing}
 use Rattle.sled_core.specs.Waiting.{BufferAt, BufferStart, HasLength, Span, has_place, held_around, span_of, spans, unless_held, without_around, write_around}
 use Rattle.sled_core.proofs.Holds.BufferEnds.{written_behind}
-use Rattle.sled_core.proofs.Line.KeptCalls.{kept_further, kept_still, position_further, position_still, tickets_further}
+use Rattle.sled_core.proofs.Line.KeptCalls.{kept_further, kept_still, place_further, place_pinned, place_still, tickets_further}
 use Rattle.sled_core.proofs.Line.Entered.{filled_last}
 use Rattle.sled_core.proofs.Holds.Facts.{current_facts}
 use Rattle.sled_core.specs.WholeBuffers.{IsWholeBuffer}
 use Rattle.sled_core.proofs.Line.Shows.{buffers_add}
-use Rattle.sled_core.proofs.PublicLaws.{fits_reach, place_back, reserved_small, shows_current, shows_empty, shows_long}
+use Rattle.sled_core.proofs.PublicLaws.{fits_reach, pinned_around, place_back, reserved_small, shows_current, shows_empty, shows_long}
 use Rattle.sled_log.proofs.Sessions.MadeHistories.{of_page_same}
 use Rattle.sled_log.proofs.Sessions.MadePages.{page_present}
 use Rattle.sled_log.specs.Made.{HasBlobIn, IsMade}
@@ -64,20 +64,18 @@ use Rattle.sled_log.specs.WriteSteps.{IfHeld, IsWhy, ShowsBuffers, WritesSome, v
 without_seen : (at : ℕ) (bs : List BufferAt) → spans (without_around at bs) ≡ spans_without at (spans bs)
 without_seen at [] = refl
 without_seen at (b ∷ bs) = by (without_seen at bs) (has_place at b) where
-  by : spans (without_around at bs) ≡ spans_without at (spans bs) → (o : Bool)
-      → spans (if o then bs else b ∷ without_around at bs) ≡ (if o then spans bs else span_of b ∷ spans_without at (spans bs))
+  by : spans (without_around at bs) ≡ spans_without at (spans bs) → (o : Bool) → spans (if o then bs else b ∷ without_around at bs) ≡ (if o then spans bs else span_of b ∷ spans_without at (spans bs))
   by rest true = refl
   by rest false = ap (λ (ss : List Span). span_of b ∷ ss) rest
 
 -- what holds that one up
 around_seen : (places : List ℕ) (at : ℕ) (bs : List BufferAt) → All (IsHeldBy places) bs → held_around at bs ≡ held_around_place places at (spans bs)
 around_seen places at [] all = refl
-around_seen places at (b ∷ bs) all =
-    by (All-head (IsHeldBy places) b bs all) (around_seen places at bs (All-tail (IsHeldBy places) b bs all)) (has_place at b) where
-      by : b.held ≡ first_between b.place b.end places → held_around at bs ≡ held_around_place places at (spans bs) → (o : Bool)
-          → (if o then b.held else held_around at bs) ≡ (if o then held places (span_of b) else held_around_place places at (spans bs))
-      by here rest true = here
-      by here rest false = rest
+around_seen places at (b ∷ bs) all = by (All-head (IsHeldBy places) b bs all) (around_seen places at bs (All-tail (IsHeldBy places) b bs all)) (has_place at b) where
+  by : b.held ≡ first_between b.place b.end places → held_around at bs ≡ held_around_place places at (spans bs) → (o : Bool)
+      → (if o then b.held else held_around at bs) ≡ (if o then held places (span_of b) else held_around_place places at (spans bs))
+  by here rest true = here
+  by here rest false = rest
 
 -- a buffer behind the place doesn't have it
 not_behind : (at : ℕ) (b : BufferAt) → at < b.place → has_place at b ≡ false
@@ -109,8 +107,7 @@ module _ {D C : Type 0} (log : Log D C) (sum : List ℕ → ℕ) (at begun : ℕ
   -- what is reserved of the current buffer has bytes
   some_held : current_begin log ≤ at → 0 < held_len log
   some_held le =
-      let inside : reserved_end log ≤ (current_of log).parts.site.place + length (current_of log).parts.bytes =
-      (filled_last (segment_size_of log) (reserved_end log) (segment_view log.segments.first) (map segment_view log.segments.behind.items) log.line.filled).1 in
+      let inside : reserved_end log ≤ (current_of log).parts.site.place + length (current_of log).parts.bytes = (filled_last (segment_size_of log) (reserved_end log) (segment_view log.segments.first) (map segment_view log.segments.behind.items) log.line.filled).1 in
       let low = (current_facts log).begins in
       omega (arith, le, below, inside, low)
 
@@ -119,11 +116,8 @@ module _ {D C : Type 0} (log : Log D C) (sum : List ℕ → ℕ) (at begun : ℕ
   are_seen : spans (sealed_at sum at log) ≡ sealed_around at l
   are_seen = by (nat_le (current_begin log) at) refl where
     by : (o : Bool) → nat_le (current_begin log) at ≡ o
-        → spans (if o then buffers_of sum log else waiting_of log)
-        ≡ (if o then spans (waiting_of log) ++ current_span l l.position ∷ [] else spans (waiting_of log))
-    by true is =
-        shows_current sum log (some_held (grind (arith, nat_tests, is)))
-        ∙ ap (λ (s : Span). spans (waiting_of log) ++ s ∷ []) (span_seen log sum begun k.tickets k.given_up k.heads)
+        → spans (if o then buffers_of sum log else waiting_of log) ≡ (if o then spans (waiting_of log) ++ current_span l l.position ∷ [] else spans (waiting_of log))
+    by true is = shows_current sum log (some_held (grind (arith, nat_tests, is))) ∙ ap (λ (s : Span). spans (waiting_of log) ++ s ∷ []) (span_seen log sum begun k.tickets k.given_up k.heads)
     by false is = refl
 
   of_all : (P : BufferAt → Type 0) → All P (buffers_of sum log) → All P (sealed_at sum at log)
@@ -140,8 +134,7 @@ module _ {D C : Type 0} (log : Log D C) (sum : List ℕ → ℕ) (at begun : ℕ
     are = are_seen;
     long = of_all HasLength (shows_long sum log);
     held = are_held;
-    whole = of_all (λ b. b.held ≡ None → IsWholeBuffer sum (segment_size_of log) k.given_up (map (headed sum) k.heads) (fillings_seen l) b)
-        (whole_seen log sum begun k.tickets k.given_up k.heads whole);
+    whole = of_all (λ b. b.held ≡ None → IsWholeBuffer sum (segment_size_of log) k.given_up (map (headed sum) k.heads) (fillings_seen l) b) (whole_seen log sum begun k.tickets k.given_up k.heads whole);
   }
 
   start_seen : start_at at log ≡ start_around at l
@@ -167,8 +160,8 @@ module _ {D C : Type 0} (log : Log D C) (sum : List ℕ → ℕ) (at begun : ℕ
         | inr none ↦ ap f (shows_empty sum log (omega (arith, none)))
       ]
 
-  calls_seen : settling sum log (pos at) ≡ reading_around l at (sealed_at sum at log)
-  calls_seen = ap (λ (es : List Event). if nat_lt at l.synced then [] else es) (of_sealed (write_around at) (write_front at))
+  calls_seen : 0 < pins_of log → settling sum log (pos at) ≡ reading_around l at (sealed_at sum at log)
+  calls_seen out = pinned_around log out sum (pos at) ∙ ap (λ (es : List Event). if nat_lt at l.synced then [] else es) (of_sealed (write_around at) (write_front at))
 
   holding_seen : held_at sum log (pos at) ≡ holding_read l at
   holding_seen = ap (λ (o : Option ℕ). if nat_lt at l.synced then None else o)
@@ -183,15 +176,13 @@ not_damaged : (p : DiskPtr) (m : Message) (kept : Option IoError) (at : Option D
 not_damaged (ptr.Inline lid) m kept at whole = whole tt
 not_damaged (ptr.Blob lid place) m kept at whole = whole
 
-not_missed : (blobs : ℤ → Option (List ℕ)) (p : DiskPtr) (m : Message) (e : IoError) (so : Type 0) (old new : Option IoError) (before after : ℕ)
-    → IsWhole p m old (error.Io e)
+not_missed : (blobs : ℤ → Option (List ℕ)) (p : DiskPtr) (m : Message) (e : IoError) (so : Type 0) (old new : Option IoError) (before after : ℕ) → IsWhole p m old (error.Io e)
     → IsFaultAt blobs p e so old new before after → IsFault e old new before after
 not_missed blobs (ptr.Inline lid) m e so old new before after whole is = is
 not_missed blobs (ptr.Blob lid place) m e so old new before after whole is = elim is [ inl fault ↦ fault | inr missed ↦ absurd (whole missed.3 missed.0) ]
 
 -- A read of a pointer says so of a message with it: of one that has its item in its record by that, and else by its blob.
-module _ {D C : Type 0} (trace : D → Trace) (sum : List ℕ → ℕ) (log : Log D C) (k : Unstored) (page : ℕ) (m : Message) (place : ℤ) (is : IsRead trace sum log k)
-    (of : IsOfPage k.history (reserved_end log) page m) (here : pos m.place ≡ place) where
+module _ {D C : Type 0} (trace : D → Trace) (sum : List ℕ → ℕ) (log : Log D C) (k : Unstored) (page : ℕ) (m : Message) (place : ℤ) (is : IsRead trace sum log k) (of : IsOfPage k.history (reserved_end log) page m) (here : pos m.place ≡ place) where
   -- the table of all that there is has its entry
   entry_now : Contains (table k.history (next_place log) m.page) m
   unfolding table
@@ -205,20 +196,17 @@ module _ {D C : Type 0} (trace : D → Trace) (sum : List ℕ → ℕ) (log : Lo
   kept_blob : (p : DiskPtr) → m.pointer ≡ p → (IsInline p → ⊥) → IsKeptBlob log k.history m page place p
   kept_blob p points beside = record { entry = entry_now; page = of.of; place = here; pointer = points; beside = beside }
 
-  pub is_given : (p : DiskPtr) (r : LogRead) → m.pointer ≡ p → (IsInline p → GivesMessage m r)
-      → (IsKeptBlob log k.history m page place p → GivesBlobOrWaits m (fault_of log) (Ok r)) → GivesMessage m r
+  pub is_given : (p : DiskPtr) (r : LogRead) → m.pointer ≡ p → (IsInline p → GivesMessage m r) → (IsKeptBlob log k.history m page place p → GivesBlobOrWaits m (fault_of log) (Ok r)) → GivesMessage m r
   is_given (ptr.Inline lid) r points inline blob = inline tt
   is_given (ptr.Blob lid at) r points inline blob = blob (kept_blob (ptr.Blob lid at) points (λ no. no))
 
-  pub is_whole : (p : DiskPtr) (e : Error) → m.pointer ≡ p → (IsInline p → IsCorruption {T = LogRead} (Err e) → ⊥)
-      → (IsKeptBlob log k.history m page place p → GivesBlobOrWaits m (fault_of log) (Err e)) → IsWhole p m (fault_of log) e
+  pub is_whole : (p : DiskPtr) (e : Error) → m.pointer ≡ p → (IsInline p → IsCorruption {T = LogRead} (Err e) → ⊥) → (IsKeptBlob log k.history m page place p → GivesBlobOrWaits m (fault_of log) (Err e)) → IsWhole p m (fault_of log) e
   is_whole (ptr.Inline lid) e points inline blob = inline tt
   is_whole (ptr.Blob lid at) e points inline blob = blob (kept_blob (ptr.Blob lid at) points (λ no. no))
 
 -- One message is read.
-module _ {D C : Type 0} (view : D → DeviceView) (sum : List ℕ → ℕ) (old new : Log D C) (k : Unstored) (page : ℕ) (m : Message) (begun : ℕ)
-    (of : IsOfPage k.history (reserved_end old) page m)
-    (records : fault_of old ≡ None → AreWhole sum old k.given_up k.heads) (position : StaysPut old new) where
+module _ {D C : Type 0} (view : D → DeviceView) (sum : List ℕ → ℕ) (old new : Log D C) (k : Unstored) (page : ℕ) (m : Message) (begun : ℕ) (of : IsOfPage k.history (reserved_end old) page m)
+    (records : fault_of old ≡ None → AreWhole sum old k.given_up k.heads) (position : StaysPut old new) (out : 0 < pins_of old) where
   abbrev at : ℕ
   at = read_at m
 
@@ -235,8 +223,7 @@ module _ {D C : Type 0} (view : D → DeviceView) (sum : List ℕ → ℕ) (old 
   new_view = view (device_of new)
 
   -- these buffers are left
-  leaves : (waiting : List Span) (start : BufferStart) (fault : Option IoError) → spans (waiting_of new) ≡ waiting → start_of new ≡ start → fault_of new ≡ fault
-      → after ≡ view_flushed before waiting start fault
+  leaves : (waiting : List Span) (start : BufferStart) (fault : Option IoError) → spans (waiting_of new) ≡ waiting → start_of new ≡ start → fault_of new ≡ fault → after ≡ view_flushed before waiting start fault
   leaves waiting start fault left first kept = λ i. record {
     position = position.position i;
     synced = (first_seen new ∙ λ j. first_waiting (left j) (first j)) i;
@@ -254,27 +241,21 @@ module _ {D C : Type 0} (view : D → DeviceView) (sum : List ℕ → ℕ) (old 
 
   -- the calls that bring its place to the device
   settling_seen : settling sum old (place_read (pos m.place) m.pointer) ≡ reading_around before at (sealed_at sum at old)
-  settling_seen = ap (settling sum old) of.read ∙ calls_seen old sum at begun k of.read_below
+  settling_seen = ap (settling sum old) of.read ∙ calls_seen old sum at begun k of.read_below out
 
   -- It failed, where the log kept no failure.
 
   why_at : (blobs : ℤ → Option (List ℕ)) (e : Error)
-      → ReadAnswers {T = LogRead} sum blobs m.pointer (Err e) (pos at) (synced_end old) (reserved_end old) (held_at sum old (pos at)) (IsUsedUpAt old (pos at))
-      (fault_of old) (fault_of new) old_view.failures new_view.failures
+      → ReadAnswers {T = LogRead} sum blobs m.pointer (Err e) (pos at) (synced_end old) (reserved_end old) (held_at sum old (pos at)) (IsUsedUpAt old (pos at)) (fault_of old) (fault_of new) old_view.failures new_view.failures
       → IsWhole m.pointer m (fault_of old) e → fault_of old ≡ None
-      → IsWhy e (holding_read before at) ((current_begin old ≤ at) × (EndsInReach (segment_size_of old) before.position → ⊥)) (fault_of new) old_view.failures
-      new_view.failures
-  why_at blobs (error.Io x) answers whole none =
-      elim (not_missed blobs m.pointer m x _ (fault_of old) (fault_of new) old_view.failures new_view.failures whole answers) [
-        | inl kept ↦ absurd (let bad : None ≡ Some x = sym none ∙ kept.0 in cc)
-        | inr failed ↦ (failed.1, failed.3, failed.2)
-      ]
+      → IsWhy e (holding_read before at) ((current_begin old ≤ at) × (EndsInReach (segment_size_of old) before.position → ⊥)) (fault_of new) old_view.failures new_view.failures
+  why_at blobs (error.Io x) answers whole none = elim (not_missed blobs m.pointer m x _ (fault_of old) (fault_of new) old_view.failures new_view.failures whole answers) [
+    | inl kept ↦ absurd (let bad : None ≡ Some x = sym none ∙ kept.0 in cc)
+    | inr failed ↦ (failed.1, failed.3, failed.2)
+  ]
   why_at blobs error.OutOfMemory answers whole none =
-      let unused = answers.1 in (
-        λ needs. needs.1 (flush_in old sum begun k.tickets k.given_up k.heads (λ used. unused ((let low = needs.0 in omega (arith, ints, low)), used))),
-        answers.3,
-        answers.4,
-      )
+      let unused = answers.1 in
+      (λ needs. needs.1 (flush_in old sum begun k.tickets k.given_up k.heads (λ used. unused ((let low = needs.0 in omega (arith, ints, low)), used))), answers.3, answers.4)
   why_at blobs error.PlacesUsedUp answers whole none =
       let used = answers.1 in
       (((let low = used.0 in omega (arith, ints, low)), flush_out old sum begun k.tickets k.given_up k.heads used.1), answers.3, answers.4)
@@ -295,17 +276,13 @@ module _ {D C : Type 0} (view : D → DeviceView) (sum : List ℕ → ℕ) (old 
   was_sealed (error.Held place) sealed = inr (sealed tt)
   was_sealed _ sealed = inl tt
 
-  failed_at : (blobs : ℤ → Option (List ℕ)) (e : Error) → (IsHeld {T = LogRead} (Err e) → LeavesSealed sum at old new)
-      → Performs (settling sum old (place_read (pos m.place) m.pointer)) old_view.trace new_view.trace → CameAround (traces view) sum (pos at) old new
-      → ReadAnswers {T = LogRead} sum blobs m.pointer (Err e) (pos at) (synced_end old) (reserved_end old) (held_at sum old (pos at)) (IsUsedUpAt old (pos at))
-      (fault_of old) (fault_of new) old_view.failures new_view.failures
-      → IsWhole m.pointer m (fault_of old) e → fault_of old ≡ None
-      → OnDone {T = LogRead} (Err e) (new_view.trace ≡ after_all (settling sum old (place_read (pos m.place) m.pointer)) old_view.trace)
+  failed_at : (blobs : ℤ → Option (List ℕ)) (e : Error) → (IsHeld {T = LogRead} (Err e) → LeavesSealed sum at old new) → Performs (settling sum old (place_read (pos m.place) m.pointer)) old_view.trace new_view.trace → CameAround (traces view) sum (pos at) old new
+      → ReadAnswers {T = LogRead} sum blobs m.pointer (Err e) (pos at) (synced_end old) (reserved_end old) (held_at sum old (pos at)) (IsUsedUpAt old (pos at)) (fault_of old) (fault_of new) old_view.failures new_view.failures
+      → IsWhole m.pointer m (fault_of old) e → fault_of old ≡ None → OnDone {T = LogRead} (Err e) (new_view.trace ≡ after_all (settling sum old (place_read (pos m.place) m.pointer)) old_view.trace)
       → (a : RunState) → FailsAt sum (segment_size_of old) a before at e old_view new_view (with_log a new_view (Some after))
   failed_at blobs e held made came answers whole none done a =
       let seen_so = shows old sum at begun k of.read_below (records none) in
-      let some : syncs new_view.trace ≡ syncs old_view.trace → (fault_of new ≡ None → new_view.trace ≡ old_view.trace) → WritesSome sum (segment_size_of old)
-      before (sealed_around at before) (reading_around before at) 0 e (fault_of new) old_view new_view =
+      let some : syncs new_view.trace ≡ syncs old_view.trace → (fault_of new ≡ None → new_view.trace ≡ old_view.trace) → WritesSome sum (segment_size_of old) before (sealed_around at before) (reading_around before at) 0 e (fault_of new) old_view new_view =
       λ synced still. record {
         buffers = sealed_at sum at old;
         shown = seen_so;
@@ -315,10 +292,8 @@ module _ {D C : Type 0} (view : D → DeviceView) (sum : List ℕ → ℕ) (old 
         held = if_held LogRead e _ _ (λ all. all ∙ ap (λ (es : List Event). after_all es old_view.trace) settling_seen) done;
       } in
       let over_it : LogView → RunState = λ x. with_log a new_view (Some x) in
-      let leaves_sealed : LeavesSealed sum at old new → with_log a new_view (Some after) ≡ with_log a new_view
-      (Some (view_flushed before (sealed_around at before) (start_around at before) (fault_of new))) =
-      λ sealed. ap over_it (leaves (sealed_around at before) (start_around at before) (fault_of new) (ap spans sealed.0 ∙ seen_so.are)
-      (sealed.1 ∙ start_seen old sum at begun k of.read_below) refl) in
+      let leaves_sealed : LeavesSealed sum at old new → with_log a new_view (Some after) ≡ with_log a new_view (Some (view_flushed before (sealed_around at before) (start_around at before) (fault_of new))) =
+      λ sealed. ap over_it (leaves (sealed_around at before) (start_around at before) (fault_of new) (ap spans sealed.0 ∙ seen_so.are) (sealed.1 ∙ start_seen old sum at begun k of.read_below) refl) in
       record {
         sound = none;
         fault = fault_of new;
@@ -327,11 +302,7 @@ module _ {D C : Type 0} (view : D → DeviceView) (sum : List ℕ → ℕ) (old 
           | inl same ↦ inl (
             some (ap syncs same.1) (λ sound. same.1),
             elim (was_sealed e held) [
-              | inl free ↦ inl (
-                free,
-                ap over_it (leaves (spans (waiting_of old)) (start_of old) (fault_of new) (ap spans same.0.0) same.0.1 refl),
-                λ above. same.2 (omega (arith, ints, above)) ∙ none,
-              )
+              | inl free ↦ inl (free, ap over_it (leaves (spans (waiting_of old)) (start_of old) (fault_of new) (ap spans same.0.0) same.0.1 refl), λ above. same.2 (omega (arith, ints, above)) ∙ none)
               | inr sealed ↦ inr (leaves_sealed sealed)
             ],
           )
@@ -341,14 +312,9 @@ module _ {D C : Type 0} (view : D → DeviceView) (sum : List ℕ → ℕ) (old 
           )
           | inr (inr written) ↦ inr (
             sym (holding_seen old sum at begun k of.read_below) ∙ written.2,
-            record {
-              buffers = sealed_at sum at old;
-              shown = seen_so;
-              made = written.1 ∙ ap (λ (es : List Event). after_all es old_view.trace) (calls_seen old sum at begun k of.read_below);
-            },
+            record { buffers = sealed_at sum at old; shown = seen_so; made = written.1 ∙ ap (λ (es : List Event). after_all es old_view.trace) (calls_seen old sum at begun k of.read_below out) },
             (ap over_it (leaves (spans_without at (sealed_around at before)) (start_around at before) (fault_of new)
-                (ap spans written.0.0 ∙ without_around_seen old sum at begun k of.read_below)
-                (written.0.1 ∙ start_seen old sum at begun k of.read_below) refl)),
+                (ap spans written.0.0 ∙ without_around_seen old sum at begun k of.read_below) (written.0.1 ∙ start_seen old sum at begun k of.read_below) refl)),
           )
         ];
       }
@@ -356,22 +322,19 @@ module _ {D C : Type 0} (view : D → DeviceView) (sum : List ℕ → ℕ) (old 
   -- what is told of a read of a pointer, and of the place that it brings to the device
   abbrev AnswersAt : (ℤ → Option (List ℕ)) → Result LogRead Error → DiskPtr → ℤ → Type 0
   AnswersAt blobs r p z = WritesAround sum r z old new
-      × ReadAnswers sum blobs p r z (synced_end old) (reserved_end old) (held_at sum old z) (IsUsedUpAt old z) (fault_of old) (fault_of new) old_view.failures
-      new_view.failures
+      × ReadAnswers sum blobs p r z (synced_end old) (reserved_end old) (held_at sum old z) (IsUsedUpAt old z) (fault_of old) (fault_of new) old_view.failures new_view.failures
       × OnErr r (CameAround (traces view) sum z old new)
 
   abbrev pub Told : (ℤ → Option (List ℕ)) → Result LogRead Error → ℤ → DiskPtr → Type 0
   Told blobs r z p = Settles (traces view) sum r z p old new × AnswersAt blobs r p (place_read z p)
 
   -- it is so of the message's own
-  told_own : (blobs : ℤ → Option (List ℕ)) (r : Result LogRead Error) (z : ℤ) (p : DiskPtr) → pos m.place ≡ z → m.pointer ≡ p → Told blobs r z p
-      → Settles (traces view) sum r (pos m.place) m.pointer old new × AnswersAt blobs r m.pointer (pos at)
+  told_own : (blobs : ℤ → Option (List ℕ)) (r : Result LogRead Error) (z : ℤ) (p : DiskPtr) → pos m.place ≡ z → m.pointer ≡ p → Told blobs r z p → Settles (traces view) sum r (pos m.place) m.pointer old new × AnswersAt blobs r m.pointer (pos at)
   told_own blobs r z p here points told =
       let own = subst (λ (x : ℤ × DiskPtr). Told blobs r x.0 x.1) (λ i. (sym here i, sym points i)) told in
       (own.0, subst (AnswersAt blobs r m.pointer) of.read own.1)
 
-  pub read_failed : (blobs : ℤ → Option (List ℕ)) (e : Error) (z : ℤ) (p : DiskPtr) → pos m.place ≡ z → m.pointer ≡ p → Told blobs (Err e) z p
-      → IsWhole p m (fault_of old) e → fault_of old ≡ None
+  pub read_failed : (blobs : ℤ → Option (List ℕ)) (e : Error) (z : ℤ) (p : DiskPtr) → pos m.place ≡ z → m.pointer ≡ p → Told blobs (Err e) z p → IsWhole p m (fault_of old) e → fault_of old ≡ None
       → (a : RunState) → FailsAt sum (segment_size_of old) a before at e old_view new_view (with_log a new_view (Some after))
   read_failed blobs e z p here points told whole none a =
       let own = told_own blobs (Err e) z p here points told in
@@ -381,35 +344,17 @@ module _ {D C : Type 0} (view : D → DeviceView) (sum : List ℕ → ℕ) (old 
 
   around : {T : Type 0} (r : T) → WritesAround sum (Ok r) (pos at) old new → fault_of new ≡ fault_of old → after ≡ read_around before at
   around r writes kept = by (nat_lt at (synced_end old)) refl where
-    by : (o : Bool) → nat_lt at (synced_end old) ≡ o
-        → after ≡ (if o then before else view_flushed before (spans_without at (sealed_around at before)) (start_around at before) (fault_of old))
+    by : (o : Bool) → nat_lt at (synced_end old) ≡ o → after ≡ (if o then before else view_flushed before (spans_without at (sealed_around at before)) (start_around at before) (fault_of old))
     by true below =
         let low = writes.still (grind (arith, ints, nat_tests, below)) in
         leaves (spans (waiting_of old)) (start_of old) (fault_of old) (ap spans low.0) low.1 kept
-        ∙ (λ i.
-        record {
-          position = before.position;
-          synced = sym (first_seen old) i;
-          noted = sym
-              (noted_still old ∙ ap (λ n. not_whole n (noted_in old)) (first_seen old)) i;
-          end = before.end;
-          waiting = before.waiting;
-          start = before.start;
-          begun
-              = begun;
-          fault = before.fault;
-          outstanding = before.outstanding;
-          tickets = k.tickets;
-          given_up = k.given_up;
-          heads = heads_still before i;
-        })
+        ∙ (λ i. record { position = before.position; synced = sym (first_seen old) i; noted = sym (noted_still old ∙ ap (λ n. not_whole n (noted_in old)) (first_seen old)) i; end = before.end; waiting = before.waiting; start = before.start; begun = begun; fault = before.fault; outstanding = before.outstanding; tickets = k.tickets; given_up = k.given_up; heads = heads_still before i })
     by false beyond =
         let high = writes.written (grind (arith, ints, nat_tests, beyond)) in
         leaves (spans_without at (sealed_around at before)) (start_around at before) (fault_of old)
         (ap spans high.0 ∙ without_around_seen old sum at begun k of.read_below) (high.1 ∙ start_seen old sum at begun k of.read_below) kept
 
-  pub was_read : (blobs : ℤ → Option (List ℕ)) (r : LogRead) (z : ℤ) (p : DiskPtr) → pos m.place ≡ z → m.pointer ≡ p → Told blobs (Ok r) z p
-      → (before.fault ≡ None) × ReadsAt sum (segment_size_of old) before at old_view new_view × (after ≡ read_around before at)
+  pub was_read : (blobs : ℤ → Option (List ℕ)) (r : LogRead) (z : ℤ) (p : DiskPtr) → pos m.place ≡ z → m.pointer ≡ p → Told blobs (Ok r) z p → (before.fault ≡ None) × ReadsAt sum (segment_size_of old) before at old_view new_view × (after ≡ read_around before at)
   was_read blobs r z p here points told =
       let own = told_own blobs (Ok r) z p here points told in
       let answers = own.1.1 in (
@@ -429,9 +374,7 @@ module _ {D C : Type 0} (view : D → DeviceView) (sum : List ℕ → ℕ) (old 
 -- Several messages are read, one behind another.
 
 -- one more
-reads_more : (sum : List ℕ → ℕ) (size : ℕ) (done : List Message) (m : Message) (l end : LogView) (old mid new : DeviceView)
-    → ReadsAll sum size l done old mid end → ReadsAt sum size end (read_at m) mid new
-    → ReadsAll sum size l (done ++ m ∷ []) old new (read_around end (read_at m))
+reads_more : (sum : List ℕ → ℕ) (size : ℕ) (done : List Message) (m : Message) (l end : LogView) (old mid new : DeviceView) → ReadsAll sum size l done old mid end → ReadsAt sum size end (read_at m) mid new → ReadsAll sum size l (done ++ m ∷ []) old new (read_around end (read_at m))
 reads_more sum size [] m l end old mid new is more = (
   new,
   record {
@@ -453,8 +396,7 @@ all_at P [] m rest all = All-head P m rest all
 all_at P (n ∷ done) m rest all = all_at P done m rest (All-tail P n (done ++ m ∷ rest) all)
 
 -- Of these messages some were read, and the others have the entries that are left.
-pub record AreRead (sum : List ℕ → ℕ) (size : ℕ) (l : LogView) (ms : List Message) (rest : List Entry) (old now : DeviceView) (items : List (Vec ℕ Global))
-    (l' : LogView) : Type 0 where
+pub record AreRead (sum : List ℕ → ℕ) (size : ℕ) (l : LogView) (ms : List Message) (rest : List Entry) (old now : DeviceView) (items : List (Vec ℕ Global)) (l' : LogView) : Type 0 where
   pub done : List Message
   pub left : List Message
   pub split : ms ≡ done ++ left
@@ -464,15 +406,12 @@ pub record AreRead (sum : List ℕ → ℕ) (size : ℕ) (l : LogView) (ms : Lis
   pub sound : l'.fault ≡ None
 
 -- So many of a page's entries are read.
-pub record HasReadSome {D C : Type 0} (view : D → DeviceView) (sum : List ℕ → ℕ) (old : Log D C) (page : ℕ) (entries : List Entry) (now : Log D C)
-    (items : List (Vec ℕ Global)) (rest : List Entry) : Type 0 where
+pub record HasReadSome {D C : Type 0} (view : D → DeviceView) (sum : List ℕ → ℕ) (old : Log D C) (page : ℕ) (entries : List Entry) (now : Log D C) (items : List (Vec ℕ Global)) (rest : List Entry) : Type 0 where
   pub free : fault_of old ≡ None
   pub only : KeepsOpen (traces view) sum old now
-  pub so_far : (k : Unstored) (ms : List Message) (begun : ℕ) → IsRead (traces view) sum old k → All (IsOfPage k.history (reserved_end old) page) ms
-      → map entry_of ms ≡ entries
+  pub so_far : (k : Unstored) (ms : List Message) (begun : ℕ) → IsRead (traces view) sum old k → All (IsOfPage k.history (reserved_end old) page) ms → map entry_of ms ≡ entries
       → (heads : List MarkAt) × HasHeads sum now heads
-      × AreRead sum (segment_size_of old) (seen_log old begun k.tickets k.given_up k.heads) ms rest (view (device_of old)) (view (device_of now)) items
-      (seen_log now begun k.tickets k.given_up heads)
+      × AreRead sum (segment_size_of old) (seen_log old begun k.tickets k.given_up k.heads) ms rest (view (device_of old)) (view (device_of now)) items (seen_log now begun k.tickets k.given_up heads)
 
 -- of what a page is that is present there is a first message
 first_there : (ms : List Message) → is_present ms ≡ true → (m : Message) × (rest : List Message) × (ms ≡ m ∷ rest)
@@ -489,27 +428,20 @@ fault_around l at = by (nat_lt at l.synced) where
 module _ {D C : Type 0} (view : D → DeviceView) (sum : List ℕ → ℕ) (old : Log D C) (page : ℕ) where
   -- nothing was done
   pub only_same : KeepsOpen (traces view) sum old old
-  only_same = record {
-    keeps = kept_still (traces view) sum old;
-    tickets = record { awaits = λ ticket m awaits. awaits; opens = refl; given_up = λ m there. there };
-    position = position_still old;
-    free = λ none. none;
-  }
+  only_same = record { keeps = kept_still (traces view) sum old; tickets = record { awaits = λ ticket m awaits. awaits; opens = refl; given_up = λ m there. there }; position = place_still old; free = λ none. none }
 
   pub none_read : (entries : List Entry) → fault_of old ≡ None → HasReadSome view sum old page entries old [] entries
   none_read entries free = record {
     free = free;
     only = only_same;
-    so_far = λ k ms begun is all are.
-        (k.heads, is.heads, record { done = []; left = ms; split = refl; entries = are; reads = (refl, refl, refl); items_are = refl; sound = free });
+    so_far = λ k ms begun is all are. (k.heads, is.heads, record { done = []; left = ms; split = refl; entries = are; reads = (refl, refl, refl); items_are = refl; sound = free });
   }
 
   -- for want of memory for the list of items
   pub unread : (entries : List Entry) → fault_of old ≡ None → ReadsEntries view sum old page entries old (Err error.OutOfMemory)
   unread entries free = record {
     only = only_same;
-    step = λ k ms begun a is all are present device log.
-        (k.heads, is.heads, inr (inl (free, sym device, λ i. record a { device = sym device i; log = sym log i })));
+    step = λ k ms begun a is all are present device log. (k.heads, is.heads, inr (inl (free, sym device, λ i. record a { device = sym device i; log = sym log i })));
   }
 
   -- or since the log keeps a failure
@@ -525,17 +457,17 @@ module _ {D C : Type 0} (view : D → DeviceView) (sum : List ℕ → ℕ) (old 
     further new first second = record {
       keeps = kept_further (traces view) sum old mid new first.keeps second.keeps;
       tickets = tickets_further old mid new first.tickets second.tickets;
-      position = position_further old mid new first.position second.position;
+      position = place_further old mid new first.position second.position;
       free = λ none. first.free (second.free none);
     }
 
-    is_read : (k : Unstored) (heads : List MarkAt) → HasHeads sum mid heads → KeepsOpen (traces view) sum old mid → IsRead (traces view) sum old k
-        → IsRead (traces view) sum mid (begun_with k heads)
+    is_read : (k : Unstored) (heads : List MarkAt) → HasHeads sum mid heads → KeepsOpen (traces view) sum old mid → IsRead (traces view) sum old k → IsRead (traces view) sum mid (begun_with k heads)
     is_read k heads among only is = record {
       made = is.made;
       zeros = is.zeros;
       unmarked = is.unmarked;
       fits = only.keeps.fits k.history k.acknowledged k.floor is.unmarked is.fits;
+      pinned = subst (λ n. 0 < n) (sym only.position.pins) is.pinned;
       given_up = λ m given. is.given_up m (only.tickets.given_up m given);
       heads = among;
     }
@@ -550,14 +482,11 @@ module _ {D C : Type 0} (view : D → DeviceView) (sum : List ℕ → ℕ) (old 
       pub others : map entry_of later ≡ rest
       pub of : IsOfPage H (reserved_end mid) page message
 
-    next : (H : History) (ms done left : List Message) (e : Entry) (rest : List Entry) → ms ≡ done ++ left → map entry_of left ≡ e ∷ rest → SamePosition old mid
-        → All (IsOfPage H (reserved_end old) page) ms → IsNext H ms done e rest
+    next : (H : History) (ms done left : List Message) (e : Entry) (rest : List Entry) → ms ≡ done ++ left → map entry_of left ≡ e ∷ rest → SamePlace old mid → All (IsOfPage H (reserved_end old) page) ms → IsNext H ms done e rest
     next H ms done [] e rest split are position all = absurd (let bad : [] ≡ e ∷ rest = are in cc)
     next H ms done (m ∷ later) e rest split are position all =
         let own : entry_of m ≡ e = cc in
-        let of : IsOfPage H (reserved_end mid) page m =
-        subst (λ n. IsOfPage H n page m) (sym position.reserved)
-        (all_at (IsOfPage H (reserved_end old) page) done m later (subst (All (IsOfPage H (reserved_end old) page)) split all)) in
+        let of : IsOfPage H (reserved_end mid) page m = subst (λ n. IsOfPage H n page m) (sym position.reserved) (all_at (IsOfPage H (reserved_end old) page) done m later (subst (All (IsOfPage H (reserved_end old) page)) split all)) in
         let small = reserved_small mid in
         let low = of.below in
         record {
@@ -570,8 +499,7 @@ module _ {D C : Type 0} (view : D → DeviceView) (sum : List ℕ → ℕ) (old 
           of = of;
         }
 
-    pub one_more : (new : Log D C) (e : Entry) (rest : List Entry) (item : Vec ℕ Global) → HasReadSome view sum old page entries mid items (e ∷ rest)
-        → ReadsItem view sum mid page (to_z w64 (of_z w64 e.0)) e.1 new (Ok item)
+    pub one_more : (new : Log D C) (e : Entry) (rest : List Entry) (item : Vec ℕ Global) → HasReadSome view sum old page entries mid items (e ∷ rest) → ReadsItem view sum mid page (to_z w64 (of_z w64 e.0)) e.1 new (Ok item)
         → HasReadSome view sum old page entries new (items ++ item ∷ []) rest
     one_more new e rest item some reads = record {
       free = some.free;
@@ -591,22 +519,16 @@ module _ {D C : Type 0} (view : D → DeviceView) (sum : List ℕ → ℕ) (old 
               left = one.later;
               split = one.split ∙ sym (append_assoc came.done (one.message ∷ []) one.later);
               entries = one.others;
-              reads =
-                  subst (λ (x : LogView). ReadsAll sum (segment_size_of old) l (came.done ++ one.message ∷ []) (view (device_of old)) (view (device_of new)) x)
-                  (sym got.3)
-                  (reads_more sum (segment_size_of old) came.done one.message l now (view (device_of old)) (view (device_of mid)) (view (device_of new))
-                  came.reads
+              reads = subst (λ (x : LogView). ReadsAll sum (segment_size_of old) l (came.done ++ one.message ∷ []) (view (device_of old)) (view (device_of new)) x) (sym got.3)
+                  (reads_more sum (segment_size_of old) came.done one.message l now (view (device_of old)) (view (device_of mid)) (view (device_of new)) came.reads
                   (subst (λ n. ReadsAt sum n now (read_at one.message) (view (device_of mid)) (view (device_of new))) some.only.position.size got.2));
-              items_are =
-                  map-append (λ (v : Vec ℕ Global). v.items) items (item ∷ []) ∙ (λ i. came.items_are i ++ got.0 i ∷ [])
-                  ∙ sym (map-append (λ (m : Message). m.bytes) came.done (one.message ∷ []));
+              items_are = map-append (λ (v : Vec ℕ Global). v.items) items (item ∷ []) ∙ (λ i. came.items_are i ++ got.0 i ∷ []) ∙ sym (map-append (λ (m : Message). m.bytes) came.done (one.message ∷ []));
               sound = ap (λ (x : LogView). x.fault) got.3 ∙ fault_around now (read_at one.message) ∙ came.sound;
             },
           );
     }
 
-    pub one_failed : (new : Log D C) (e : Entry) (rest : List Entry) (why : Error) → HasReadSome view sum old page entries mid items (e ∷ rest)
-        → ReadsItem view sum mid page (to_z w64 (of_z w64 e.0)) e.1 new (Err why)
+    pub one_failed : (new : Log D C) (e : Entry) (rest : List Entry) (why : Error) → HasReadSome view sum old page entries mid items (e ∷ rest) → ReadsItem view sum mid page (to_z w64 (of_z w64 e.0)) e.1 new (Err why)
         → ReadsEntries view sum old page entries new (Err why)
     one_failed new e rest why some reads = record {
       only = further new some.only reads.only;
@@ -634,8 +556,7 @@ module _ {D C : Type 0} (view : D → DeviceView) (sum : List ℕ → ℕ) (old 
           );
     }
 
-    pub all_read : (vs : Vec (Vec ℕ Global) Global) → vs.items ≡ items → HasReadSome view sum old page entries mid items []
-        → ReadsEntries view sum old page entries mid (Ok vs)
+    pub all_read : (vs : Vec (Vec ℕ Global) Global) → vs.items ≡ items → HasReadSome view sum old page entries mid items [] → ReadsEntries view sum old page entries mid (Ok vs)
     all_read vs items_is some = record {
       only = some.only;
       step = λ k ms begun a is all are present device log.
@@ -651,8 +572,7 @@ module _ {D C : Type 0} (view : D → DeviceView) (sum : List ℕ → ℕ) (old 
               sound = some.free;
               items_are = ap (map (λ (v : Vec ℕ Global). v.items)) items_is ∙ came.items_are ∙ ap (map (λ m. m.bytes)) (sym done);
               log = now;
-              reads = subst (λ xs. ReadsAll sum (segment_size_of old) l xs a.device (view (device_of mid)) now) (sym done)
-                  (subst (λ (x : DeviceView). ReadsAll sum (segment_size_of old) l came.done x (view (device_of mid)) now) (sym device) came.reads);
+              reads = subst (λ xs. ReadsAll sum (segment_size_of old) l xs a.device (view (device_of mid)) now) (sym done) (subst (λ (x : DeviceView). ReadsAll sum (segment_size_of old) l came.done x (view (device_of mid)) now) (sym device) came.reads);
               leads = refl;
             },
           );
@@ -677,52 +597,44 @@ reads_reserved H end m (ptr.Blob lid place) low all has =
     (at ∙ sym (ap (λ (z : ℤ). pos (unsigned_abs z)) at), subst (λ (z : ℤ). unsigned_abs z < end) (sym at) (all has.0 has.1))
 
 all_of_page : (H : History) (end page : ℕ) → IsMade H → All (λ m. m.place + m.size ≤ end) H.messages → All (IsOfPage H end page) (page_now H page)
-all_of_page H end page made ends =
-    All-weaker (Contains (page_now H page)) (IsOfPage H end page) each (page_now H page) (All-contains_itself (page_now H page)) where
-      low : (x : Message) → Contains H.messages x → x.place < end
-      low x there =
-          let some = All-contains (λ y. 0 < y.size) H.messages x (sized H.messages made.orderly.formed.apart) there in
-          let below = All-contains (λ y. y.place + y.size ≤ end) H.messages x ends there in
-          omega (arith, some, below)
+all_of_page H end page made ends = All-weaker (Contains (page_now H page)) (IsOfPage H end page) each (page_now H page) (All-contains_itself (page_now H page)) where
+  low : (x : Message) → Contains H.messages x → x.place < end
+  low x there =
+      let some = All-contains (λ y. 0 < y.size) H.messages x (sized H.messages made.orderly.formed.apart) there in
+      let below = All-contains (λ y. y.place + y.size ≤ end) H.messages x ends there in
+      omega (arith, some, below)
 
-      each : (m : Message) → Contains (page_now H page) m → IsOfPage H end page m
-      each m there =
-          let found = from_table H top page m there in
-          let reads = reads_reserved H end m m.pointer (low m found.0) low (made.blobs m found.0) in
-          record {
-            there = found.0;
-            entry = subst (λ n. Contains (table H top n) m) (sym found.1) there;
-            of = found.1;
-            below = low m found.0;
-            read = reads.0;
-            read_below = reads.1;
-          }
+  each : (m : Message) → Contains (page_now H page) m → IsOfPage H end page m
+  each m there =
+      let found = from_table H top page m there in
+      let reads = reads_reserved H end m m.pointer (low m found.0) low (made.blobs m found.0) in
+      record {
+        there = found.0;
+        entry = subst (λ n. Contains (table H top n) m) (sym found.1) there;
+        of = found.1;
+        below = low m found.0;
+        read = reads.0;
+        read_below = reads.1;
+      }
 
 -- a page that code finds among those that it has
-pub page_found : (states seen : List PageState) (page : ℕ) (s : PageState) (p : Page) → seen ≡ states → page < length seen → s ≡ get_or seen page s
-    → page_of s ≡ p → get_or (map page_of states) page Uninitialized ≡ p
+pub page_found : (states seen : List PageState) (page : ℕ) (s : PageState) (p : Page) → seen ≡ states → page < length seen → s ≡ get_or seen page s → page_of s ≡ p → get_or (map page_of states) page Uninitialized ≡ p
 page_found states seen page s p same lt at is =
     subst (λ xs. get_or (map page_of xs) page Uninitialized ≡ p) same (get_or-map page_of seen page s Uninitialized lt ∙ ap page_of (sym at) ∙ is)
 
 -- The messages of a page that is present are read, and the log stays open.
-module _ {D C : Type 0} (view : D → DeviceView) (sum : List ℕ → ℕ) (opened : Opened D C) (page : ℕ) (k : Unstored) (at : IsOpenAt (traces view) sum opened k)
-    (new : Log D C) (base : Entry) (frags : List Entry) (r : Result (Vec (Vec ℕ Global) Global) Error)
-    (has : get_or (map page_of opened.pages.items) page Uninitialized ≡ Present base frags) (reads : ReadsEntries view sum opened.log page (base ∷ frags) new r)
-  where
-    -- what is kept in mind then
-    abbrev pub read_with : List MarkAt → Unstored
-    read_with = kept_with (traces view) sum opened new k k.acknowledged
+module _ {D C : Type 0} (view : D → DeviceView) (sum : List ℕ → ℕ) (opened : Opened D C) (page : ℕ) (k : Unstored) (at : IsOpenAt (traces view) sum opened k) (new : Log D C) (base : Entry) (frags : List Entry) (r : Result (Vec (Vec ℕ Global) Global) Error)
+    (has : get_or (map page_of opened.pages.items) page Uninitialized ≡ Present base frags) (reads : ReadsEntries view sum opened.log page (base ∷ frags) new r) where
+  -- what is kept in mind then
+  abbrev pub read_with : List MarkAt → Unstored
+  read_with = kept_with (traces view) sum opened new k k.acknowledged
 
-    pub page_read : (heads : List MarkAt) × HasHeads sum new heads
-        × ReadStep sum (segment_size_of opened.log) (stands view (Open opened) k) (seen opened k.tickets k.given_up k.heads) (page_now k.history page)
-        (page_told r) (view (device_of new)) (stands view (Open (over opened new)) (read_with heads))
-    page_read =
-        let present = page_present k.history (map page_of opened.pages.items) page base frags at.table has in
-        reads.step k (page_now k.history page) (length opened.pages.items) (stands view (Open opened) k)
-        (record { made = at.made; zeros = at.zeros; unmarked = at.unmarked; fits = at.fits; given_up = at.given_up; heads = at.heads })
-        (all_of_page k.history (reserved_end opened.log) page at.made at.ends) (sym present.entries) present.present refl refl
+  pub page_read : (heads : List MarkAt) × HasHeads sum new heads
+      × ReadStep sum (segment_size_of opened.log) (stands view (Open opened) k) (seen opened k.tickets k.given_up k.heads) (page_now k.history page) (page_told r) (view (device_of new)) (stands view (Open (over opened new)) (read_with heads))
+  page_read =
+      let present = page_present k.history (map page_of opened.pages.items) page base frags at.table has in
+      reads.step k (page_now k.history page) (length opened.pages.items) (stands view (Open opened) k) (record { made = at.made; zeros = at.zeros; unmarked = at.unmarked; fits = at.fits; pinned = at.pinned; given_up = at.given_up; heads = at.heads })
+      (all_of_page k.history (reserved_end opened.log) page at.made at.ends) (sym present.entries) present.present refl refl
 
-    pub open_still : IsOpenAt (traces view) sum (over opened new) (read_with page_read.0)
-    open_still =
-        still_with (traces view) sum opened new k k.acknowledged page_read.0 page_read.1 at reads.only.tickets reads.only.position reads.only.free
-        reads.only.keeps (reads.only.keeps.fits k.history k.acknowledged k.floor at.unmarked at.fits)
+  pub open_still : IsOpenAt (traces view) sum (over opened new) (read_with page_read.0)
+  open_still = still_with (traces view) sum opened new k k.acknowledged page_read.0 page_read.1 at reads.only.tickets (place_pinned opened.log new at.pinned reads.only.position) reads.only.free reads.only.keeps (reads.only.keeps.fits k.history k.acknowledged k.floor at.unmarked at.fits)

@@ -50,7 +50,7 @@ returns-in-Ok-flush-clause-room g c =
 pub returns-in-Ok-flush-clause-position : goal.returns-in-Ok-flush-clause-position
 returns-in-Ok-flush-clause-position g c =
     let none = c.if-self.false in
-    c.in-Ok-flush.ensures.keeps.position.position ∙ next_begins c.args.self.now c.ask.new.self c.ask.ensures.still c.in-Ok.ensures.asked (λ less. omega (arith, less, none))
+    c.in-Ok-flush.ensures.keeps.position.pinned c.ask.new.self.pinned ∙ next_begins c.args.self.now c.ask.new.self c.ask.ensures.still c.in-Ok.ensures.asked (λ less. omega (arith, less, none))
 
 -- It is kept all the same.
 pub returns-in-Err-flush-clause-keeps : goal.returns-in-Err-flush-clause-keeps
@@ -90,7 +90,7 @@ returns-in-Err-flush-clause-writes g c =
     let failed = c.in-Err-flush.ensures in
     flush_written trace sum c.args.self.now mid c.ask.ensures.unwritten _ _ tt failed.at_most
     (flush_whole ℕ (Unit {0}) trace sum mid.log c.flush.new.self c.in-Err-flush.failed (holding_below sum mid.log (reserved_end mid.log)) (IsUsedUpBelow mid.log (reserved_end mid.log)) (fault_of mid.log)
-    (g.D.Device.faults (device_of mid.log)) (g.D.Device.faults (device_of c.flush.new.self)) failed.answers failed.buffers.1)
+    (g.D.Device.faults (device_of mid.log)) (g.D.Device.faults (device_of c.flush.new.self)) mid.pinned failed.answers failed.buffers.1)
 
 pub returns-in-Err-flush-clause-faulty : goal.returns-in-Err-flush-clause-faulty
 returns-in-Err-flush-clause-faulty g c = λ some. faulty_still c.args.self.now c.ask.new.self c.flush.new.self c.ask.ensures.unwritten c.in-Ok.ensures.answers.0 c.in-Err-flush.ensures.spares.faulty some
@@ -132,7 +132,7 @@ returns-in-Err-flush-clause-refused g c =
       c.ask.ensures.rest.bound,
       inr (
         end_of old.next old.bound old.asked (further_bound old) c.ask.new.self.asked (omega (arith, none)) c.in-Ok.ensures.end,
-        c.in-Err-flush.ensures.keeps.position.position ∙ next_begins old c.ask.new.self c.ask.ensures.still c.in-Ok.ensures.asked (λ less. omega (arith, less, none)),
+        c.in-Err-flush.ensures.keeps.position.pinned c.ask.new.self.pinned ∙ next_begins old c.ask.new.self c.ask.ensures.still c.in-Ok.ensures.asked (λ less. omega (arith, less, none)),
       ),
     )
 

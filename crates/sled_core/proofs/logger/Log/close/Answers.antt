@@ -1,4 +1,4 @@
-use Rattle.std.proofs.Common.{◌≡◌, ◌∙◌, ◌<◌, ◌≤◌, ◌+◌, IfOk, OnErr, OnOk, List, [], ◌∷◌, ℕ, max, ap, subst, sym, arith, inl, inr, Option, None, Some, Result, Ok, Err}
+use Rattle.std.proofs.Common.{◌≡◌, ◌∙◌, ◌<◌, ◌≤◌, ◌+◌, IfOk, OnErr, OnOk, List, ℕ, max, ap, subst, sym, arith, inl, inr, Option, None, Some, Result, Ok, Err}
 use Rattle.std.specs.declared.io.Error.{Error as IoError}
 use Rattle.sled_codec.specs.declared.result.Error.{Error}
 use Rattle.sled_codec.specs.declared.result.Error.TheVariants.{Held, Io, OutOfMemory, PlacesUsedUp}
@@ -6,13 +6,12 @@ use Rattle.sled_store.specs.declared.config.RunningConfig.{RunningConfig}
 use Rattle.sled_store.specs.Device.{Trace, state_of}
 use Rattle.sled_store.specs.Moments.{LeavesOnly}
 use Rattle.sled_core.specs.Causes.{HeldAnswers}
-use Rattle.sled_core.specs.Fits.{FirstWaits, IsUsedUpBelow, current_begin, device_of, fault_of, holding_below, reserved_end, segment_size_of, stable_end, start_of, synced_end, waiting_of}
+use Rattle.sled_core.specs.Fits.{IsUsedUpBelow, device_of, fault_of, holding_below, reserved_end, segment_size_of, stable_end, synced_end}
 use Rattle.sled_core.specs.Fronts.{CameTo, ClosedAt, IsIo, UnlessIo}
 use Rattle.sled_core.specs.Keeps.{LeavesAbove}
 use Rattle.sled_core.specs.Recoverable.{LeavesRecoverable, RecoverableIfOwn}
 use Rattle.sled_core.specs.Running.{end_below}
 use Rattle.sled_core.specs.Stable.{CloseAnswers, SyncsAll, first_begin, stable_behind}
-use Rattle.sled_core.specs.Waiting.{BufferAt}
 use Rattle.sled_core.specs.declared.logger.Log.{Log}
 use Rattle.sled_core.proofs.Holds.LessClaimed.{leaves_claimed}
 use Rattle.sled_core.proofs.Holds.LastEnds.{acknowledged_up}
@@ -83,7 +82,7 @@ closes_part : {T D C : Type 0} (trace : D → Trace) (sum : List ℕ → ℕ) (r
 closes_part trace sum r old new sound never (inl none) = inl (none.still, λ kept. (none.due kept, never kept none.fault))
 closes_part trace sum r old new sound never (inr front) = inr (record {
   count = front.count;
-  synced = front.synced;
+  written = front.written;
   whole = sound _ front.whole;
   short = subst (λ n. n < reserved_end old) (sym ((λ i. first_begin (sym front.left i) (sym front.start i)) ∙ sym (first_left new))) front.short;
 })

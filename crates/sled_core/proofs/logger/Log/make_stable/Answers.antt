@@ -15,7 +15,7 @@ use Rattle.sled_core.specs.invariants.Running.{Fits}
 use Rattle.sled_core.specs.OpenBatches.{behind_batch}
 use Rattle.sled_core.specs.Stable.{behind_place, held_for, target_for}
 use Rattle.sled_core.specs.declared.logger.Log.{Log}
-use Rattle.sled_core.proofs.Line.KeptCalls.{kept_still, position_still, tickets_still}
+use Rattle.sled_core.proofs.Line.KeptCalls.{kept_still, place_still, tickets_still}
 use Rattle.sled_core.proofs.Line.Shown.{fits_acknowledges}
 use Rattle.sled_core.proofs.Line.LineEnds.{stable_kept, stable_reached}
 use Rattle.sled_core.proofs.Line.SealFirst.{still_came, unused_already, writes_already, writes_err, writes_none, writes_ok}
@@ -31,7 +31,7 @@ pub returns-in-Some-clause-keeps : goal.returns-in-Some-clause-keeps
 returns-in-Some-clause-keeps g c = record {
   preserves = kept_still g.D.Device.trace g.C.Checksum.sum_of c.args.self.now;
   tickets = tickets_still c.args.self.now;
-  position = position_still c.args.self.now;
+  position = place_still c.args.self.now;
 }
 
 pub returns-in-Some-clause-buffers : goal.returns-in-Some-clause-buffers
@@ -49,7 +49,7 @@ pub returns-then-lsn-stable_offset-clause-keeps : goal.returns-then-lsn-stable_o
 returns-then-lsn-stable_offset-clause-keeps g c = record {
   preserves = kept_still g.D.Device.trace g.C.Checksum.sum_of c.args.self.now;
   tickets = tickets_still c.args.self.now;
-  position = position_still c.args.self.now;
+  position = place_still c.args.self.now;
 }
 
 durable : (g : given.Over) (c : goal.Then-lsn-stable_offset g) → c.args.lsn <ℤ pos (stable_end c.args.self.now)
@@ -81,7 +81,7 @@ pub returns-then-lsn-self-clause-keeps : goal.returns-then-lsn-self-clause-keeps
 returns-then-lsn-self-clause-keeps g c = record {
   preserves = kept_still g.D.Device.trace g.C.Checksum.sum_of c.args.self.now;
   tickets = tickets_still c.args.self.now;
-  position = position_still c.args.self.now;
+  position = place_still c.args.self.now;
 }
 
 pub returns-then-lsn-self-clause-answers : goal.returns-then-lsn-self-clause-answers

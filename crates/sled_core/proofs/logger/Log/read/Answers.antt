@@ -27,13 +27,13 @@ use Rattle.sled_core.specs.inside.ReadBuffer.{SettleAnswers}
 use Rattle.sled_core.specs.Reading.{IsInline, IsNoPlace, GivesMessage}
 use Rattle.sled_core.specs.ReadPointer.{GivesBlob, IsStableBlob, place_read}
 use Rattle.sled_core.specs.inside.ReadPointer.{IsDamageOf}
-use Rattle.sled_core.proofs.Line.KeptCalls.{kept_further, log_still, tickets_further}
+use Rattle.sled_core.proofs.Line.KeptCalls.{kept_further, place_further, position_place, tickets_further, writing_still}
 use Rattle.sled_core.proofs.Holds.ReachLemmas.{fits_holds}
 use Rattle.sled_core.proofs.Line.Advanced.{same_current}
 use Rattle.sled_core.proofs.Line.CameFar.{around_none, came_behind, seals_none, still_around}
 use Rattle.sled_core.proofs.Line.BlobReads.{IsReadable, gives_read, readable, reads_stable}
 use Rattle.sled_core.proofs.Line.KeptReads.{err_waits, gives_at_once, kept_readable}
-use Rattle.sled_core.proofs.Line.LogSpans.{same_buffers}
+use Rattle.sled_core.proofs.Line.LogSpans.{same_buffers, same_with}
 use Rattle.sled_core.proofs.Line.HeaderMarks.{segment_same}
 use Rattle.sled_core.proofs.Line.Reads.{above_zero, around_err, around_read, err_answers, err_damages, err_gives, err_refuses, err_settles, fits_begins, is_settled, read_answers, read_held, read_reserved, read_settles, refuses_none, seals_err, seals_read, settled_blobs, settled_names, settled_record}
 use Rattle.sled_core.proofs.Line.Records.{inline_is}
@@ -62,7 +62,7 @@ pub returns-in-Some-clause-calls : goal.returns-in-Some-clause-calls
 returns-in-Some-clause-calls g c = record { made = tt; damaged = λ is. absurd is; missed = λ none _. absurd (let both : None ≡ c.args.self.now.fault.kept = sym none in let is = c.in-Some.is in cc); at_most = performs_nothing _ _ _ refl; settled = tt; unwritten = λ _. refl }
 
 pub returns-in-Some-clause-keeps : goal.returns-in-Some-clause-keeps
-returns-in-Some-clause-keeps g c = log_still g.D.Device.trace g.C.Checksum.sum_of c.args.self.now
+returns-in-Some-clause-keeps g c = writing_still g.D.Device.trace g.C.Checksum.sum_of c.args.self.now
 
 pub returns-in-Some-clause-buffers : goal.returns-in-Some-clause-buffers
 returns-in-Some-clause-buffers g c = nothing_sealed g.D.Device.trace g.C.Checksum.sum_of c.args.self.now (place_read c.args.lsn c.args.ptr) (Io c.in-Some.e) (λ held. held)
@@ -112,7 +112,7 @@ pub returns-then-lsn-lt0-clause-buffers : goal.returns-then-lsn-lt0-clause-buffe
 returns-then-lsn-lt0-clause-buffers g c = nothing_sealed g.D.Device.trace g.C.Checksum.sum_of c.args.self.now (place_read c.args.lsn c.args.ptr) (Corruption None) (λ held. held)
 
 pub returns-then-lsn-lt0-clause-keeps : goal.returns-then-lsn-lt0-clause-keeps
-returns-then-lsn-lt0-clause-keeps g c = log_still g.D.Device.trace g.C.Checksum.sum_of c.args.self.now
+returns-then-lsn-lt0-clause-keeps g c = writing_still g.D.Device.trace g.C.Checksum.sum_of c.args.self.now
 
 -- The place is one.
 
@@ -290,7 +290,7 @@ pub returns-clause-keeps : goal.returns-clause-keeps
 returns-clause-keeps g c = record {
   preserves = kept_further g.D.Device.trace g.C.Checksum.sum_of c.args.self.now c.settle_at.new.self _ c.settle_at.ensures.keeps.preserves c.read_settled.ensures.keeps.preserves;
   tickets = tickets_further c.args.self.now c.settle_at.new.self c.read_settled.new.self c.settle_at.ensures.keeps.tickets c.read_settled.ensures.keeps.tickets;
-  position = search rules;
+  position = place_further c.args.self.now c.settle_at.new.self c.read_settled.new.self c.settle_at.ensures.keeps.position (position_place c.settle_at.new.self c.read_settled.new.self c.read_settled.ensures.keeps.position);
 }
 
 -- the answer of the settling
@@ -329,14 +329,15 @@ returns-clause-buffers g c =
     let place : ℤ = place_read c.args.lsn c.args.ptr in
     let at = at_ok g c in
     let same = same_buffers mid new c.read_settled.ensures.line in
+    let with_slots = same_with mid new c.read_settled.ensures.line c.read_settled.ensures.keeps.position.size in
     let free = read_held sum _ c.args.ptr c.read_settled.result _ _ _ _ c.read_settled.ensures.answers in (
       seals_read place old mid c.read_settled.result new tt (subst (λ z. SealsAround {T = Unit {0}} (Ok tt) z old mid) at c.in_ok-settle_at.ensures.seals) same.0 (same_current mid new c.read_settled.ensures.line) free,
-      around_read place old mid sum c.read_settled.result new tt (subst (λ z. WritesAround {T = Unit {0}} sum (Ok tt) z old mid) at c.in_ok-settle_at.ensures.buffers.0) same.0 same.1 c.read_settled.ensures.account free (segment_same mid new c.read_settled.ensures.line),
+      around_read place old mid sum c.read_settled.result new tt (subst (λ z. WritesAround {T = Unit {0}} sum (Ok tt) z old mid) at c.in_ok-settle_at.ensures.buffers.0) same.0 same.1 c.read_settled.ensures.ledger with_slots free (segment_same mid new c.read_settled.ensures.line),
       came_behind g.D.Device.trace sum old mid new place tt c.read_settled.result (subst (λ z. WritesAround {T = Unit {0}} sum (Ok tt) z old mid) at c.in_ok-settle_at.ensures.buffers.0)
           (subst (λ z. g.D.Device.trace (device_of mid) ≡ after_all (settling sum old z) (g.D.Device.trace (device_of old))) at c.in_ok-settle_at.ensures.calls)
           (subst (λ z. held_at sum old z ≡ None) at c.in_ok-settle_at.ensures.answers.1.0)
           (λ below. ap (λ (l : Log g.row.D.Denot g.row.C.Denot). g.D.Device.trace l.config.device) (subst (λ z. z <ℤ pos (synced_end old) → mid ≡ old) at c.in_ok-settle_at.ensures.still below))
-          same.0 same.1 c.read_settled.ensures.account c.read_settled.ensures.trace,
+          same.0 same.1 c.read_settled.ensures.ledger with_slots c.read_settled.ensures.trace,
     )
 
 pub returns-clause-answers : goal.returns-clause-answers

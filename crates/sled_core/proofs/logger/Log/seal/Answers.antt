@@ -13,8 +13,8 @@ use Rattle.sled_core.proofs.Line.Begins.{begins_keeps, begins_marked, begins_sam
 use Rattle.sled_core.proofs.Line.HeaderMarks.{none_begun}
 use Rattle.sled_core.proofs.Line.LogSpans.{seal_starts, turn_starts}
 use Rattle.sled_core.proofs.Line.Outcomes.{either, on_both, on_err, on_ok}
-use Rattle.sled_core.proofs.Line.Seals.{sealed_begins, sealed_buffers, sealed_current, sealed_keeps, sealed_position, sealed_same, sealed_tickets, sealed_waiting, sealed_fillings, sealed_heads}
-use Rattle.sled_core.proofs.Line.Turns.{turns_begins, turns_buffers, turns_position, turns_waiting}
+use Rattle.sled_core.proofs.Line.Seals.{sealed_begins, sealed_buffers, sealed_current, sealed_keeps, sealed_position, sealed_same, sealed_tickets, sealed_waiting, sealed_fillings, sealed_heads, sealed_with}
+use Rattle.sled_core.proofs.Line.Turns.{turns_begins, turns_buffers, turns_position, turns_waiting, turns_with}
 use Rattle.sled_core.proofs.Line.Unchanged.{left_alone, unchanged_keeps, unchanged_position, unchanged_same, unchanged_tickets}
 use Rattle.sled_core.proofs.logger.Log.seal.Goals as goal
 
@@ -48,6 +48,13 @@ returns-then-is_short-clause-begins g c =
 pub returns-then-is_short-clause-start : goal.returns-then-is_short-clause-start
 returns-then-is_short-clause-start g c =
     on_ok c.begin_next.result _ _ (λ line. turn_starts g.C.Checksum.sum_of c.args.self.now c.begin_next.new.self _ (sym c.is_short.ensures ∙ c.if-is_short.true) line) c.begin_next.ensures.line
+
+pub returns-then-is_short-clause-position : goal.returns-then-is_short-clause-position
+returns-then-is_short-clause-position g c =
+    let did = c.begin_next.ensures in
+    let old = c.args.self.now in
+    let new = c.begin_next.new.self in
+    on_both c.begin_next.result _ _ _ (λ line machine. turns_with g.D.Device.trace g.C.Checksum.sum_of old new line machine did.rest c.requires.some (sym c.is_short.ensures ∙ c.if-is_short.true)) did.line did.machine
 
 pub returns-then-is_short-clause-marked : goal.returns-then-is_short-clause-marked
 returns-then-is_short-clause-marked g c =
@@ -123,6 +130,12 @@ returns-clause-begins g c =
 
 pub returns-clause-start : goal.returns-clause-start
 returns-clause-start g c = on_ok c.seal_unfilled.result _ _ (λ line. seal_starts c.args.self.now c.seal_unfilled.new.self (sym c.is_short.ensures ∙ c.if-is_short.false) line) c.seal_unfilled.ensures.line
+
+pub returns-clause-position : goal.returns-clause-position
+returns-clause-position g c =
+    let old = c.args.self.now in
+    let new = c.seal_unfilled.new.self in
+    on_ok c.seal_unfilled.result _ _ (λ line. sealed_with g.D.Device.trace g.C.Checksum.sum_of old new c.seal_unfilled.ensures.rest line c.requires.some (sym c.is_short.ensures ∙ c.if-is_short.false)) c.seal_unfilled.ensures.line
 
 pub returns-clause-marked : goal.returns-clause-marked
 returns-clause-marked g c =

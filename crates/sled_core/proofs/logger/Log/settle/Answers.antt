@@ -1,5 +1,5 @@
 -- The current buffer is sealed first, where it has the place; then the one buffer that has it is written.
-use Rattle.std.proofs.Common.{◌≡◌, ◌∙◌, ◌<◌, ap, sym, refl, arith, subst, inl, inr, pos, ℕ, List, rules}
+use Rattle.std.proofs.Common.{◌≡◌, ◌∙◌, ◌<◌, ap, sym, refl, arith, subst, inl, inr, pos, ℕ, List}
 use Rattle.std.proofs.lemmas.Bool.Decides.{nat_tests}
 use Rattle.std.proofs.lemmas.Int.{ints}
 use Rattle.std.proofs.lemmas.Result.{err_from_is_err_and}
@@ -12,9 +12,9 @@ use Rattle.sled_core.specs.declared.logger.Log.{Log}
 use Rattle.sled_core.specs.Fits.{current_begin, synced_end}
 use Rattle.sled_core.specs.ReadBuffer.{IsUsedUpAt, settling}
 use Rattle.sled_core.specs.Waiting.{BufferStart}
-use Rattle.sled_core.proofs.Line.KeptCalls.{kept_further, log_still, position_further, tickets_further}
+use Rattle.sled_core.proofs.Line.KeptCalls.{kept_further, place_further, position_place, tickets_further, writing_still}
 use Rattle.sled_core.proofs.Line.Advanced.{same_current}
-use Rattle.sled_core.proofs.Line.LogSpans.{same_buffers}
+use Rattle.sled_core.proofs.Line.LogSpans.{same_buffers, same_with}
 use Rattle.sled_core.proofs.Line.Outcomes.{answers_used, on_err, seal_answers, seal_not_done, seal_not_held}
 use Rattle.sled_core.proofs.Line.HeaderMarks.{none_begun, segment_same}
 use Rattle.sled_core.proofs.Line.SealsFor.{SealsFor, came_sealed, held_at_same, holds_reserved, seals_current, seals_still, settling_same, writes_around}
@@ -22,7 +22,7 @@ use Rattle.sled_core.proofs.Line.Settles.{held_stable, stable_written}
 use Rattle.sled_core.proofs.logger.Log.settle.Given.{Over}
 use Rattle.sled_core.proofs.logger.Log.settle.Goals.{then-place-current_begin+in_ok-seal, else-place-current_begin}
 use Rattle.sled_core.proofs.logger.Log.settle.Goals as goal
-use Rattle.sled_core.proofs.Line.AccountBehind.{account_unchanged, on_ok_both}
+use Rattle.sled_core.proofs.Line.AccountBehind.{ledger_unchanged, on_ok_both}
 
 -- The place is stable.
 
@@ -33,7 +33,7 @@ pub returns-then-place-synced_end-clause-at_most : goal.returns-then-place-synce
 returns-then-place-synced_end-clause-at_most g c = performs_nothing _ _ _ refl
 
 pub returns-then-place-synced_end-clause-keeps : goal.returns-then-place-synced_end-clause-keeps
-returns-then-place-synced_end-clause-keeps g c = log_still g.D.Device.trace g.C.Checksum.sum_of c.args.self.now
+returns-then-place-synced_end-clause-keeps g c = writing_still g.D.Device.trace g.C.Checksum.sum_of c.args.self.now
 
 pub returns-then-place-synced_end-clause-answers : goal.returns-then-place-synced_end-clause-answers
 returns-then-place-synced_end-clause-answers g c =
@@ -48,7 +48,7 @@ returns-then-place-synced_end-clause-seals g c = record { still = λ _. refl; ap
 pub returns-then-place-synced_end-clause-buffers : goal.returns-then-place-synced_end-clause-buffers
 returns-then-place-synced_end-clause-buffers g c =
     let below : c.args.place < synced_end c.args.self.now = omega (arith, c.if-place-synced_end.true, c.synced_end.ensures.is) in
-    (record { still = λ _. (refl, refl, refl); written = λ behind. absurd (omega (arith, ints, below, behind)); held = λ is. absurd is; some = tt; marked = none_begun g.C.Checksum.sum_of c.args.self.now c.args.self.now refl (λ h there. there) (λ f there. there) }, tt)
+    (record { still = λ _. (refl, refl, refl, λ m. refl); written = λ behind. absurd (omega (arith, ints, below, behind)); held = λ is. absurd is; some = tt; marked = none_begun g.C.Checksum.sum_of c.args.self.now c.args.self.now refl (λ h there. there) (λ f there. there) }, tt)
 
 -- The current buffer could not be sealed.
 
@@ -75,8 +75,8 @@ returns-in_err-seal-clause-at_most g c = performs_nothing _ _ _ (ap (λ (x : Run
 pub returns-in_err-seal-clause-keeps : goal.returns-in_err-seal-clause-keeps
 returns-in_err-seal-clause-keeps g c = record {
   preserves = c.in_err-seal.ensures.keeps.preserves;
-  tickets = search rules;
-  position = search rules;
+  tickets = c.in_err-seal.ensures.keeps.tickets;
+  position = position_place c.args.self.now c.seal.new.self c.in_err-seal.ensures.keeps.position;
 }
 
 pub returns-in_err-seal-clause-answers : goal.returns-in_err-seal-clause-answers
@@ -105,16 +105,17 @@ pub returns-in_err-seal-clause-buffers : goal.returns-in_err-seal-clause-buffers
 returns-in_err-seal-clause-buffers g c =
     let e = err_from_is_err_and c.from_residual.result c.from_residual.ensures.1 in
     let buffers = same_buffers c.args.self.now c.seal.new.self c.in_err-seal.ensures.err.line in
-    let account = account_unchanged c.args.self.now c.seal.new.self c.in_err-seal.ensures.err in
+    let ledger = ledger_unchanged c.args.self.now c.seal.new.self c.in_err-seal.ensures.err in
+    let with_slots = same_with c.args.self.now c.seal.new.self c.in_err-seal.ensures.err.line c.seal.ensures.keeps.position.size in
     rw (e.1, e.2) (
       record {
         still = λ below. absurd (omega (arith, ints, below, c.if-place-synced_end.false, c.synced_end.ensures.is));
         written = λ _. tt;
         held = λ is. absurd (seal_not_held (Unit {0}) (Unit {0}) c.in_err-seal.field-0.0 _ c.in_err-seal.ensures.answers is);
-        some = inl (buffers.0, buffers.1, account);
+        some = inl (buffers.0, buffers.1, ledger, with_slots);
         marked = (let kept = segment_same c.args.self.now c.seal.new.self c.in_err-seal.ensures.err.line in none_begun g.C.Checksum.sum_of c.args.self.now c.seal.new.self kept.place kept.heads kept.fillings);
       },
-      inl ((buffers.0, buffers.1, account), ap (λ (x : RunningConfig g.row.D.Denot g.row.C.Denot). g.D.Device.trace x.device) c.in_err-seal.ensures.err.config, λ _. c.in_err-seal.ensures.err.fault),
+      inl ((buffers.0, buffers.1, ledger, with_slots), ap (λ (x : RunningConfig g.row.D.Denot g.row.C.Denot). g.D.Device.trace x.device) c.in_err-seal.ensures.err.config, λ _. c.in_err-seal.ensures.err.fault),
     )
 
 -- The buffer that has the place is sealed now.
@@ -130,7 +131,7 @@ sealed_for g c =
       | then-place-current_begin+in_ok-seal w ↦ subst (λ (l : Log g.row.D.Denot g.row.C.Denot). SealsFor trace sum place old l) (sym w.self-is)
           (seals_current trace sum place old w.seal.new.self (let up = w.if-place-current_begin.true in omega (arith, up, begin))
           (elim c.requires.reserved [ inl below ↦ absurd (omega (arith, below, c.if-place-synced_end.false, c.synced_end.ensures.is)) | inr lower ↦ lower ])
-          w.in_ok-seal.ensures.buffers w.in_ok-seal.ensures.waiting w.in_ok-seal.ensures.begins w.in_ok-seal.ensures.start w.seal.ensures.keeps.preserves w.seal.ensures.keeps.tickets w.seal.ensures.keeps.position w.seal.ensures.same w.in_ok-seal.ensures.answers.0 w.in_ok-seal.ensures.marked)
+          w.in_ok-seal.ensures.buffers w.in_ok-seal.ensures.waiting w.in_ok-seal.ensures.begins w.in_ok-seal.ensures.start w.in_ok-seal.ensures.position w.seal.ensures.keeps.preserves w.seal.ensures.keeps.tickets w.seal.ensures.keeps.position w.seal.ensures.same w.in_ok-seal.ensures.answers.0 w.in_ok-seal.ensures.marked)
       | else-place-current_begin w ↦ subst (λ (l : Log g.row.D.Denot g.row.C.Denot). SealsFor trace sum place old l) (sym w.self-is)
           (seals_still trace sum place old (let low = w.if-place-current_begin.false in omega (arith, low, begin)))
     ]
@@ -155,7 +156,7 @@ seals g c =
       | then-place-current_begin+in_ok-seal w ↦ subst (λ (l : Log g.row.D.Denot g.row.C.Denot). SealsFor trace sum place old l) (sym w.self-is)
           (seals_current trace sum place old w.seal.new.self (let up = w.if-place-current_begin.true in omega (arith, up, begin))
           (elim c.requires.reserved [ inl below ↦ absurd (omega (arith, below, c.if-place-synced_end.false, c.synced_end.ensures.is)) | inr lower ↦ lower ])
-          w.in_ok-seal.ensures.buffers w.in_ok-seal.ensures.waiting w.in_ok-seal.ensures.begins w.in_ok-seal.ensures.start w.seal.ensures.keeps.preserves w.seal.ensures.keeps.tickets w.seal.ensures.keeps.position w.seal.ensures.same w.in_ok-seal.ensures.answers.0 w.in_ok-seal.ensures.marked)
+          w.in_ok-seal.ensures.buffers w.in_ok-seal.ensures.waiting w.in_ok-seal.ensures.begins w.in_ok-seal.ensures.start w.in_ok-seal.ensures.position w.seal.ensures.keeps.preserves w.seal.ensures.keeps.tickets w.seal.ensures.keeps.position w.seal.ensures.same w.in_ok-seal.ensures.answers.0 w.in_ok-seal.ensures.marked)
       | else-place-current_begin w ↦ subst (λ (l : Log g.row.D.Denot g.row.C.Denot). SealsFor trace sum place old l) (sym w.self-is)
           (seals_still trace sum place old (let low = w.if-place-current_begin.false in omega (arith, low, begin)))
     ]
@@ -186,7 +187,7 @@ pub returns-clause-keeps : goal.returns-clause-keeps
 returns-clause-keeps g c = record {
   preserves = kept_further g.D.Device.trace g.C.Checksum.sum_of c.args.self.now c.if-place-current_begin.self c.write_around.new.self (seals g c).keeps c.write_around.ensures.keeps.preserves;
   tickets = tickets_further c.args.self.now c.if-place-current_begin.self c.write_around.new.self (seals g c).tickets c.write_around.ensures.keeps.tickets;
-  position = position_further c.args.self.now c.if-place-current_begin.self c.write_around.new.self (seals g c).position c.write_around.ensures.keeps.position;
+  position = place_further c.args.self.now c.if-place-current_begin.self c.write_around.new.self (position_place c.args.self.now c.if-place-current_begin.self (seals g c).position) c.write_around.ensures.keeps.position;
 }
 
 pub returns-clause-answers : goal.returns-clause-answers
@@ -216,7 +217,7 @@ pub returns-clause-buffers : goal.returns-clause-buffers
 returns-clause-buffers g c =
     let did = c.write_around.ensures in
     let r = c.write_around.result in (
-      writes_around g.D.Device.trace g.C.Checksum.sum_of c.args.place c.args.self.now c.if-place-current_begin.self (seals g c) c.write_around.new.self did.start r
-          (omega (arith, c.if-place-synced_end.false, c.synced_end.ensures.is)) (on_ok_both r _ _ _ (λ left account. (left, account)) did.without did.account) (on_err r _ _ (λ failed. (failed.0, failed.1.account)) did.same) did.segment,
-      on_err r _ _ (came_sealed g.D.Device.trace g.C.Checksum.sum_of c.args.place c.args.self.now c.if-place-current_begin.self (seals g c) c.write_around.new.self did.start) did.same,
+      writes_around g.D.Device.trace g.C.Checksum.sum_of c.args.place c.args.self.now c.if-place-current_begin.self (seals g c) c.write_around.new.self did.start did.position r
+          (omega (arith, c.if-place-synced_end.false, c.synced_end.ensures.is)) (on_ok_both r _ _ _ (λ left ledger. (left, ledger)) did.without did.ledger) (on_err r _ _ (λ failed. (failed.0, failed.2)) did.same) did.segment,
+      on_err r _ _ (came_sealed g.D.Device.trace g.C.Checksum.sum_of c.args.place c.args.self.now c.if-place-current_begin.self (seals g c) c.write_around.new.self did.start did.position) did.same,
     )

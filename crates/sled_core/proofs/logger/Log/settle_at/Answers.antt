@@ -9,7 +9,7 @@ use Rattle.sled_core.specs.Causes.{HeldAnswers, OnDone}
 use Rattle.sled_core.specs.Fits.{device_of, fault_of, reserved_end, synced_end}
 use Rattle.sled_core.specs.Fronts.{CameAround}
 use Rattle.sled_core.specs.ReadBuffer.{IsUsedUpAt, SealsAround, WritesAround, held_at, settling}
-use Rattle.sled_core.proofs.Line.KeptCalls.{kept_still, position_still, tickets_still}
+use Rattle.sled_core.proofs.Line.KeptCalls.{kept_still, place_still, tickets_still}
 use Rattle.sled_core.proofs.Line.CameFar.{around_none, still_around}
 use Rattle.sled_core.proofs.Line.Reads.{above_zero, at_place, settle_answers}
 use Rattle.sled_core.proofs.logger.Log.settle_at.Given as given
@@ -23,7 +23,7 @@ pub returns-then-place-lt0-clause-keeps : goal.returns-then-place-lt0-clause-kee
 returns-then-place-lt0-clause-keeps g c = record {
   preserves = kept_still g.D.Device.trace g.C.Checksum.sum_of c.args.self.now;
   tickets = tickets_still c.args.self.now;
-  position = position_still c.args.self.now;
+  position = place_still c.args.self.now;
 }
 
 pub returns-then-at-self-clause-at_most : goal.returns-then-at-self-clause-at_most
@@ -33,7 +33,7 @@ pub returns-then-at-self-clause-keeps : goal.returns-then-at-self-clause-keeps
 returns-then-at-self-clause-keeps g c = record {
   preserves = kept_still g.D.Device.trace g.C.Checksum.sum_of c.args.self.now;
   tickets = tickets_still c.args.self.now;
-  position = position_still c.args.self.now;
+  position = place_still c.args.self.now;
 }
 
 -- it is a place

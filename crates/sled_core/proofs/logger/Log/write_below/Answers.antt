@@ -39,7 +39,7 @@ ready g c = elim c.if-current_begin-to.branch [
       let did = w.in_ok-seal.ensures in
       subst (λ (l : Log _ _). SealedFor g.D.Device.trace g.C.Checksum.sum_of c.args.to c.args.self.now l) (sym w.self-is)
       (sealed_first g.D.Device.trace g.C.Checksum.sum_of c.args.to c.args.self.now w.seal.new.self c.requires.fault c.requires.reserved (omega (arith, c.current_begin.ensures.is, w.if-current_begin-to.true))
-      did.waiting did.buffers did.begins did.start did.keeps.preserves did.keeps.tickets did.same did.keeps.position did.answers.0 did.marked)
+      did.waiting did.buffers did.begins did.start did.position did.keeps.preserves did.keeps.tickets did.same did.keeps.position did.answers.0 did.marked)
   | else-current_begin-to w ↦
       subst (λ (l : Log _ _). SealedFor g.D.Device.trace g.C.Checksum.sum_of c.args.to c.args.self.now l) (sym w.self-is)
       (sealed_already g.D.Device.trace g.C.Checksum.sum_of c.args.to c.args.self.now c.requires.fault c.requires.reserved (omega (arith, c.current_begin.ensures.is, w.if-current_begin-to.false)))

@@ -3,7 +3,9 @@ use Rattle.std.specs.declared.io.Error.{Error as IoError}
 use Rattle.sled_codec.specs.declared.result.Error.{Error}
 use Rattle.sled_codec.specs.declared.result.Error.TheVariants.{Io, OutOfMemory}
 use Rattle.sled_store.specs.Blobs.{UnlessFault}
-use Rattle.sled_store.specs.Device.{Trace}
+use Rattle.sled_store.specs.Device.{Event, Trace}
+use Rattle.sled_store.specs.Script.{Performs, after_all}
+use Rattle.sled_store.specs.SegmentStates.{Machine, Step}
 use Rattle.sled_core.specs.Causes.{Answers}
 use Rattle.std.specs.List.{slice_get}
 use Rattle.sled_store.specs.Accounts.{machine_of}
@@ -21,7 +23,8 @@ use Rattle.sled_core.specs.declared.logger.Log.{Log}
 use Rattle.sled_core.specs.Fronts.{WroteNone}
 use Rattle.sled_core.specs.HeaderMark.{greater_mark}
 use Rattle.sled_core.specs.inside.Fits.{written_to}
-use Rattle.sled_core.specs.Fits.{AwaitsIn, line_of, noted_in, segment_size_of}
+use Rattle.sled_core.specs.Fits.{AwaitsIn, ledger_of, line_of, noted_in, position_with, segment_size_of}
+use Rattle.sled_core.specs.Keeps.{SamePosition}
 use Rattle.sled_core.specs.invariants.Fits.{Holds}
 use Rattle.sled_core.specs.GivenUp.{given_up_along}
 use Rattle.sled_core.specs.Logged.{logged, in_log}
@@ -32,7 +35,7 @@ use Rattle.sled_core.specs.Positions.{Position, position_in}
 use Rattle.sled_core.specs.inside.ReadyBuffers.{AreReady, HasOwn}
 use Rattle.sled_core.specs.invariants.Running.{Fits}
 use Rattle.sled_core.specs.inside.SealedBuffers.{is_ready, written_at}
-use Rattle.sled_core.specs.inside.Turned.{ChangesDevice, IsReadyIn, promoted, written_now}
+use Rattle.sled_core.specs.inside.Turned.{ChangesDevice, IsReadyIn, mark_of, promoted, written_now}
 use Rattle.sled_core.specs.Waiting.{last_of}
 use Rattle.sled_core.proofs.Holds.StoredItems.{items_same}
 use Rattle.sled_core.proofs.Line.Faulty.{fits_with_same, holds_with_same}
@@ -51,7 +54,10 @@ use Rattle.sled_core.proofs.Reached.OpenBatch.{not_whole_further}
 use Rattle.sled_core.proofs.Line.WrittenTickets.{awaits_written, given_written, manifests_written, places_written}
 use Rattle.sled_core.proofs.Pending.Logs.{written_ready}
 use Rattle.sled_core.proofs.logger.Log.write_buffer.Goals as goal
-use Rattle.sled_core.proofs.Line.AccountBehind.{account_same}
+use Rattle.sled_core.proofs.Line.AccountBehind.{account_same, ledger_same}
+use Rattle.sled_core.proofs.Line.FreeingStep.{no_more, nothing_done}
+use Rattle.sled_core.proofs.Line.KeptCalls.{position_place}
+use Rattle.sled_core.proofs.Line.LogSpans.{same_with}
 
 -- The same batches are noted,
 noted_items : {D C : Type 0} (old mid : Log D C) → ChangesDevice old mid → mid.batches.noted.items ≡ old.batches.noted.items
@@ -63,6 +69,22 @@ noted_left_is : {D C : Type 0} (old : Log D C) (n k : ℕ) (r : IsReadyIn (line_
 noted_left_is old n k r same line =
     let up = end_grows old n k r in
     (λ i. not_whole (written_to (line i)) (map batch_of (same i))) ∙ sym (not_whole_further (written_to (line_of old)) (written_to (line_left old n k r)) up (map batch_of old.batches.noted.items))
+
+-- The slots and the marks are those that they were.
+kept_ledger : {D C : Type 0} (old mid : Log D C) → ChangesDevice old mid → ledger_of mid ≡ ledger_of old
+kept_ledger old mid rest = ledger_same old mid (ap machine_of rest.accountant) (account_same old mid rest.marks rest.pins)
+
+kept_size : {D C : Type 0} (old mid : Log D C) → ChangesDevice old mid → segment_size_of mid ≡ segment_size_of old
+kept_size old mid rest = ap (λ (x : Config). x.segment_size) rest.config
+
+-- The next record begins where it would have begun.
+position_kept : {D C : Type 0} (old : Log D C) (n k : ℕ) (r : IsReadyIn (line_of old) n k) (m its : Machine) {size : ℕ} {line : List SegmentView} → size ≡ segment_size_of old
+    → line ≡ promoted (segment_size_of old) (set (line_of old) n (written_now k r.segment)) → m ≡ its → position_in size (last_of r.segment line) m ≡ position_with old its
+position_kept old n k r m its sizes line slots =
+    let At : SegmentView → Position = λ v. position_in (segment_size_of old) v its in
+    (λ i. position_in (sizes i) (last_of r.segment (line i)) (slots i))
+    ∙ ap At (last_promoted (segment_size_of old) r.segment (set (line_of old) n (written_now k r.segment)))
+    ∙ last_set At r.segment (line_of old) n r.segment (written_now k r.segment) r.among refl
 
 -- A write that was refused changed nothing on the device, unless that failed.
 unless_fault : (T : Type 0) (e : Error) (fault : Option IoError) (before after : ℕ) (old new : Trace) → Answers {T = T} (Err e) None fault before after → (fault ≡ None → new ≡ old) → UnlessFault {T = T} (Err e) old new
@@ -82,8 +104,8 @@ returns-in_err-write_bytes-clause-refused g c =
 pub returns-in_err-write_bytes-clause-unwritten : goal.returns-in_err-write_bytes-clause-unwritten
 returns-in_err-write_bytes-clause-unwritten g c =
     let did = c.in_err-write_bytes.ensures in
-    let none : WroteNone g.D.Device.trace c.args.self.now c.write_bytes.new.self = record { synced = did.unsynced; still = did.refused; account = account_same c.args.self.now c.write_bytes.new.self did.rest.marks did.rest.pins } in
-    all_err c.from_residual.result _ none
+    let none : WroteNone g.D.Device.trace c.args.self.now c.write_bytes.new.self = record { synced = did.unsynced.0; written = did.unsynced.1; still = did.refused; account = account_same c.args.self.now c.write_bytes.new.self did.rest.marks did.rest.pins } in
+    all_err c.from_residual.result _ (none, kept_ledger c.args.self.now c.write_bytes.new.self did.rest)
 
 pub returns-in_err-write_bytes-clause-keeps : goal.returns-in_err-write_bytes-clause-keeps
 unfolding Holds Fits
@@ -116,8 +138,31 @@ returns-in_err-write_bytes-clause-keeps g c = record {
       }
       );
   tickets = search rules;
-  position = search rules;
+  position = (let same : SamePosition c.args.self.now c.write_bytes.new.self = search rules in position_place c.args.self.now c.write_bytes.new.self same);
 }
+
+-- As yet the accountant makes no call behind the write.
+pub returns-in_err-write_bytes-clause-at_most : goal.returns-in_err-write_bytes-clause-at_most
+returns-in_err-write_bytes-clause-at_most g c =
+    let old = c.args.self.now in
+    subst (λ (es : List Event). Performs es (g.D.Device.trace old.config.device) (g.D.Device.trace c.write_bytes.new.self.config.device)) (sym (no_more (segment_size_of old) (ledger_of old) c.args.k (slice_get (line_of old) c.args.n))) c.write_bytes.ensures.at_most
+
+pub returns-clause-at_most : goal.returns-clause-at_most
+returns-clause-at_most g c =
+    let old = c.args.self.now in
+    subst (λ (es : List Event). Performs es (g.D.Device.trace old.config.device) (g.D.Device.trace c.write_bytes.new.self.config.device)) (sym (no_more (segment_size_of old) (ledger_of old) c.args.k (slice_get (line_of old) c.args.n))) c.write_bytes.ensures.at_most
+
+pub returns-clause-calls : goal.returns-clause-calls
+returns-clause-calls g c =
+    let old = c.args.self.now in
+    c.in_ok-write_bytes.ensures.calls ∙ ap (λ (es : List Event). after_all es (g.D.Device.trace old.config.device)) (sym (no_more (segment_size_of old) (ledger_of old) c.args.k (slice_get (line_of old) c.args.n)))
+
+pub returns-in_err-write_bytes-clause-position : goal.returns-in_err-write_bytes-clause-position
+returns-in_err-write_bytes-clause-position g c =
+    let old = c.args.self.now in
+    let mid = c.write_bytes.new.self in
+    let rest = c.in_err-write_bytes.ensures.rest in
+    same_with old mid (same_line old mid rest) (kept_size old mid rest)
 
 -- The segments that are left keep what the type of a log asks.
 kept : {D C : Type 0} (old mid : Log D C) (n k : ℕ) (r : IsReadyIn (line_of old) n k) → ChangesDevice old mid → (s : SegmentBuffer) → slice_get (open_segments mid.segments) n ≡ Some s → (marked : SegmentBuffer) → segment_view marked ≡ written_now k (segment_view s)
@@ -197,6 +242,14 @@ returns-clause-line g c = λ v among.
     line_after c.args.self.now c.write_bytes.new.self c.args.n c.args.k v c.in_ok-write_bytes.ensures.rest among s c.segment_mut-s.ensures.value (record { site = s.site; buffer = c.mark_written.new.self })
     (c.mark_written.ensures s.site) (line_in c.promote.new.self) c.promote.ensures
 
+-- The next record begins where it would have begun, whichever slots are left.
+pub returns-clause-position : goal.returns-clause-position
+returns-clause-position g c = λ m.
+    let old = c.args.self.now in
+    let mid = c.write_bytes.new.self in
+    let r = c.requires.ready in
+    position_kept old c.args.n c.args.k r m m (kept_size old mid c.in_ok-write_bytes.ensures.rest) (returns-clause-line g c r.segment r.among) refl
+
 pub returns-clause-keeps : goal.returns-clause-keeps
 unfolding Holds Fits
 returns-clause-keeps g c = record {
@@ -249,32 +302,32 @@ returns-clause-keeps g c = record {
   position = (
       let old = c.args.self.now in
       let mid = c.write_bytes.new.self in
-      let r = c.requires.ready in
       let rest = c.in_ok-write_bytes.ensures.rest in
-      let sizes : segment_size_of mid ≡ segment_size_of old = ap (λ (x : Config). x.segment_size) rest.config in
-      let slots = ap machine_of rest.accountant in
-      let line = returns-clause-line g c r.segment r.among in
-      let At : SegmentView → Position = λ v. position_in (segment_size_of old) v (machine_of old.accountant) in
+      let r = c.requires.ready in
+      let at = position_kept old c.args.n c.args.k r (machine_of mid.accountant) (machine_of old.accountant) (kept_size old mid rest) (returns-clause-line g c r.segment r.among) (ap machine_of rest.accountant) in
       record {
-        position = (λ i. position_in (sizes i) (last_of r.segment (line i)) (slots i))
-            ∙ ap At (last_promoted (segment_size_of old) r.segment (set (line_of old) c.args.n (written_now c.args.k r.segment)))
-            ∙ last_set At r.segment (line_of old) c.args.n r.segment (written_now c.args.k r.segment) r.among refl;
+        place = ap (λ (q : Position). q.place) at;
+        pinned = λ pinned. at;
         reserved = rest.reserved;
         pins = rest.pins;
-        size = sizes;
+        size = kept_size old mid rest;
       }
       );
 }
 
--- The mark of its segment is on the device, where it begins with the header of that.
-pub returns-clause-account : goal.returns-clause-account
-returns-clause-account g c = λ v among.
+-- The mark of its segment is on the device, where it begins with the header of that, and as yet the slots are as they were.
+pub returns-clause-ledger : goal.returns-clause-ledger
+returns-clause-ledger g c = λ v among.
+    let old = c.args.self.now in
     let mid = c.write_bytes.new.self in
     let rest = c.in_ok-write_bytes.ensures.rest in
     let mark = c.mark_of-mark.ensures v (ap (λ (l : List SegmentView). slice_get l c.args.n) (same_line c.args.self.now mid rest) ∙ among) in
     let did = c.note_mark.ensures in
     λ i. record {
-      mark = (did.joined ∙ (λ j. if nat_lt 0 (rest.pins j) then (rest.marks j).joined else greater_mark (mark j) (rest.marks j).durable)) i;
-      durable = (did.durable ∙ (λ j. greater_mark (mark j) (rest.marks j).durable)) i;
-      pinned = nat_lt 0 (rest.pins i);
+      machine = (ap machine_of rest.accountant ∙ sym (ap (λ (s : Step). s.machine) (nothing_done (segment_size_of old) (mark_of c.args.k v) (ledger_of old)))) i;
+      account = record {
+        mark = (did.joined ∙ (λ j. if nat_lt 0 (rest.pins j) then (rest.marks j).joined else greater_mark (mark j) (rest.marks j).durable)) i;
+        durable = (did.durable ∙ (λ j. greater_mark (mark j) (rest.marks j).durable)) i;
+        pinned = nat_lt 0 (rest.pins i);
+      };
     }

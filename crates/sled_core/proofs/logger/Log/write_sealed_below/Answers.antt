@@ -2,18 +2,18 @@ use Rattle.std.proofs.Common.{List, ap, take, rules, ◌≡◌, ◌∙◌, ◌+�
 use Rattle.std.proofs.lemmas.Int.{to_z-of_z}
 use Rattle.std.proofs.lemmas.Result.{err_from_is_err_and}
 use Rattle.sled_store.proofs.Traces.ScriptLemmas.{performs_whole}
-use Rattle.sled_core.specs.Fits.{line_of, waiting_of}
+use Rattle.sled_core.specs.Fits.{ledger_of, line_of, segment_size_of, waiting_of}
 use Rattle.sled_core.specs.inside.Turned.{ready_below}
 use Rattle.sled_core.proofs.Line.KeptCalls.{kept_further}
 use Rattle.sled_core.proofs.Line.Advanced.{advanced_further, advanced_still, all_made, failed_further, failed_one, failed_position, failed_tickets, failed_any, first_step, first_view, holds_up, past_left, ready_in, same_current, still_short, stuck_left, stuck_one, write_failed}
-use Rattle.sled_core.proofs.Line.Below.{IsStuck, begin_none, first_fewer, held_past, writes_past}
+use Rattle.sled_core.proofs.Line.Below.{IsStuck, begin_none, first_fewer, free_past, held_past}
 use Rattle.sled_core.proofs.Line.HeaderMarks.{segment_further, segment_same}
 use Rattle.sled_core.proofs.Line.CameFar.{wrote_front}
 use Rattle.sled_core.proofs.Line.LogSpans.{leaves_above, same_buffers}
 use Rattle.sled_core.proofs.Line.Outcomes.{all_err}
 use Rattle.sled_core.proofs.logger.Log.write_sealed_below.Given as given
 use Rattle.sled_core.proofs.logger.Log.write_sealed_below.Goals as goal
-use Rattle.sled_core.specs.Account.{account_behind, account_of}
+use Rattle.sled_core.specs.Ledger.{ledger_behind}
 use Rattle.sled_core.specs.Waiting.{BufferAt}
 use Rattle.sled_core.proofs.Line.AccountBehind.{front_whole}
 
@@ -40,7 +40,7 @@ loop-self-preserved g c =
     let ready : ready_below (line_of mid) c.args.to ≡ true = sym c.has_ready_below.ensures ∙ c.loop-self-test.true in
     record {
       advanced = advanced_further g.D.Device.trace g.C.Checksum.sum_of g.D.Device.faults c.args.to c.args.self.now mid c.write_buffer.new.self c.loop-self.invariant.advanced ready (c.in_ok-write_buffer.ensures.line (first_view mid) refl)
-          c.write_buffer.ensures.keeps.preserves c.write_buffer.ensures.keeps.tickets c.write_buffer.ensures.keeps.position c.in_ok-write_buffer.ensures.calls c.in_ok-write_buffer.ensures.answers.1 c.in_ok-write_buffer.ensures.answers.2 (c.in_ok-write_buffer.ensures.account (first_view mid) refl);
+          c.write_buffer.ensures.keeps.preserves c.write_buffer.ensures.keeps.tickets c.write_buffer.ensures.keeps.position c.write_buffer.ensures.position c.in_ok-write_buffer.ensures.calls c.in_ok-write_buffer.ensures.answers.1 c.in_ok-write_buffer.ensures.answers.2 (c.in_ok-write_buffer.ensures.ledger (first_view mid) refl);
     }
 
 -- A write failed.
@@ -78,7 +78,7 @@ pub returns-in_err-write_buffer-clause-front : goal.returns-in_err-write_buffer-
 returns-in_err-write_buffer-clause-front g c =
     let same = same_buffers c.loop-self.self c.write_buffer.new.self c.in_err-write_buffer.ensures.same in
     all_err c.from_residual.result _
-    (wrote_front g.D.Device.trace g.C.Checksum.sum_of g.D.Device.faults c.args.to c.args.self.now c.loop-self.self c.write_buffer.new.self c.requires.sealed c.loop-self.invariant.advanced same.0 same.1 c.in_err-write_buffer.ensures.unwritten
+    (wrote_front g.D.Device.trace g.C.Checksum.sum_of g.D.Device.faults c.args.to c.args.self.now c.loop-self.self c.write_buffer.new.self c.requires.sealed c.loop-self.invariant.advanced same.0 same.1 c.write_buffer.ensures.position c.in_err-write_buffer.ensures.unwritten.0 c.in_err-write_buffer.ensures.unwritten.1
     (still_short c.args.to c.loop-self.self c.write_buffer.new.self (sym c.has_ready_below.ensures ∙ c.loop-self-test.true) c.in_err-write_buffer.ensures.same))
 
 pub returns-in_err-write_buffer-clause-idle : goal.returns-in_err-write_buffer-clause-idle
@@ -96,11 +96,11 @@ stuck g c =
     stuck_left g.D.Device.trace g.C.Checksum.sum_of g.D.Device.faults c.args.to c.args.self.now c.loop-self.self c.requires.sealed c.loop-self.invariant.advanced (omega (arith, c.synced_end.ensures.is, c.if-synced_end-to.true)) (sym c.has_ready_below.ensures ∙ c.loop-self-test.false)
 
 pub returns-then-synced_end-to-clause-calls : goal.returns-then-synced_end-to-clause-calls
-returns-then-synced_end-to-clause-calls g c = all_made g.D.Device.trace g.C.Checksum.sum_of g.D.Device.faults c.args.to c.args.self.now c.loop-self.self c.requires.sealed c.loop-self.invariant.advanced (stuck g c).writes
+returns-then-synced_end-to-clause-calls g c = all_made g.D.Device.trace g.C.Checksum.sum_of g.D.Device.faults c.args.to c.args.self.now c.loop-self.self c.requires.sealed c.loop-self.invariant.advanced (stuck g c).none
 
 pub returns-then-synced_end-to-clause-at_most : goal.returns-then-synced_end-to-clause-at_most
 returns-then-synced_end-to-clause-at_most g c =
-    performs_whole _ _ _ (all_made g.D.Device.trace g.C.Checksum.sum_of g.D.Device.faults c.args.to c.args.self.now c.loop-self.self c.requires.sealed c.loop-self.invariant.advanced (stuck g c).writes)
+    performs_whole _ _ _ (all_made g.D.Device.trace g.C.Checksum.sum_of g.D.Device.faults c.args.to c.args.self.now c.loop-self.self c.requires.sealed c.loop-self.invariant.advanced (stuck g c).none)
 
 pub returns-then-synced_end-to-clause-keeps : goal.returns-then-synced_end-to-clause-keeps
 returns-then-synced_end-to-clause-keeps g c = record {
@@ -130,7 +130,7 @@ returns-then-synced_end-to-clause-one g c = λ few. stuck_one g.D.Device.trace g
 pub returns-then-synced_end-to-clause-front : goal.returns-then-synced_end-to-clause-front
 returns-then-synced_end-to-clause-front g c =
     let now = c.loop-self.self in
-    wrote_front g.D.Device.trace g.C.Checksum.sum_of g.D.Device.faults c.args.to c.args.self.now now now c.requires.sealed c.loop-self.invariant.advanced refl refl (record { synced = refl; still = λ sound. refl; account = refl })
+    wrote_front g.D.Device.trace g.C.Checksum.sum_of g.D.Device.faults c.args.to c.args.self.now now now c.requires.sealed c.loop-self.invariant.advanced refl refl (λ m. refl) (record { synced = refl; written = refl; still = λ sound. refl; account = refl }) refl
     (omega (arith, c.synced_end.ensures.is, c.if-synced_end-to.true))
 
 pub returns-then-synced_end-to-clause-idle : goal.returns-then-synced_end-to-clause-idle
@@ -142,13 +142,13 @@ pub returns-clause-calls : goal.returns-clause-calls
 returns-clause-calls g c =
     let now = c.loop-self.self in
     all_made g.D.Device.trace g.C.Checksum.sum_of g.D.Device.faults c.args.to c.args.self.now now c.requires.sealed c.loop-self.invariant.advanced
-    (writes_past c.args.to (waiting_of now) (past_left g.D.Device.trace g.C.Checksum.sum_of g.D.Device.faults c.args.to now (omega (arith, c.synced_end.ensures.is, c.if-synced_end-to.false))))
+    (free_past c.args.to (waiting_of now) (past_left g.D.Device.trace g.C.Checksum.sum_of g.D.Device.faults c.args.to now (omega (arith, c.synced_end.ensures.is, c.if-synced_end-to.false))))
 
 pub returns-clause-at_most : goal.returns-clause-at_most
 returns-clause-at_most g c =
     let now = c.loop-self.self in
     performs_whole _ _ _ (all_made g.D.Device.trace g.C.Checksum.sum_of g.D.Device.faults c.args.to c.args.self.now now c.requires.sealed c.loop-self.invariant.advanced
-    (writes_past c.args.to (waiting_of now) (past_left g.D.Device.trace g.C.Checksum.sum_of g.D.Device.faults c.args.to now (omega (arith, c.synced_end.ensures.is, c.if-synced_end-to.false)))))
+    (free_past c.args.to (waiting_of now) (past_left g.D.Device.trace g.C.Checksum.sum_of g.D.Device.faults c.args.to now (omega (arith, c.synced_end.ensures.is, c.if-synced_end-to.false)))))
 
 pub returns-clause-keeps : goal.returns-clause-keeps
 returns-clause-keeps g c = record {
@@ -181,8 +181,9 @@ returns-clause-above g c =
     let now = c.loop-self.self in
     leaves_above g.C.Checksum.sum_of c.args.to c.args.self.now now c.requires.sealed c.loop-self.invariant.advanced.start c.loop-self.invariant.advanced.left
     (past_left g.D.Device.trace g.C.Checksum.sum_of g.D.Device.faults c.args.to now (omega (arith, c.synced_end.ensures.is, c.if-synced_end-to.false)))
-    (c.loop-self.invariant.advanced.account
-    ∙ ap (λ (l : List BufferAt). account_behind l (account_of c.args.self.now))
+    c.loop-self.invariant.advanced.with_slots
+    (c.loop-self.invariant.advanced.ledger
+    ∙ ap (λ (l : List BufferAt). ledger_behind (segment_size_of c.args.self.now) l (ledger_of c.args.self.now))
     (front_whole c.args.to (take c.loop-self.invariant.advanced.count (waiting_of c.args.self.now)) (waiting_of c.args.self.now) (waiting_of now)
     (past_left g.D.Device.trace g.C.Checksum.sum_of g.D.Device.faults c.args.to now (omega (arith, c.synced_end.ensures.is, c.if-synced_end-to.false))) c.loop-self.invariant.advanced.front))
 

@@ -1,30 +1,32 @@
 -- The one that is asked for is written, and isn't left.
-use Rattle.std.proofs.Common.{refl, ap, sym, set, ◌≡◌, ◌∙◌, ℤ, List, Option}
+use Rattle.std.proofs.Common.{refl, ap, sym, subst, set, ◌≡◌, ◌∙◌, ℕ, ℤ, List, Option}
+use Rattle.sled_store.specs.Device.{Event}
+use Rattle.sled_store.specs.Script.{Performs, after_all}
 use Rattle.sled_store.proofs.Traces.ScriptLemmas.{performs_nothing}
 use Rattle.sled_core.proofs.Line.Among.{among_same}
 use Rattle.sled_core.proofs.Line.HeaderMarks.{fillings_of_written, heads_of_written}
 use Rattle.sled_core.specs.Fillings.{fillings_along}
 use Rattle.sled_core.specs.Heads.{heads_along}
 use Rattle.sled_core.specs.Among.{AreAmong}
-use Rattle.sled_core.specs.Fits.{line_of, segment_size_of, start_of, fillings_of, heads_of}
-use Rattle.sled_core.specs.inside.Turned.{promoted, written_now}
+use Rattle.sled_core.specs.Fits.{ledger_of, line_of, segment_size_of, start_of, fillings_of, heads_of, writing_pending}
+use Rattle.sled_core.specs.Ledger.{ledger_behind, written_ledger}
+use Rattle.sled_core.specs.inside.Turned.{writing_in, written_now}
 use Rattle.sled_core.specs.Waiting.{BufferAt, unwritten}
-use Rattle.sled_core.proofs.Line.KeptCalls.{log_still}
-use Rattle.sled_core.proofs.Line.Buffers.{unwritten_promoted}
+use Rattle.sled_core.proofs.Line.KeptCalls.{writing_still}
+use Rattle.sled_core.proofs.Line.Buffers.{calls_pending, unwritten_promoted}
 use Rattle.sled_core.proofs.Line.LogSpans.{same_buffers, written_starts}
 use Rattle.sled_core.proofs.Line.LogWrites.{segments_written}
 use Rattle.sled_core.proofs.Line.Advanced.{same_synced}
 use Rattle.sled_core.proofs.Line.CameFar.{on_err_both}
 use Rattle.sled_core.proofs.Line.Outcomes.{either, on_ok}
-use Rattle.sled_core.proofs.logger.Log.write_to_log.Given.{Over}
+use Rattle.sled_core.proofs.logger.Log.write_to_log.Given as given
 use Rattle.sled_core.proofs.logger.Log.write_to_log.Goals as goal
-use Rattle.sled_core.specs.Account.{account_behind, account_of, written_account}
 
 pub returns-in-Some-clause-at_most : goal.returns-in-Some-clause-at_most
 returns-in-Some-clause-at_most g c = performs_nothing _ _ _ refl
 
 pub returns-in-Some-clause-keeps : goal.returns-in-Some-clause-keeps
-returns-in-Some-clause-keeps g c = log_still g.D.Device.trace g.C.Checksum.sum_of c.args.self.now
+returns-in-Some-clause-keeps g c = writing_still g.D.Device.trace g.C.Checksum.sum_of c.args.self.now
 
 pub returns-clause-written : goal.returns-clause-written
 returns-clause-written g c =
@@ -33,46 +35,38 @@ returns-clause-written g c =
     let k = c.ready_at-n.result.1 in
     let r = c.ready_at-n.ensures.ready in
     on_ok c.write_buffer.result _ _
-    (λ is. ap unwritten is
-    ∙ unwritten_promoted (segment_size_of old) old.segments.first.site.place (set (line_of old) n (written_now k r.segment)) (segments_written old n k r)
-    ∙ c.ready_at-n.ensures.left r.segment r.among)
+    (λ is. ap unwritten is ∙ unwritten_promoted (segment_size_of old) old.segments.first.site.place (set (line_of old) n (written_now k r.segment)) (segments_written old n k r) ∙ c.ready_at-n.ensures.left r.segment r.among)
     (c.write_buffer.ensures.line r.segment r.among)
-
--- The segments are those of before with that buffer written, or they are the same.
-by_segments : (g : Over) (c : goal.After-write_buffer g) (P : Type 0)
-    → (line_of c.write_buffer.new.self ≡ promoted (segment_size_of c.args.self.now)
-    (set (line_of c.args.self.now) c.ready_at-n.result.0 (written_now c.ready_at-n.result.1 c.ready_at-n.ensures.ready.segment)) → P)
-    → (line_of c.write_buffer.new.self ≡ line_of c.args.self.now → P) → P
-by_segments g c P wrote same =
-    let r = c.ready_at-n.ensures.ready in
-    either c.write_buffer.result _ _ P wrote same (c.write_buffer.ensures.line r.segment r.among) c.write_buffer.ensures.same
 
 pub returns-clause-start : goal.returns-clause-start
 returns-clause-start g c =
     let old = c.args.self.now in
     let new = c.write_buffer.new.self in
     let r = c.ready_at-n.ensures.ready in
-    by_segments g c (start_of new ≡ start_of old)
-    (written_starts old new (segment_size_of old) c.ready_at-n.result.0 r.segment c.ready_at-n.result.1 r.among)
+    either c.write_buffer.result _ _ (start_of new ≡ start_of old)
+    (λ is. written_starts old new (segment_size_of old) c.ready_at-n.result.0 r.segment c.ready_at-n.result.1 r.among is)
     (λ same. (same_buffers old new same).1)
+    (c.write_buffer.ensures.line r.segment r.among) c.write_buffer.ensures.same
 
 pub returns-clause-heads : goal.returns-clause-heads
 returns-clause-heads g c =
     let old = c.args.self.now in
     let new = c.write_buffer.new.self in
     let r = c.ready_at-n.ensures.ready in
-    by_segments g c (AreAmong (heads_of new) (heads_of old))
-    (heads_of_written old new (segment_size_of old) c.ready_at-n.result.0 c.ready_at-n.result.1 r.segment r.among)
+    either c.write_buffer.result _ _ (AreAmong (heads_of new) (heads_of old))
+    (λ is. heads_of_written old new (segment_size_of old) c.ready_at-n.result.0 c.ready_at-n.result.1 r.segment r.among is)
     (λ same. among_same (heads_of new) (heads_of old) (ap heads_along same))
+    (c.write_buffer.ensures.line r.segment r.among) c.write_buffer.ensures.same
 
 pub returns-clause-fillings : goal.returns-clause-fillings
 returns-clause-fillings g c =
     let old = c.args.self.now in
     let new = c.write_buffer.new.self in
     let r = c.ready_at-n.ensures.ready in
-    by_segments g c (AreAmong (fillings_of new) (fillings_of old))
-    (fillings_of_written old new (segment_size_of old) c.ready_at-n.result.0 c.ready_at-n.result.1 r.segment r.among)
+    either c.write_buffer.result _ _ (AreAmong (fillings_of new) (fillings_of old))
+    (λ is. fillings_of_written old new (segment_size_of old) c.ready_at-n.result.0 c.ready_at-n.result.1 r.segment r.among is)
     (λ same. among_same (fillings_of new) (fillings_of old) (ap fillings_along same))
+    (c.write_buffer.ensures.line r.segment r.among) c.write_buffer.ensures.same
 
 pub returns-in-Some-clause-heads : goal.returns-in-Some-clause-heads
 returns-in-Some-clause-heads g c = λ h there. there
@@ -84,15 +78,30 @@ pub returns-clause-err : goal.returns-clause-err
 returns-clause-err g c =
     let old = c.args.self.now in
     let new = c.write_buffer.new.self in
-    on_err_both c.write_buffer.result _ _ _ (λ same none. (same_synced old new same, (same_buffers old new same).0, none.synced, none.account))
-    c.write_buffer.ensures.same c.write_buffer.ensures.unwritten
+    on_err_both c.write_buffer.result _ _ _ (λ same none. (same_synced old new same, (same_buffers old new same).0, none.0.synced, none.1)) c.write_buffer.ensures.same c.write_buffer.ensures.unwritten
 
-pub returns-clause-account : goal.returns-clause-account
-returns-clause-account g c =
+-- The calls are those of that buffer, with the accountant's behind them.
+its_calls : (g : given.Over) (c : goal.After-write_buffer g) → writing_in (segment_size_of c.args.self.now) (ledger_of c.args.self.now) (line_of c.args.self.now) c.ready_at-n.result.0 c.ready_at-n.result.1 ≡ writing_pending c.args.self.now c.args.i
+its_calls g c =
     let old = c.args.self.now in
     let r = c.ready_at-n.ensures.ready in
     let one = c.ready_at-n.ensures.one r.segment r.among in
+    calls_pending (segment_size_of old) (ledger_of old) (line_of old) c.args.i c.ready_at-n.result.0 c.ready_at-n.result.1 r.segment r.among one.0 one.1 one.2 c.ready_at-n.ensures.writes
+
+pub returns-clause-calls : goal.returns-clause-calls
+returns-clause-calls g c =
+    on_ok c.write_buffer.result _ _ (λ made. made ∙ ap (λ (es : List Event). after_all es (g.D.Device.trace c.args.self.now.config.device)) (its_calls g c)) c.write_buffer.ensures.calls
+
+pub returns-clause-at_most : goal.returns-clause-at_most
+returns-clause-at_most g c =
+    subst (λ (es : List Event). Performs es (g.D.Device.trace c.args.self.now.config.device) (g.D.Device.trace c.write_buffer.new.self.config.device)) (its_calls g c) c.write_buffer.ensures.at_most
+
+pub returns-clause-ledger : goal.returns-clause-ledger
+returns-clause-ledger g c =
+    let old = c.args.self.now in
+    let size : ℕ = segment_size_of old in
+    let r = c.ready_at-n.ensures.ready in
+    let one = c.ready_at-n.ensures.one r.segment r.among in
     on_ok c.write_buffer.result _ _
-    (λ is. is ∙ ap (λ (m : Option ℤ). written_account m (account_of old)) (sym one.2)
-    ∙ ap (λ (l : List BufferAt). account_behind l (account_of old)) (sym one.1))
-    (c.write_buffer.ensures.account r.segment r.among)
+    (λ is. is ∙ ap (λ (m : Option ℤ). written_ledger size m (ledger_of old)) (sym one.2) ∙ ap (λ (l : List BufferAt). ledger_behind size l (ledger_of old)) (sym one.1))
+    (c.write_buffer.ensures.ledger r.segment r.among)
