@@ -37,6 +37,7 @@ pub mod KeptCalls
 pub mod KeptReads
 pub mod Last
 pub mod LeftShown
+pub mod LeftWrites
 pub mod LineEnds
 pub mod LineHides
 pub mod LogReserves
@@ -63,6 +64,7 @@ pub mod OpenManifests
 pub mod OpenPlaces
 pub mod OpenSeen
 pub mod Outcomes
+pub mod OwnSlots
 pub mod PlacedWrite
 pub mod Places
 pub mod Positions
@@ -84,6 +86,7 @@ pub mod Segments
 pub mod Settles
 pub mod Shifts
 pub mod Shown
+pub mod ShownParts
 pub mod ShownWrite
 pub mod Shows
 pub mod Slots

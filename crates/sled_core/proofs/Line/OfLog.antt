@@ -1,34 +1,22 @@
 -- What is read of the device of a log that fits a history is the log's own, as long as the log keeps no failure.
-use Rattle.std.proofs.Common.{◌≡◌, ◌∙◌, ◌*◌, ◌/◌, ℕ, zero, suc, List, [], ◌∷◌, None, Some, refl, sym, ap, subst, arith, inl, inr}
-use Rattle.std.specs.List.{Contains, slice_get}
+use Rattle.std.proofs.Common.{◌≡◌, ◌∙◌, ℕ, List, None, refl, sym, ap, subst}
 use Rattle.sled_codec.specs.History.{History, Message}
 use Rattle.sled_store.specs.Device.{LogState, State, Trace, at_rest, state_of}
-use Rattle.sled_store.specs.Foreign.{HeaderWasPlaced, NoForeignLog, RecordWasPlaced}
-use Rattle.sled_store.proofs.Segments.Elements.{in_cases, in_nothing}
+use Rattle.sled_store.specs.Foreign.{NoForeignLog}
 use Rattle.sled_core.specs.Begun.{SegmentView, segment_view}
 use Rattle.sled_core.specs.declared.logger.Log.{Log}
 use Rattle.sled_core.specs.inside.Fits.{HoldsLine}
 use Rattle.sled_core.specs.Fits.{device_of, fault_of, line_of, machine_at, noted_in, segment_size_of}
 use Rattle.sled_core.specs.Logged.{logged}
-use Rattle.sled_core.specs.inside.OwnLog.{HasOwnSlot, IsOwnSegment, ReadsPlaced}
+use Rattle.sled_core.specs.inside.OwnLog.{ReadsPlaced}
 use Rattle.sled_core.specs.Recoverable.{NoHeaderOfZeros, ReadsOnlyOwn}
 use Rattle.sled_core.specs.invariants.Running.{Fits}
 use Rattle.sled_core.specs.inside.Running.{FitsWith}
 use Rattle.sled_core.proofs.Line.Ends.{line_holds, with_part}
-use Rattle.sled_core.proofs.Holds.Facts.{IsSegment}
-use Rattle.sled_core.proofs.Line.Segments.{line_segments, nth_segment}
+use Rattle.sled_core.proofs.Line.OwnSlots.{reads_placed as slots_placed}
+use Rattle.sled_core.proofs.Line.Segments.{line_segments}
 use Rattle.sled_core.proofs.Line.Shown.{fits_real}
-use Rattle.sled_core.proofs.Line.WrittenSlots.{headers_line}
-use Rattle.sled_core.proofs.OwnLog.AllSlots.{all_slots, header_own, record_own}
 use Rattle.sled_core.proofs.OwnLog.NoneForeign.{none_foreign}
-use Rattle.sled_core.proofs.OwnLog.SlotOfSegment.{slot_of_segment}
-use Rattle.sled_core.proofs.Reserve.Entries.{all_long}
-use Rattle.sled_core.proofs.Reserve.Ranges.{at_there}
-
--- where one of these segments stands among them
-its_number : (line : List SegmentView) (v : SegmentView) → Contains line v → (n : ℕ) × (slice_get line n ≡ Some v)
-its_number [] v there = absurd (in_nothing v there)
-its_number (x ∷ xs) v there = elim (in_cases x v xs there) [ inl is ↦ (zero, ap Some is) | inr rest ↦ (let found = its_number xs v rest in (suc found.0, found.1)) ]
 
 -- a log file all of which is settled is at rest
 rests : (l : LogState) (bytes : List ℕ) → l ≡ at_rest bytes → l ≡ at_rest l.bytes
@@ -42,35 +30,13 @@ module _ {D C : Type 0} (sum : List ℕ → ℕ) (log : Log D C) (H : History) (
   abbrev line : List SegmentView
   line = line_of log
 
-  abbrev Header : ℕ → List ℕ → Type 0
-  Header = HeaderWasPlaced state.placed
-
-  abbrev Own : ℕ → ℕ → List ℕ → Type 0
-  Own = RecordWasPlaced sum size state.placed
-
   module _ (fits : FitsWith sum (noted_in log) size state log.fault.kept line (machine_at log) log.pins H A f U) (none : log.fault.kept ≡ None) (zeros : NoHeaderOfZeros sum) where
     holds : HoldsLine sum size state log.fault.kept line (logged H)
     holds = line_holds sum size state log.fault.kept line fits.reach log.pins H A f U fits.parts
 
-    -- A slot in which one of its segments lies.
-    slot_at_nth : (n : ℕ) (v : SegmentView) → slice_get line n ≡ Some v → (slot : ℕ) → v.parts.site.slot ≡ slot * size → HasOwnSlot sum size Header Own state.log.bytes slot
-    slot_at_nth n v there slot lies =
-        let is : IsSegment size v.parts.site.place v = nth_segment size log.segments.first.site.place line (line_segments log) n v there in
-        let least = log.config.config.least in
-        with_part sum size state log.fault.kept line n v (logged H) holds there (λ stays its segment.
-        slot_of_segment sum size Header Own zeros (omega (arith, least)) state.log.bytes v.parts.site slot v.parts.written_len v.parts.reserved v.parts.sealed v.parts.bytes lies is.fresh is.are
-        (all_long sum size (v.parts.site.place / size) v.parts.bytes v.parts.reserved segment.records.stand) (segment.laid none) (λ some. headers_line sum size state log.fault.kept none line n v (logged H) holds there some)
-        (at_there (λ (u : SegmentView). IsOwnSegment sum size Header Own state.log.bytes u.parts.site u.parts.written_len u.parts.sealed) line n v there (fits.own none zeros).segments))
-
-    -- Each slot.
-    every_slot : (slot : ℕ) → HasOwnSlot sum size Header Own state.log.bytes slot
-    every_slot = all_slots sum size Header Own state.log.bytes line (fits.own none zeros) (λ v among slot lies. let at = its_number line v among in slot_at_nth at.0 v at.1 slot lies)
-
     pub reads_placed : ReadsPlaced sum size state
-    reads_placed slot = record {
-      header = header_own sum size Header Own state.log.bytes slot (every_slot slot);
-      records = record_own sum size Header Own state.log.bytes slot (every_slot slot);
-    }
+    reads_placed = slots_placed sum size log.config.config.least zeros state log.fault.kept none log.segments.first.site.place line (line_segments log)
+        (logged H) holds (fits.own none zeros)
 
     -- The log file is settled.
     settled : state.log ≡ at_rest state.log.bytes
