@@ -91,6 +91,7 @@ pub mod ShownWrite
 pub mod Shows
 pub mod Slots
 pub mod Spans
+pub mod StandsThere
 pub mod Targets
 pub mod TicketEnds
 pub mod TornLine

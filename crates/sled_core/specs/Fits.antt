@@ -290,8 +290,6 @@ pub record IsKept (sum : List ℕ → ℕ) (size : ℕ) (site : SegmentPosition)
   pub inside : from ≤ size
   pub begun : IsBegunFrom sum size device.snapshots.file site from H
   pub on_device : IsOnDevice sum size device.log site from H.messages (StaysFrom H (stable_place begun.first.stable))
-  -- the rest of the segment has zeros
-  pub clean : AreZeros device.log.bytes (site.slot + from) (site.slot + size)
 
 -- all that a log holds is on its device, and settled: the history as the log has it
 abbrev pub IsWritten : {D C : Type 0} → (D → Trace) → (List ℕ → ℕ) → Log D C → History → Type 0
