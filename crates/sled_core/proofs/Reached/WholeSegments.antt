@@ -103,7 +103,7 @@ module _ (sum : List ℕ → ℕ) (size : ℕ) (log : List ℕ) (some : 256 ≤ 
       by room parts Broken leads caps broken = leads refl
 
     -- So where it leads on each message of it is reached.
-    whole_found : t.why ≢ Broken → IsWholeSegment sum size log H t.segment.slot t.segment.place
+    pub whole_found : t.why ≢ Broken → IsWholeSegment sum size log H t.segment.slot t.segment.place
     whole_found leads = record {
       mark = t.segment.mark;
       found = let its = t_found in record { slot = its.slot; header = its.header; not_below = omega arith };
