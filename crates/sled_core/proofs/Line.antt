@@ -57,7 +57,6 @@ pub mod Noted
 pub mod NthOpen
 pub mod NumbersKept
 pub mod NumbersWritten
-pub mod OfLog
 pub mod OlderSlots
 pub mod OpenBetween
 pub mod OpenManifests

@@ -119,6 +119,6 @@ module _ (sum : List ℕ → ℕ) (H : History) (A less f lower : ℕ) (U : List
       numbers = fits.shows.numbers;
       in_slots = fits.shows.in_slots;
     };
-    file = fits.file;
+    rests = fits.rests;
     hides = fits.hides;
   }

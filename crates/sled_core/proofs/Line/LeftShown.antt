@@ -44,7 +44,7 @@ module _ (sum : List ℕ → ℕ) (noted : List Batch) (size : ℕ) (big : 256 �
       let among = file_among sum noted size big device fault whole zeros m pins H A f U v vs here fits.shows in
       rest_recovers sum size big device m line first 0 (logged H) (fits.hides whole zeros first its.holds.begun.begins)
       (file_reads sum noted size big device fault whole zeros m pins H A f U v vs here fits.shows) (line_end size line) fits.shows.slots.own file
-      among.stands.ordering among.stands.numbers among.stands.marks (omega arith) H (logged_twice H) (fits.file.rests whole)
+      among.stands.ordering among.stands.numbers among.stands.marks (omega arith) H (logged_twice H) (fits.rests whole)
       (λ k p mark header. refl) (shown size fault m line device) (shown_rests size fault m line device whole) refl refl
       (λ slot. own_read sum size (HeaderWasPlaced device.placed) (RecordWasPlaced sum size device.placed) file slot
       (file_own sum noted size big device fault whole zeros m pins H A f U v vs here fits.shows slot))

@@ -82,7 +82,7 @@ module _ (sum : List ℕ → ℕ) (noted left : List Batch) (size : ℕ) (big : 
             (λ fresh. let mark = segment.records.header fresh in
             (mark.mark, buffer_header sum u.parts.site u.parts.bytes (record { messages = own; batches = (logged H).batches }) mark (omega (arith, small))))
             (line_reads sum left size big synced None refl zeros m pins H A f U behind (promoted size (set (v ∷ vs) n (written_now k u))) l_left then.shows)
-            (its.file.rests whole) (omega arith) H (logged_twice H) (logged H) f parts.named.names (stable_below its.shows.reach H.batches) f
+            (its.rests whole) (omega arith) H (logged_twice H) (logged H) f parts.named.names (stable_below its.shows.reach H.batches) f
             (then.hides refl zeros first parts.holds.begun.begins)
             (reads_placed sum size big zeros (shown size None m (promoted size (set (v ∷ vs) n (written_now k u))) synced) None refl behind
             (promoted size (set (v ∷ vs) n (written_now k u))) l_left (logged H)

@@ -30,7 +30,7 @@ use Rattle.sled_core.specs.inside.Begun.{first_place, line_end}
 use Rattle.sled_core.specs.inside.Cleared.{is_stale}
 use Rattle.sled_core.specs.inside.FreeSlots.{HasSlots}
 use Rattle.sled_core.specs.inside.OwnLog.{HasPlacedFile, IsOwnFile}
-use Rattle.sled_core.specs.inside.Shown.{IsAsShown, shown}
+use Rattle.sled_core.specs.inside.Shown.{shown}
 use Rattle.sled_core.specs.Recoverable.{LeavesRecoverable, NoHeaderOfZeros}
 use Rattle.sled_core.specs.inside.Lasting.{LeavesRecovering}
 use Rattle.sled_core.specs.invariants.Running.{Fits}
@@ -53,7 +53,7 @@ use Rattle.sled_core.proofs.Line.Promotes.{end_promoted, holds_promoted}
 use Rattle.sled_core.proofs.Holds.Facts.{nth_facts}
 use Rattle.sled_core.proofs.Line.Fillings.{log_recorded}
 use Rattle.sled_core.proofs.Line.Segments.{AreSegments, filled_promoted, filled_written, follow_segments, line_segments, promoted_waits, run_written, segments_promoted, set_segment, written_segment}
-use Rattle.sled_core.proofs.Line.ShownWrite.{fits_moved, holds_moved, shown_written, written_as_shown}
+use Rattle.sled_core.proofs.Line.ShownWrite.{fits_moved, holds_moved, shown_written}
 use Rattle.sled_core.proofs.Line.Writes.{along_write, buffer_begin, buffer_bytes, buffer_calls, buffer_synced, calls_are, fits_write, holds_write, passes_line, slots_write}
 use Rattle.sled_core.proofs.Line.WrittenSlots.{whole_write}
 use Rattle.sled_core.proofs.Line.NeededSlots.{newest_stable, slots_at}
@@ -170,9 +170,6 @@ module _ {D C : Type 0} (log : Log D C) (n k : ℕ) (r : IsReadyIn (line_of log)
     calls : write_in line n k ≡ buffer_calls sum size log.config.config.least sees log.fault.kept whole v k r.buffer r.there r.ready
     calls = calls_are sum size log.config.config.least sees log.fault.kept whole v k r.buffer r.there r.ready line n r.among
 
-    abbrev File : Type 0
-    File = IsAsShown size log.fault.kept slots line device.log
-
     -- Made or not, they leave blobs and snapshots as they were.
     pub names : (new : Trace) → Performs (write_in line n k) before new → ((state_of new).blobs ≡ device.blobs) × ((state_of new).snapshots ≡ device.snapshots)
     names new came =
@@ -200,15 +197,11 @@ module _ {D C : Type 0} (log : Log D C) (n k : ℕ) (r : IsReadyIn (line_of log)
     slots_behind now has =
         slots_write sum size log.config.config.least sees log.fault.kept whole v k r.buffer r.there r.ready log.segments.first.site.place line (line_segments log) n r.among slots now has
 
-    module _ (has : HasSlots size line sees.log.bytes log.fault.kept slots) (file : File) where
-      -- The log file that is shown is written over with the same bytes.
-      same_log : (now : Option IoError) → now ≡ None → (shown size now slots line_left behind_calls).log ≡ sees_behind.log
-      same_log now none = shown_written sum size log.config.config.least device log.fault.kept whole v k r.buffer r.there r.ready
-          log.segments.first.site.place line (line_segments log) n r.among slots sees.log.bytes has now none
-
-      shown_after : (now : Option IoError) → IsAsShown size now slots line_left behind_calls.log
-      shown_after now = written_as_shown sum size log.config.config.least device log.fault.kept whole v k r.buffer r.there r.ready
-          log.segments.first.site.place line (line_segments log) n r.among slots sees.log.bytes has now file
+    -- The log file that is shown is written over with the same bytes.
+    same_log : HasSlots size line sees.log.bytes log.fault.kept slots → (now : Option IoError) → now ≡ None
+        → (shown size now slots line_left behind_calls).log ≡ sees_behind.log
+    same_log has now none = shown_written sum size log.config.config.least device log.fault.kept whole v k r.buffer r.there r.ready
+        log.segments.first.site.place line (line_segments log) n r.among slots sees.log.bytes has now none
 
     -- Made or not, in the slots nothing that is the log's own has a greater number.
     abbrev Numbered : State → Type 0
@@ -241,7 +234,7 @@ module _ {D C : Type 0} (log : Log D C) (n k : ℕ) (r : IsReadyIn (line_of log)
       sees_now = shown size None slots line_left behind_calls
 
       log_now : sees_now.log ≡ sees_behind.log
-      log_now = same_log has fits.file None (λ i. None)
+      log_now = same_log has None (λ i. None)
 
       -- (what was placed is so by what was placed on the device itself)
       own_behind : NoHeaderOfZeros sum → HasPlacedFile sum size sees_now line_left
@@ -249,7 +242,7 @@ module _ {D C : Type 0} (log : Log D C) (n k : ℕ) (r : IsReadyIn (line_of log)
           subst (λ (l : LogState). IsOwnFile sum size (HeaderWasPlaced behind_calls.placed) (RecordWasPlaced sum size behind_calls.placed) l.bytes line_left)
           (sym log_now)
           (placed_left sum size log.config.config.least sees log.fault.kept whole v k r.buffer r.there r.ready log.segments.first.site.place line
-          (line_segments log) n r.among slots has (logged H) held zeros (fits.shows.own whole zeros) before (fits.file.rests whole) refl
+          (line_segments log) n r.among slots has (logged H) held zeros (fits.shows.own whole zeros) before (fits.rests whole) refl
           (ap length (shown_bytes size log.fault.kept slots line device whole) ∙ zeroed_long (is_stale size slots line) device.log.bytes))
 
       numbers_after : NoHeaderOfZeros sum → HasNumbers sum size 0 sees_now slots (line_end size line_left)
@@ -278,7 +271,7 @@ module _ {D C : Type 0} (log : Log D C) (n k : ℕ) (r : IsReadyIn (line_of log)
               (stable_below after.0 H.batches)
               (λ zeros. newest_stable sum size _ None (λ i. None) line_left after.0 log.pins H A f U after.1 zeros first begins);
         };
-        file = shown_after has fits.file None;
+        rests = λ none. refl;
         hides = λ none zeros. hides_behind sum (noted_in log) size log.config.config.least device log.fault.kept whole zeros slots log.pins H A f U
             log.segments.first.site.place line (line_segments log) fits.shows (fits.hides whole zeros) n v r.among k r.buffer r.there r.ready;
       }
@@ -350,10 +343,10 @@ module _ {D C : Type 0} (log : Log D C) (n k : ℕ) (r : IsReadyIn (line_of log)
                 (holds_write sum size log.config.config.least sees log.fault.kept whole v k r.buffer r.there r.ready log.segments.first.site.place line
                 (line_segments log) n r.among (logged H) holds.shows.holds));
             batches = batches_after (logged H) holds.shows.batches;
-            slots = subst (λ (l : LogState). HasSlots size line_left l.bytes log.fault.kept slots) (sym (same_log has holds.file log.fault.kept whole))
+            slots = subst (λ (l : LogState). HasSlots size line_left l.bytes log.fault.kept slots) (sym (same_log has log.fault.kept whole))
                 (slots_behind log.fault.kept has);
           };
-          file = shown_after has holds.file log.fault.kept;
+          rests = λ none. refl;
         }))
 
     pub fits_done : (new : Trace) → new ≡ after_all (write_in line n k) before → (now : Option IoError) → now ≡ None → (H : History) (A f : ℕ)

@@ -173,7 +173,7 @@ module _ {D C : Type 0} (trace : D → Trace) (sum : List ℕ → ℕ) (log : Lo
 pub all_written : {D C : Type 0} (trace : D → Trace) (sum : List ℕ → ℕ) (log : Log D C) → reserved_end log ≤ synced_end log → fault_of log ≡ None → (H : History) → Holds trace sum log H → IsWritten trace sum log H
 unfolding Holds
 all_written trace sum log all whole H holds =
-    all_there trace sum log all H (holds.file.rests whole)
+    all_there trace sum log all H (holds.rests whole)
     (subst (λ (o : Option IoError). HoldsWith sum (noted_in log) (segment_size_of log)
     (shown (segment_size_of log) o (machine_at log) (line_of log) (state_of (trace (device_of log)))) o (line_of log) (machine_at log) (logged H))
     whole holds.shows)

@@ -1,4 +1,4 @@
--- A buffer is written and synced: what is shown is written over with the same bytes, and the file is as shown still.
+-- A buffer is written and synced: what is shown is written over with the same bytes, and what is held and fitted over the one is so over the other.
 use Rattle.std.specs.declared.io.Error.{Error as IoError}
 use Rattle.std.proofs.Common.{◌≡◌, ◌∙◌, ◌+◌, ◌≤◌, ℕ, suc, true, List, ◌∷◌, length, set, take, drop, Option, Some, None, refl, sym, ap, subst, arith}
 use Rattle.std.specs.List.{slice_get}
@@ -16,7 +16,7 @@ use Rattle.sled_core.specs.inside.FreeSlots.{HasSlot, HasSlots}
 use Rattle.sled_core.specs.inside.Lasting.{LeavesRecovering}
 use Rattle.sled_core.specs.inside.Running.{FitsLine}
 use Rattle.sled_core.specs.inside.SealedBuffers.{is_ready}
-use Rattle.sled_core.specs.inside.Shown.{IsAsShown, shown, shown_log}
+use Rattle.sled_core.specs.inside.Shown.{shown, shown_log}
 use Rattle.sled_core.specs.inside.Turned.{promoted, written_now}
 use Rattle.sled_core.proofs.Blobs.Over.{fits_line_over, line_over, with_rest}
 use Rattle.sled_core.proofs.Blobs.StaysOwn.{own_same}
@@ -80,13 +80,6 @@ module _ (sum : List ℕ → ℕ) (size : ℕ) (big : 256 ≤ size) (device : St
     by None is None was = ap at_rest (cleared_behind device.log.bytes)
     by None is (Some e) was = cc
     by (Some e) is p was = cc
-
-  -- and the file is as shown.
-  pub written_as_shown : (now : Option IoError) → IsAsShown size fault m line device.log → IsAsShown size now m left after.log
-  written_as_shown now file = record {
-    rests = λ none. refl;
-    same = λ none. cleared_behind device.log.bytes ∙ ap (λ (l : List ℕ). overwritten l at bytes) (file.same whole);
-  }
 
   module _ (now : Option IoError) (none : now ≡ None) where
     abbrev pub shown_now : State

@@ -86,7 +86,7 @@ returns-clause-history g c = λ H m holds awaits.
     let real = put_real (HoldsWith g.C.Checksum.sum_of (noted_in old) old.config.config.segment_size (shown_of g.D.Device.trace old) old.fault.kept _ (machine_of old.accountant)) H m done.0 (subst (λ (x : Message). AddsMessage (logged H) x done.0) (sym awaits.message) done.1) done.2 in (
       real.0,
       real.1,
-      ticket_holds e c.complete_in.ensures.rest g.D.Device.trace g.C.Checksum.sum_of real.0 holds.file real.2,
+      ticket_holds e c.complete_in.ensures.rest g.D.Device.trace g.C.Checksum.sum_of real.0 holds.rests real.2,
     )
 
 pub returns-clause-fits : goal.returns-clause-fits
@@ -104,7 +104,7 @@ returns-clause-fits g c = λ H A f U m fits awaits stored may out.
     (apart_ascends H.messages (fits_apart g.D.Device.trace g.C.Checksum.sum_of old H A f U fits)) fits.shows.account.outdated m may) (sym its.own.manifest ∙ c.requires.message) old.pins H A f U old.config.config.least c.in_default.is out fits.shows in (
       done.0,
       done.1,
-      ticket_fits e c.complete_in.ensures.rest g.D.Device.trace g.C.Checksum.sum_of H done.0 A f _ fits.hides fits.file done.2,
+      ticket_fits e c.complete_in.ensures.rest g.D.Device.trace g.C.Checksum.sum_of H done.0 A f _ fits.hides fits.rests done.2,
     )
 
 -- Other tickets stay, and nothing else changes.
