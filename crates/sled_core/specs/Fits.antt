@@ -31,7 +31,7 @@ use Rattle.sled_core.specs.Logged.{in_log, logged}
 use Rattle.sled_core.specs.OpenBatches.{batch_of, not_whole, stable_below}
 use Rattle.sled_core.specs.OpenPlaces.{open_places_along}
 use Rattle.sled_core.specs.Positions.{Position, behind_record, is_short, placed_at, lid_at, position_in, size_at}
-use Rattle.sled_core.specs.SealedBuffers.{AreZeros, sealed_count}
+use Rattle.sled_core.specs.SealedBuffers.{sealed_count}
 use Rattle.sled_core.specs.Tickets.{index_of, IsFor}
 use Rattle.sled_core.specs.Waiting.{BufferAt, BufferStart, at_last, buffers_in, closed_now, held_below, last_of, pending_in, spans, start_in, unwritten}
 use Rattle.sled_core.specs.Waiting.{write_pending, writes_below}

@@ -20,7 +20,6 @@ use Rattle.sled_core.specs.inside.LogFile.{StaysBelow}
 use Rattle.sled_core.proofs.Reached.Marks.{less_than}
 use Rattle.sled_core.proofs.Reserve.Entries.{some_in}
 use Rattle.sled_core.proofs.Reserve.Ranges.{chain_grows}
-use Rattle.sled_core.specs.SealedBuffers.{AreZeros}
 
 -- The snapshot is the same, and more of the log is settled.
 abbrev pub begun-more : (sum : List ℕ → ℕ) (size : ℕ) (snapshots snapshots' : ℤ → Option (List ℕ)) (site : SegmentPosition) (from from' : ℕ) (H : History) → snapshots' ≡ snapshots → from ≤ from'

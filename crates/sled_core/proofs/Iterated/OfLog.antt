@@ -1,5 +1,5 @@
 -- What stands in the file of a log that fits a history is what an iterator of it asks for: what the log shows of its segments, up to the stable end.
-use Rattle.std.proofs.Common.{◌≡◌, ◌⊎◌, ◌∙◌, ◌+◌, ◌*◌, ◌/◌, ◌%◌, ◌^◌, ◌<◌, ◌≤◌, ℕ, suc, ℤ, pos, false, List, [], ◌∷◌, map, length, None, Some, refl, sym, ap, subst, arith, inl, inr}
+use Rattle.std.proofs.Common.{◌≡◌, ◌⊎◌, ◌∙◌, ◌+◌, ◌*◌, ◌/◌, ◌^◌, ◌<◌, ◌≤◌, ℕ, suc, ℤ, pos, false, List, [], ◌∷◌, map, length, None, Some, refl, sym, ap, subst, arith, inl, inr}
 use Rattle.std.specs.List.{Contains, slice_get}
 use Rattle.std.proofs.Math.Nat.{mul-mod_left, suc-mul}
 use Rattle.std.proofs.lemmas.Bool.{cases_order}
@@ -133,7 +133,9 @@ module _ {D C : Type 0} (trace : D → Trace) (sum : List ℕ → ℕ) (log : Lo
         omega (arith, under, same_end)
 
     apart_messages : LieApart H.messages
-    apart_messages = logged_apart H (whole_apart sum size log.segments.first.site sees None log.segments.first.buffer.bytes.items from log.segments.first.buffer.sealed.items log.segments.first.buffer.reserved.items (logged H) fits.parts.holds log.line.lies.in_segment)
+    apart_messages = logged_apart H
+        (whole_apart sum size log.segments.first.site sees None log.segments.first.buffer.bytes.items from log.segments.first.buffer.sealed.items
+        log.segments.first.buffer.reserved.items (logged H) fits.parts.holds log.line.lies.in_segment)
 
     -- A slot has the first one, or one that ends where that begins or below.
     older_or_first : (k : ℕ) → is_free (slot_at m k).state ≡ false → (slot_at m k).lsn < stable_end log
@@ -237,7 +239,9 @@ module _ {D C : Type 0} (trace : D → Trace) (sum : List ℕ → ℕ) (log : Lo
 
     -- each blob that is there passes for its message
     good : (n : Message) → Contains H.messages n → PassesIfThere sum state.blobs.file n n.pointer
-    good = (blobs_read sum state.blobs H (stable_below fits.reach H.batches) (fits.parts.items.blobs (firm_files sum state.blobs) (firm_leaves sum state.blobs) (firm_own sum state.blobs (fits.parts.named.own_names refl).of_blobs))).named
+    good = (blobs_read sum state.blobs H (stable_below fits.reach H.batches)
+        (fits.parts.items.blobs (firm_files sum state.blobs) (firm_leaves sum state.blobs)
+        (firm_own sum state.blobs (fits.parts.named.own_names refl).of_blobs))).named
 
     -- So an iterator that goes over the segments of the log gives its messages.
     pub gives_messages : (lsn : ℤ) (it : LogIter D C) → GoesOver trace sum log lsn it → GivesMessages trace sum log H lsn it

@@ -1,5 +1,5 @@
--- An iterator over the segments of a log gives the messages of its history up to the iterator's end, but for those whose segment is gone and those whose blob is
--- missing, and doesn't end at damage.
+-- An iterator over the segments of a log gives the messages of its history up to the iterator's end, but for those whose segment is gone and those whose blob
+-- is missing, and doesn't end at damage.
 use Rattle.std.proofs.Common.{⊎_elim, ◌≡◌, ◌≢◌, ◌⊎◌, ◌∙◌, ◌+◌, ◌*◌, ◌/◌, ◌%◌, ◌^◌, ◌<◌, ◌≤◌, ℕ, ℤ, pos, true, false, List, [], ◌∷◌, ◌++◌, map, Option, None, Some, IfNone, refl, sym, ap, subst, arith, inl, inr}
 use Rattle.std.specs.List.{Contains}
 use Rattle.std.proofs.Math.Nat.{mul-mod_left}
@@ -174,7 +174,9 @@ module _ (sum : List ℕ → ℕ) (size : ℕ) (log : List ℕ) (some : 256 ≤ 
               (λ mine. let of = is.of n mine in (of.0, of.3, of.4, (s, in_first s ss, (own_below n mine).1)))
               (λ later. let of = are.of n later in (of.0, of.1, of.2, (of.3.0, in_rest s of.3.0 ss of.3.1, of.3.2)))
               (Contains-append_cases own L n there);
-          ascends = append_ascends own L (s.place + size) is.ascends are.ascends (all_from_in (λ n. n.place < s.place + size) own (λ n there. (own_below n there).0)) (all_from_in (λ n. s.place + size ≤ n.place) L rest_above);
+          ascends = append_ascends own L (s.place + size) is.ascends are.ascends
+              (all_from_in (λ n. n.place < s.place + size) own (λ n there. (own_below n there).0))
+              (all_from_in (λ n. s.place + size ≤ n.place) L rest_above);
           all = λ u n there known_n lies under blob. ⊎_elim
               (λ same.
               let x = r.has n known_n (lies ∙ ap (λ (y : Segment). y.place) (sym same)) under in
@@ -273,7 +275,8 @@ module _ (sum : List ℕ → ℕ) (size : ℕ) (log : List ℕ) (some : 256 ≤ 
         aligned = ap (λ n. n % size) place ∙ aligned;
         below = below;
         header = (header.0, subst (λ n. IsHeader sum (part log n 20) (pos s.place) header.0) (sym slot) (subst (λ p. IsHeader sum (part log (k * size) 20) (pos p) header.0) (sym place) header.1));
-        reads = subst (λ n. IsReadHere sum size log H end n s.place) (sym slot) (subst (λ p. IsReadHere sum size log H end (k * size) p) (sym place) (slots.reads k of.taken low));
+        reads = subst (λ n. IsReadHere sum size log H end n s.place) (sym slot)
+            (subst (λ p. IsReadHere sum size log H end (k * size) p) (sym place) (slots.reads k of.taken low));
       }
 
   -- An iterator gives the messages of the history that are on file.

@@ -157,11 +157,17 @@ module _ (sum : List ℕ → ℕ) (size : ℕ) (log : List ℕ) (end slot place 
         second_case (stops end n) ((items ≡ []) × (damage ≡ None)) (Left IsNothing n ms items damage) (Left others n ns items damage)
         (λ end_not left. elim left [
           | inl bad ↦ inl bad
-          | inr on ↦ inr (on.0, (on.1.0, on.1.1,
+          | inr on ↦ inr (
+            on.0,
+            (
+              on.1.0,
+              on.1.1,
               gives_further (at + n.len) ms stop (subst (λ k. Path k ms stop) len path.3) far ns next other.3
-              (shut end n ns (((x : ScannedRecord) → next + 32 ≤ size → IsMet sum size log (slot + next) (place / size) x → ⊥)
-              × (end ≤ place + next → others [] None)) (no_stop end n end_not) ends)
-              on.1.0 damage on.1.2))
+                  (shut end n ns (((x : ScannedRecord) → next + 32 ≤ size → IsMet sum size log (slot + next) (place / size) x → ⊥)
+                  × (end ≤ place + next → others [] None)) (no_stop end n end_not) ends)
+                  on.1.0 damage on.1.2,
+            ),
+          )
         ])
         here
 
@@ -206,9 +212,12 @@ module _ (sum : List ℕ → ℕ) (size : ℕ) (log : List ℕ) (end : ℕ) (s :
   damaged_further d =
       gives_further sum size log end s.slot s.place blobs (EndsAt end (s.place + d.next)) 20 ms stop path far d.met d.next d.path
       (if_none_so (open_at end d.met) _ (λ none. (
-      λ m room met. met_formed sum size log (s.slot + d.next) (s.place / size) m met d.damaged,
-      λ behind. (refl, sym (ap (λ (b : Bool). if b then Some None else None) (let test : nat_lt (s.place + d.next) end ≡ false =
-      grind (arith, nat_tests, behind) in test))),
+        λ m room met. met_formed sum size log (s.slot + d.next) (s.place / size) m met d.damaged,
+        λ behind. (
+          refl,
+          sym (ap (λ (b : Bool). if b then Some None else None) (let test : nat_lt (s.place + d.next) end ≡ false =
+              grind (arith, nat_tests, behind) in test)),
+        ),
       ))) items damage gives
 
   pub replayed_further : (x : Scanned) → x.segment ≡ s → IsReplayed sum size log end x → (on : List Item → Damage → Type 0) → on [] None
@@ -218,7 +227,7 @@ module _ (sum : List ℕ → ℕ) (size : ℕ) (log : List ℕ) (end : ℕ) (s :
       × IfNone (open_at end x.met) (IsEnd sum size log t.slot t.place x.stop x.why)) at read in
       gives_further sum size log end s.slot s.place blobs on 20 ms stop path far x.met x.stop there.0
       (if_none_so (open_at end x.met) _ (λ none. (
-      λ m room met. no_end_at sum size log s.slot s.place x.stop m x.why room met
-      (subst (λ (o : Option ℕ). IfNone o (IsEnd sum size log s.slot s.place x.stop x.why)) none there.1),
-      λ behind. nothing,
+        λ m room met. no_end_at sum size log s.slot s.place x.stop m x.why room met
+            (subst (λ (o : Option ℕ). IfNone o (IsEnd sum size log s.slot s.place x.stop x.why)) none there.1),
+        λ behind. nothing,
       ))) items damage gives

@@ -35,7 +35,7 @@ use Rattle.sled_core.proofs.Cleared.Calls.{cleared_ended}
 use Rattle.sled_core.proofs.Cleared.Shown.{ShowsSame}
 use Rattle.sled_core.proofs.Line.KeptCalls.{goes_on_quietly}
 use Rattle.sled_core.proofs.Line.Moves.{holds_as}
-use Rattle.sled_core.proofs.Line.Shown.{fits_shown, holds_shown}
+use Rattle.sled_core.proofs.Line.Shown.{fits_shown}
 use Rattle.sled_core.proofs.Line.LineEnds.{end_set}
 use Rattle.sled_core.proofs.Numbers.HidesAs.{from_as}
 use Rattle.sled_core.proofs.Line.LineEnds.{kept_same, noted_later, noted_same}

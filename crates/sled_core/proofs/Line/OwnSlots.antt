@@ -1,7 +1,7 @@
 -- In each slot of the log file that segments hold a history over, all that is read is the log's own, where it is so of what is written of them and of the
 -- other slots.
 use Rattle.std.specs.declared.io.Error.{Error as IoError}
-use Rattle.std.proofs.Common.{◌≡◌, ◌≤◌, ◌*◌, ◌/◌, ℕ, zero, suc, List, [], ◌∷◌, Option, None, Some, refl, ap, arith, inl, inr}
+use Rattle.std.proofs.Common.{◌≡◌, ◌≤◌, ◌*◌, ◌/◌, ℕ, zero, suc, List, [], ◌∷◌, Option, None, Some, ap, arith, inl, inr}
 use Rattle.std.specs.List.{Contains, slice_get}
 use Rattle.sled_codec.specs.History.{History}
 use Rattle.sled_store.specs.Device.{State}

@@ -102,8 +102,9 @@ module _ (sum : List ℕ → ℕ) (size : ℕ) (site : SegmentPosition) (log byt
   Between low high m = (site.place + low ≤ m.place) × (m.place < site.place + high) × (m.place + m.size ≤ site.place + high)
 
   -- Each that was completed, of a buffer that is written, stands in the file.
-  written_one : (from : ℕ) (rs : List Reserved) (bs : List Sealed) (end : ℕ) → AreSealed from rs bs → IsChain (max 20 from) rs end → All (Stands sum size number bytes) rs → EndsRise from bs end → end ≤ size
-      → StandWritten log site.slot bytes from bs → (m : Message) → Contains (completed_in site bytes rs) m → written_around (m.place - site.place) bs ≡ true → StandsOwn sum size log site end m
+  written_one : (from : ℕ) (rs : List Reserved) (bs : List Sealed) (end : ℕ) → AreSealed from rs bs → IsChain (max 20 from) rs end
+      → All (Stands sum size number bytes) rs → EndsRise from bs end → end ≤ size → StandWritten log site.slot bytes from bs → (m : Message)
+      → Contains (completed_in site bytes rs) m → written_around (m.place - site.place) bs ≡ true → StandsOwn sum size log site end m
   written_one from rs [] end are chain stand rise short laid m there is = let never : ⊥ = cc in absurd never
   written_one from rs (b ∷ bs) end are chain stand rise short laid m there is =
       let own : List Reserved = take b.count rs in
@@ -126,7 +127,8 @@ module _ (sum : List ℕ → ℕ) (size : ℕ) (site : SegmentPosition) (log byt
         | inr later ↦ (
             let lies = All-contains (Between b.end end) (completed_in site bytes more) m (completed_between site bytes b.end end more behind (some_long sum size number bytes more stand_more)) later in
             let far : nat_lt (m.place - site.place) b.end ≡ false = (let le : b.end ≤ m.place - site.place = omega (arith, lies.0) in grind (arith, nat_tests, le)) in
-            written_one b.end more bs end are.1 (subst (λ n. IsChain n more end) (sym (end_begun from own b are.0)) behind) stand_more rise.1 short laid.1 m later
+            written_one b.end more bs end are.1 (subst (λ n. IsChain n more end) (sym (end_begun from own b are.0)) behind) stand_more rise.1 short laid.1 m
+            later
             (sym (ap (λ (o : Bool). if o then b.is_written else written_around (m.place - site.place) bs) far) ∙ is))
       ]
 
@@ -199,8 +201,8 @@ module _ (sum : List ℕ → ℕ) (size : ℕ) (device : State) (to : ℕ) where
       → IsWrittenIn device.log.bytes log u.parts.site.slot u.parts.bytes u.parts.written_len u.parts.sealed
 
   module _ (log : List ℕ) where
-    its_record : (place : ℕ) (v : SegmentView) (vs : List SegmentView) → AreSegments size place (v ∷ vs) → AreFilled size to (v ∷ vs) → AreWrittenIn log (v ∷ vs)
-        → (H : History) {stays : Message → Type 0}
+    its_record : (place : ℕ) (v : SegmentView) (vs : List SegmentView) → AreSegments size place (v ∷ vs) → AreFilled size to (v ∷ vs)
+        → AreWrittenIn log (v ∷ vs) → (H : History) {stays : Message → Type 0}
         → HoldsSegment sum (log_parts size v.parts.site device None v.parts.bytes v.parts.written_len v.parts.sealed v.parts.reserved) stays H
         → (m : Message) → Contains H.messages m → v.parts.site.place ≤ m.place → m.place < end_of (v ∷ vs)
         → found m.place (unwritten (v ∷ vs)) ≡ None → (lid : ℕ) → m.pointer ≡ Inline lid → IsHeldAt sum size log lid m
@@ -224,8 +226,8 @@ module _ (sum : List ℕ → ℕ) (size : ℕ) (device : State) (to : ℕ) where
           | inl mine ↦ (
               let above = All-contains (λ x. place + 20 ≤ x.place) own m next.above mine in
               let at = are.0.at in
-              its_record place v [] are filled written (record { messages = own; batches = batches }) next.segment m mine (omega (arith, above, at)) lower none lid
-              pointer)
+              its_record place v [] are filled written (record { messages = own; batches = batches }) next.segment m mine (omega (arith, above, at)) lower none
+              lid pointer)
           | inr others ↦ absurd (in_nothing m (subst (λ (l : List Message). Contains l m) rest others))
         ]
     behind_record place (v ∷ w ∷ ws) are filled written stays batches ms (own, later, all, next, rest) m there lower none lid pointer =

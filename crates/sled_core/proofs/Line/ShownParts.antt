@@ -15,7 +15,7 @@ use Rattle.sled_core.specs.Logged.{logged}
 use Rattle.sled_core.specs.Recoverable.{NoHeaderOfZeros}
 use Rattle.sled_core.specs.inside.Cleared.{IsWrittenIn, StandWritten, cleared, is_stale}
 use Rattle.sled_core.specs.inside.Fits.{HoldsLine, begun_segment, parts_in}
-use Rattle.sled_core.specs.inside.FreeSlots.{HasSlot, HasSlots}
+use Rattle.sled_core.specs.inside.FreeSlots.{HasSlot}
 use Rattle.sled_core.specs.inside.Hides.{ReadsShown}
 use Rattle.sled_core.specs.inside.OwnLog.{HasOwnSlot}
 use Rattle.sled_core.specs.inside.Reached.{StandsAmong}
@@ -46,9 +46,11 @@ module _ (sum : List ℕ → ℕ) (size : ℕ) (some : 0 < size) (device : State
         long = sym (zeroed_long (is_stale size m line) file);
         front = front_shown size some m line file rises n v there (taken n v there) apart;
         stand = written_there size some m line file rises n v there (taken n v there) apart
-            (subst (λ (l : List ℕ). StandWritten l v.parts.site.slot v.parts.bytes v.parts.written_len v.parts.sealed) (shown_bytes size fault m line device whole)
+            (subst (λ (l : List ℕ). StandWritten l v.parts.site.slot v.parts.bytes v.parts.written_len v.parts.sealed)
+            (shown_bytes size fault m line device whole)
             (with_part sum size (shown size fault m line device) fault line n v H holds there (λ stays own segment.
-            (laid_parts (shown size fault m line device).log.bytes v.parts.site.slot v.parts.bytes v.parts.written_len v.parts.sealed size (segment.laid whole)).1)));
+            (laid_parts (shown size fault m line device).log.bytes v.parts.site.slot v.parts.bytes v.parts.written_len v.parts.sealed size
+            (segment.laid whole)).1)));
       }
 
 -- And so is what stays of earlier segments.
@@ -80,7 +82,8 @@ module _ (sum : List ℕ → ℕ) (noted : List Batch) (size : ℕ) (big : 256 �
   file_taken n u there = at_there (HasSlot size m) (v ∷ vs) n u there fits.slots.taken
 
   pub file_whole : AreWhole sum size file (logged H) v.parts.site.place m
-  file_whole = subst (λ (l : List ℕ). AreWhole sum size l (logged H) v.parts.site.place m) (shown_bytes size fault m (v ∷ vs) device whole) (fits.whole whole zeros)
+  file_whole =
+      subst (λ (l : List ℕ). AreWhole sum size l (logged H) v.parts.site.place m) (shown_bytes size fault m (v ∷ vs) device whole) (fits.whole whole zeros)
 
   pub file_among : StandsAmong sum size file v.parts.site v.parts.written_len (map begun_segment (map parts_in vs)) fits.reach (logged H)
       fits.parts.holds.begun.first

@@ -1,6 +1,6 @@
 -- A buffer is written and synced: what is shown is written over with the same bytes, and what is held and fitted over the one is so over the other.
 use Rattle.std.specs.declared.io.Error.{Error as IoError}
-use Rattle.std.proofs.Common.{◌≡◌, ◌∙◌, ◌+◌, ◌≤◌, ℕ, suc, true, List, ◌∷◌, length, set, take, drop, Option, Some, None, refl, sym, ap, subst, arith}
+use Rattle.std.proofs.Common.{◌≡◌, ◌+◌, ◌≤◌, ℕ, suc, true, List, ◌∷◌, length, set, take, drop, Option, Some, None, refl, sym, ap, subst, arith}
 use Rattle.std.specs.List.{slice_get}
 use Rattle.sled_codec.specs.History.{History, Message}
 use Rattle.sled_store.specs.Device.{LeavesLog, LogState, State, at_rest, overwritten}
@@ -129,5 +129,8 @@ module _ (sum : List ℕ → ℕ) (size : ℕ) (big : 256 ≤ size) (device : St
           names = named.names;
           own_names = λ ok. own_same sum sees_after (with_rest sees_after shown_now) refl refl (named.own_names ok);
         })
-        vs reach pins (λ items. items, λ was. subst (LeavesRecovering sum size H (stable_below reach H.batches) f) (sym moved)
-        (recovers_moved H (stable_below reach H.batches) f (line_leaves sum size sees_after later vs reach pins H A f U fits))) fits)
+        vs reach pins (
+          λ items. items,
+          λ was. subst (LeavesRecovering sum size H (stable_below reach H.batches) f) (sym moved)
+              (recovers_moved H (stable_below reach H.batches) f (line_leaves sum size sees_after later vs reach pins H A f U fits)),
+        ) fits)

@@ -1,16 +1,15 @@
 -- What stands in what is shown of a log file stands in the file itself: a record in what is written of a segment, and one of an earlier segment that stays,
 -- since no slot is free in which a record is shown.
 use Rattle.std.specs.declared.io.Error.{Error as IoError}
-use Rattle.std.proofs.Common.{◌≡◌, ◌⊎◌, ◌∙◌, ◌+◌, ◌*◌, ◌/◌, ◌%◌, ◌≤◌, ◌<◌, ℕ, zero, suc, pos, List, [], ◌∷◌, length, map, Option, Some, None, true, false, get_or, sym, ap, subst, arith, inl, inr}
+use Rattle.std.proofs.Common.{◌≡◌, ◌⊎◌, ◌+◌, ◌*◌, ◌/◌, ◌%◌, ◌≤◌, ◌<◌, ℕ, zero, suc, pos, List, [], ◌∷◌, length, map, Option, Some, None, get_or, sym, ap, subst, arith, inl, inr}
 use Rattle.std.specs.List.{slice_get}
 use Rattle.std.proofs.Math.Nat.{mul-mod_left}
 use Rattle.std.proofs.lemmas.Bool.{cases_Bool, cases_order}
 use Rattle.sled_codec.specs.declared.result.DiskPtr.TheVariants.{Inline}
 use Rattle.sled_codec.specs.History.{Batch, History, Message}
-use Rattle.sled_codec.specs.Places.{part}
 use Rattle.sled_codec.specs.Record.{IsHeader}
 use Rattle.sled_codec.specs.Snapshots.{stable_place}
-use Rattle.sled_store.specs.Device.{LogState, State}
+use Rattle.sled_store.specs.Device.{State}
 use Rattle.sled_store.specs.SegmentStates.{Machine, is_free, slot_at}
 use Rattle.sled_store.proofs.Segments.FilledLemmas.{slot_before}
 use Rattle.sled_core.specs.Begun.{SegmentView}
@@ -22,11 +21,10 @@ use Rattle.sled_core.specs.inside.FreeSlots.{HasSlot}
 use Rattle.sled_core.specs.inside.LogFile.{StaysBelow}
 use Rattle.sled_core.proofs.Behind.Begins.{apart_zeros}
 use Rattle.sled_core.proofs.Cleared.Moves.{part_same}
-use Rattle.sled_core.proofs.Cleared.Offsets.{Beside, LineRises, cleared_zeros, zeroed_beside, zeroed_long}
+use Rattle.sled_core.proofs.Cleared.Offsets.{Beside, LineRises, cleared_zeros, zeroed_beside}
 use Rattle.sled_core.proofs.Flush.FlushLemmas.{on_file}
 use Rattle.sled_core.proofs.Freed.ClearedShows.{none_stale}
-use Rattle.sled_core.proofs.Line.Segments.{AreSegments}
-use Rattle.sled_core.proofs.Tail.LogFileLemmas.{header_there, stands_some}
+use Rattle.sled_core.proofs.Tail.LogFileLemmas.{stands_some}
 use Rattle.sled_core.proofs.Tail.Moved.{message_moved}
 use Rattle.sled_core.proofs.Tail.Multiples.{put_down}
 

@@ -34,7 +34,8 @@ flush_fails T S _ held used old new before after free answers = absurd answers
 pub can_recover : {D C : Type 0} (trace : D → Trace) (sum : List ℕ → ℕ) (old new : Log D C) (device : D) (H : History) (A end f : ℕ) (U : List Message)
     → segment_size_of new ≡ segment_size_of old → trace device ≡ trace (device_of new)
     → trace device ≡ after_all (flushing sum old) (trace (device_of old))
-    → fault_of old ≡ None → CanRestart trace sum old H A f U → Fits trace sum new H end f U → CanRecover sum (segment_size_of old) (state_of (trace device)) H end f
+    → fault_of old ≡ None → CanRestart trace sum old H A f U → Fits trace sum new H end f U
+    → CanRecover sum (segment_size_of old) (state_of (trace device)) H end f
 can_recover trace sum old new device H A end f U size same came none can fits = record {
   orderly = can.orderly;
   left = subst (λ (t : Trace). LeavesRecoverable sum (segment_size_of old) H end f (state_of t)) (sym same)

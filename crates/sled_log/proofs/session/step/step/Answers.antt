@@ -1,6 +1,5 @@
 -- A command is refused, or carried out and told.
-use Rattle.std.proofs.Common.{ap, sym, subst}
-use Rattle.sled_store.specs.declared.config.Config.{Config}
+use Rattle.std.proofs.Common.{sym, subst}
 use Rattle.sled_log.specs.declared.session.command.Reply.{Reply}
 use Rattle.sled_log.specs.declared.session.command.Reply.TheVariants as reply
 use Rattle.sled_log.specs.Devices.{is_open}
