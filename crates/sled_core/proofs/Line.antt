@@ -40,6 +40,7 @@ pub mod KeptReads
 pub mod Last
 pub mod LedgerBehind
 pub mod LeftShown
+pub mod LeftWrites
 pub mod LineEnds
 pub mod LineHides
 pub mod LogReserves
@@ -59,13 +60,13 @@ pub mod Noted
 pub mod NthOpen
 pub mod NumbersKept
 pub mod NumbersWritten
-pub mod OfLog
 pub mod OlderSlots
 pub mod OpenBetween
 pub mod OpenManifests
 pub mod OpenPlaces
 pub mod OpenSeen
 pub mod Outcomes
+pub mod OwnSlots
 pub mod PlacedWrite
 pub mod Pinned
 pub mod PinnedWrites
@@ -89,10 +90,12 @@ pub mod Segments
 pub mod Settles
 pub mod Shifts
 pub mod Shown
+pub mod ShownParts
 pub mod ShownWrite
 pub mod Shows
 pub mod Slots
 pub mod Spans
+pub mod StandsThere
 pub mod Targets
 pub mod TicketEnds
 pub mod TornLine

@@ -33,7 +33,7 @@ use Rattle.sled_core.specs.Logged.{in_log, logged}
 use Rattle.sled_core.specs.OpenBatches.{batch_of, not_whole, stable_below}
 use Rattle.sled_core.specs.OpenPlaces.{open_places_along}
 use Rattle.sled_core.specs.Positions.{Position, behind_record, is_short, placed_at, lid_at, position_in, size_at}
-use Rattle.sled_core.specs.SealedBuffers.{AreZeros, sealed_count}
+use Rattle.sled_core.specs.SealedBuffers.{sealed_count}
 use Rattle.sled_core.specs.Tickets.{index_of, IsFor}
 use Rattle.sled_core.specs.Waiting.{BufferAt, BufferStart, at_last, buffers_in, closed_now, free_below, held_below, last_of, one_pending, pending_in, spans}
 use Rattle.sled_core.specs.Waiting.{start_in, unwritten}
@@ -312,8 +312,6 @@ pub record IsKept (sum : List ℕ → ℕ) (size : ℕ) (site : SegmentPosition)
   pub inside : from ≤ size
   pub begun : IsBegunFrom sum size device.snapshots.file site from H
   pub on_device : IsOnDevice sum size device.log site from H.messages (StaysFrom H (stable_place begun.first.stable))
-  -- the rest of the segment has zeros
-  pub clean : AreZeros device.log.bytes (site.slot + from) (site.slot + size)
 
 -- all that a log holds is on its device, and settled: the history as the log has it
 abbrev pub IsWritten : {D C : Type 0} → (D → Trace) → (List ℕ → ℕ) → Log D C → History → Type 0

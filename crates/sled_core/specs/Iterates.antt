@@ -73,15 +73,16 @@ GivesBehind true Capped on items damage = on items damage
 GivesBehind false why on items damage = on items damage
 
 -- What an iterator gives of these segments, up to an end, and at what damage it ends, if at any. Of a segment in which a damaged
--- record is met, before a batch that is open, it gives what lies ahead of that record, and ends there.
+-- record is met, before a batch that is open, it gives what lies ahead of that record, and ends there. A segment is read in one way; what is said of that is
+-- said of whatever reading there is, so who knows what stands up to the end needs not know what stands behind it.
 abbrev pub IsIteration : (List ℕ → ℕ) → ℕ → List ℕ → (ℤ → Option (List ℕ)) → ℕ → Bool → List Segment → List Item → Damage → Type 0
 IsIteration sum size log blobs end strict [] items damage = (items ≡ []) × (damage ≡ None)
 IsIteration sum size log blobs end strict (s ∷ ss) items damage =
     (IsMissing strict sum log s × (items ≡ []) × (damage ≡ None))
     ⊎ ((IsMissing strict sum log s → ⊥)
-    × (((d : IsDamagedBefore sum size log end s) × GivesOf sum blobs end d.met (EndsAt end (s.place + d.next)) items damage)
-    ⊎ ((x : Scanned) × (x.segment ≡ s) × IsReplayed sum size log end x
-    × GivesOf sum blobs end x.met (GivesBehind strict x.why (IsIteration sum size log blobs end strict ss)) items damage)))
+    × (((d : IsDamagedBefore sum size log end s) → GivesOf sum blobs end d.met (EndsAt end (s.place + d.next)) items damage)
+    × ((x : Scanned) → x.segment ≡ s → IsReplayed sum size log end x
+    → GivesOf sum blobs end x.met (GivesBehind strict x.why (IsIteration sum size log blobs end strict ss)) items damage)))
 
 -- an error of damage says that no message is ahead of it, and that the damage is named so; a failure of the device and want of memory say nothing
 abbrev pub SaysDamage : Error → List Item → Damage → Type 0

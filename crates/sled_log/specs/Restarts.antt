@@ -10,16 +10,18 @@ use Rattle.sled_store.specs.Blobs.{ItemAnswers}
 use Rattle.sled_store.specs.Device.{Event, Trace, state_of}
 use Rattle.sled_store.specs.Script.{Performs, after_all}
 use Rattle.sled_core.specs.declared.logger.Log.{Log}
-use Rattle.sled_core.specs.Recoverable.{NoHeaderOfZeros}
+use Rattle.sled_core.specs.Fits.{device_of, fault_of, flushing, segment_size_of}
+use Rattle.sled_core.specs.Recoverable.{ReadsOnlyOwn}
 use Rattle.sled_core.specs.invariants.Running.{Fits}
 use Rattle.sled_log.specs.Orderly.{IsOrderly}
 use Rattle.sled_log.specs.Restores.{ComesOf}
 
--- A log fits an orderly history, and zeros pass as no header.
+-- A log fits an orderly history, and only what the log itself wrote passes as its own in what a recovery reads, behind all that the flush writes. (Behind the
+-- end of what was written an item of an older segment may stand that looks like a record of the log's.)
 pub record CanRestart {D C : Type 0} (trace : D → Trace) (sum : List ℕ → ℕ) (log : Log D C) (H : History) (A f : ℕ) (U : List Message) : Type 0 where
   pub fits : Fits trace sum log H A f U
   pub orderly : IsOrderly H
-  pub zeros : NoHeaderOfZeros sum
+  pub own : fault_of log ≡ None → ReadsOnlyOwn sum (segment_size_of log) (state_of (after_all (flushing sum log) (trace (device_of log))))
 
 -- a flush failed: for the failure that the log kept, for one of this call, which is counted, for want of a further segment, where it needs one that isn't
 -- in reach, or else for want of memory

@@ -24,14 +24,14 @@ use sled_core::logger::Log;
 use sled_store::{Device, RunningConfig};
 
 /// Writes what a log holds, gives the log up, and recovers its device. Returns what the log ran on, and what was
-/// recovered. Where all of this succeeds, for a log that fits an orderly history, the table is that of all completed
-/// messages, its place lies past each of them, and `Log::start` on the snapshot gives a log that holds them again. No
-/// reservation may be open.
+/// recovered. Where all of this succeeds, for a log that fits an orderly history, and only what the log wrote is read as
+/// its own (`CanRestart`), the table is that of all completed messages, its place lies past each of them, and
+/// `Log::start` on the snapshot gives a log that holds them again. No reservation may be open.
 ///
 /// # Errors
 ///
 /// Those of `Log::flush`, and then nothing else was done; else those of `read_snapshot_or_default`, which finds no damage
-/// (`Corruption`) where the log fits an orderly history. The configuration comes back with each of them.
+/// (`Corruption`) where a log can be restarted so. The configuration comes back with each of them.
 pub fn restart<D: Device, C: Checksum>(log: Log<D, C>) -> (RunningConfig<D, C>, Result<Snapshot>)
     requires ended { NoneOpen log }
     ensures table { (H : History) (A f : ℕ) (U : List Message) → CanRestart D.trace C.sum_of log H A f U

@@ -163,7 +163,7 @@ module _ (sum : List ℕ → ℕ) (size : ℕ) (device : State) (blobs snapshots
       → HoldsShown sum noted size device fault line m H → HoldsShown sum noted size (with_names device blobs snapshots) fault line m H
   shown_holds_over names noted line m H holds = record {
     shows = holds_over_names sum size (shown size fault m line device) blobs snapshots fault names noted line m H holds.shows;
-    file = holds.file;
+    rests = holds.rests;
   }
 
   pub shown_fits_over : (p : ℤ) (changes : ChangesAt sum p device blobs snapshots) (H : History) (unnamed : IsUnnamed H p) (A f : ℕ) (U : List Message)
@@ -181,7 +181,7 @@ module _ (sum : List ℕ → ℕ) (size : ℕ) (device : State) (blobs snapshots
       } in
       record {
         shows = fits_over_names sum size sees blobs snapshots fault p same H unnamed A f U noted line m pins fits.shows;
-        file = fits.file;
+        rests = fits.rests;
         hides = λ none zeros.
             from_names sum size device (with_names device blobs snapshots) m line (logged H) refl refl changes.same_files (fits.hides none zeros);
       }

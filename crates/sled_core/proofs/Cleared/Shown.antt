@@ -1,11 +1,11 @@
--- What is shown of a device: it stays where the same offsets of the log file count for nothing, and as yet it is the device itself.
+-- What is shown of a device: it stays where the same offsets of the log file count for nothing.
 use Rattle.std.specs.declared.io.Error.{Error as IoError}
-use Rattle.std.proofs.Common.{◌≡◌, ◌∙◌, ℕ, List, Option, Some, None, refl, sym, ap}
+use Rattle.std.proofs.Common.{◌≡◌, ℕ, List, Option, Some, None, refl, ap}
 use Rattle.sled_store.specs.Device.{LogState, State, at_rest}
 use Rattle.sled_store.specs.SegmentStates.{Machine}
 use Rattle.sled_core.specs.Begun.{SegmentView}
 use Rattle.sled_core.specs.inside.Cleared.{cleared}
-use Rattle.sled_core.specs.inside.Shown.{IsAsShown, shown, shown_log}
+use Rattle.sled_core.specs.inside.Shown.{shown, shown_log}
 
 -- a device with this log file
 abbrev pub with_log : State → LogState → State
@@ -16,16 +16,13 @@ module _ (size : ℕ) where
   abbrev pub ShowsSame : (m m' : Machine) (line line' : List SegmentView) → Type 0
   ShowsSame m m' line line' = (log : List ℕ) → cleared size m' line' log ≡ cleared size m line log
 
-  -- Where the same counts for nothing the same is shown, and a file that is as shown is so still.
+  -- Where the same counts for nothing the same is shown.
   module _ (fault : Option IoError) (m m' : Machine) (line line' : List SegmentView) (same : ShowsSame m m' line line') where
     pub shown_same : (s : State) → shown size fault m' line' s ≡ shown size fault m line s
     shown_same s = ap (with_log s) (by fault) where
       by : (o : Option IoError) → shown_log size o m' line' s.log ≡ shown_log size o m line s.log
       by None = ap at_rest (same s.log.bytes)
       by (Some e) = refl
-
-    pub as_shown_same : (log : LogState) → IsAsShown size fault m line log → IsAsShown size fault m' line' log
-    as_shown_same log is = record { rests = is.rests; same = λ none. same log.bytes ∙ is.same none }
 
   -- One that keeps none shows the cleared file.
   pub shown_bytes : (fault : Option IoError) (m : Machine) (line : List SegmentView) (s : State) → fault ≡ None
@@ -42,13 +39,3 @@ module _ (size : ℕ) where
   -- A log that keeps a failure shows its device as it is.
   pub shown_faulty : (e : IoError) (now : Option IoError) → now ≡ Some e → (m : Machine) (line : List SegmentView) (s : State) → shown size now m line s ≡ s
   shown_faulty e now is m line s = ap (λ (o : Option IoError). shown size o m line s) is
-
-  pub as_shown_faulty : (e : IoError) (now : Option IoError) → now ≡ Some e → (m : Machine) (line : List SegmentView) (log : LogState)
-      → IsAsShown size now m line log
-  as_shown_faulty e now is m line log = record { rests = λ none. cc; same = λ none. cc }
-
-  -- As yet one that keeps none does so, too.
-  pub shown_is : (fault : Option IoError) (m : Machine) (line : List SegmentView) (s : State) → IsAsShown size fault m line s.log
-      → shown size fault m line s ≡ s
-  shown_is None m line s is = ap (with_log s) (ap at_rest (is.same refl) ∙ sym (is.rests refl))
-  shown_is (Some e) m line s is = refl

@@ -20,7 +20,6 @@ use Rattle.sled_core.specs.inside.LogFile.{StaysBelow}
 use Rattle.sled_core.proofs.Reached.Marks.{less_than}
 use Rattle.sled_core.proofs.Reserve.Entries.{some_in}
 use Rattle.sled_core.proofs.Reserve.Ranges.{chain_grows}
-use Rattle.sled_core.specs.SealedBuffers.{AreZeros}
 
 -- The snapshot is the same, and more of the log is settled.
 abbrev pub begun-more : (sum : List ℕ → ℕ) (size : ℕ) (snapshots snapshots' : ℤ → Option (List ℕ)) (site : SegmentPosition) (from from' : ℕ) (H : History) → snapshots' ≡ snapshots → from ≤ from'
@@ -110,8 +109,11 @@ module _ (sum : List ℕ → ℕ) (size : ℕ) (site : SegmentPosition) (device 
 -- Where no message was completed since the last write, and the segments behind the first one have none, all is on the device.
 module _ (sum : List ℕ → ℕ) (size : ℕ) (site : SegmentPosition) (device : State) (fault : Option IoError) (bytes : List ℕ) (from : ℕ) (bs : List Sealed) (rs : List Reserved) (H : History)
     {behind : List SegmentParts} (holds : HoldsIn sum (log_parts size site device fault bytes from bs rs) behind H) where
-  pub all_kept : CloseBelow (site.place + from) H.batches → completed_in site bytes rs ≡ [] → holds.later ≡ [] → fault ≡ None → site.place + size < 2 ^ 63 → from ≤ size → AreZeros device.log.bytes (site.slot + from) (site.slot + size) → IsKept sum size site from device H
-  all_kept closed none last whole in_reach inside clean =
+  -- (also of another log file on which that is)
+  pub all_kept : (log : LogState) → IsOnDevice sum size log site from holds.own.records.earlier (StaysFrom H (stable_place holds.begun.first.stable))
+      → CloseBelow (site.place + from) H.batches → completed_in site bytes rs ≡ [] → holds.later ≡ [] → site.place + size < 2 ^ 63 → from ≤ size
+      → IsKept sum size site from (record device { log = log }) H
+  all_kept log on closed none last in_reach inside =
       let own = holds.own in
       let all : H.messages ≡ own.records.earlier =
       holds.messages ∙ ap (λ (ms : List Message). holds.head ++ ms) last ∙ append-nil holds.head
@@ -125,8 +127,8 @@ module _ (sum : List ℕ → ℕ) (size : ℕ) (site : SegmentPosition) (device 
         in_reach = in_reach;
         inside = inside;
         begun = holds.begun;
-        on_device = subst (λ (ms : List Message). IsOnDevice sum size device.log site from ms (StaysFrom H (stable_place holds.begun.first.stable))) (sym all) (own.written whole);
-        clean = clean;
+        on_device =
+            subst (λ (ms : List Message). IsOnDevice sum size log site from ms (StaysFrom H (stable_place holds.begun.first.stable))) (sym all) on;
       }
 
 -- What is on a device stands in the log file that is read of it.

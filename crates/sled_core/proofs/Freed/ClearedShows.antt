@@ -1,5 +1,5 @@
 -- What the cleared file shows of the log file: of a segment of the line what is written, and all of one that has left the line.
-use Rattle.std.proofs.Common.{◌≡◌, ◌≢◌, ◌⊎◌, ◌∙◌, ◌+◌, ◌*◌, ◌/◌, ◌≤◌, ◌<◌, ◌&&◌, ◌||◌, ℕ, zero, suc, Some, Bool, true, false, not, List, [], ◌∷◌, get_or, refl, sym, ap, arith, inl, inr}
+use Rattle.std.proofs.Common.{◌≡◌, ◌≢◌, ◌⊎◌, ◌∙◌, ◌+◌, ◌*◌, ◌/◌, ◌≤◌, ◌<◌, ◌&&◌, ◌||◌, ℕ, zero, suc, Some, Bool, true, false, not, List, [], ◌∷◌, get_or, length, refl, sym, ap, arith, inl, inr}
 use Rattle.std.specs.List.{slice_get}
 use Rattle.std.proofs.lemmas.Bool.{and_right, or_from}
 use Rattle.sled_store.specs.SegmentStates.{Machine, is_free, slot_at}
@@ -62,40 +62,50 @@ module _ (size : ℕ) (some : 0 < size) (m : Machine) (line : List SegmentView) 
         zeroed_beside (is_stale size m line) log i
         (stale_in i low (omega (arith, high, below.0, below.1)) ∙ unwritten_low v.parts.site.slot v.parts.written_len v.parts.sealed size i rise high)
 
-    -- each of its buffers that is written,
-    written_in : (from : ℕ) (bs : List Sealed) → EndsRise from bs size
-        → ((i : ℕ) → v.parts.site.slot + from ≤ i → i < v.parts.site.slot + size → is_stale size m line i ≡ is_unwritten_in v.parts.site.slot from bs size i)
-        → StandWritten log v.parts.site.slot v.parts.bytes from bs → StandWritten now v.parts.site.slot v.parts.bytes from bs
-    written_in from [] rise is stand = tt
-    written_in from (b ∷ bs) rise is stand =
-        let up = rise.0 in
-        let below = ends_below b.end bs size rise.1 in (
-          λ done.
-              let there = stand.0 done in
-              let long = zeroed_long (is_stale size m line) log in
-              let in_file = there.in_file in record {
-                same = λ i low high.
-                    zeroed_beside (is_stale size m line) log (v.parts.site.slot + i)
-                    (is (v.parts.site.slot + i) (omega (arith, low)) (omega (arith, high, below.0, below.1))
-                    ∙ or_from (not b.is_written && is_between (v.parts.site.slot + from) (v.parts.site.slot + b.end) (v.parts.site.slot + i))
-                    (is_unwritten_in v.parts.site.slot b.end bs size (v.parts.site.slot + i))
-                    (ap (λ (t : Bool). not t && is_between (v.parts.site.slot + from) (v.parts.site.slot + b.end) (v.parts.site.slot + i)) done)
-                    (unwritten_low v.parts.site.slot b.end bs size (v.parts.site.slot + i) rise.1 (omega (arith, high))))
-                    ∙ there.same i low high;
-                in_file = omega (arith, in_file, long);
-                in_bytes = there.in_bytes;
-              },
-          written_in b.end bs rise.1
-              (λ i low high. is i (omega (arith, low, up)) high
-              ∙ ap (λ (t : Bool). t || is_unwritten_in v.parts.site.slot b.end bs size i)
-              (and_right (not b.is_written) (is_between (v.parts.site.slot + from) (v.parts.site.slot + b.end) i)
-              (between_not (v.parts.site.slot + from) (v.parts.site.slot + b.end) i (inr low))))
-              stand.1,
-        )
+    -- each of its buffers that is written: what stands of them in one of two files that have the same where that counts stands in the other,
+    module _ (a b : List ℕ) (long : length a ≡ length b) (same : (i : ℕ) → is_stale size m line i ≡ false → get_or b i 0 ≡ get_or a i 0) where
+      written_in : (from : ℕ) (bs : List Sealed) → EndsRise from bs size
+          → ((i : ℕ) → v.parts.site.slot + from ≤ i → i < v.parts.site.slot + size
+          → is_stale size m line i ≡ is_unwritten_in v.parts.site.slot from bs size i)
+          → StandWritten a v.parts.site.slot v.parts.bytes from bs → StandWritten b v.parts.site.slot v.parts.bytes from bs
+      written_in from [] rise is stand = tt
+      written_in from (c ∷ cs) rise is stand =
+          let up = rise.0 in
+          let below = ends_below c.end cs size rise.1 in (
+            λ done.
+                let there = stand.0 done in
+                let in_file = there.in_file in record {
+                  same = λ i low high.
+                      same (v.parts.site.slot + i)
+                      (is (v.parts.site.slot + i) (omega (arith, low)) (omega (arith, high, below.0, below.1))
+                      ∙ or_from (not c.is_written && is_between (v.parts.site.slot + from) (v.parts.site.slot + c.end) (v.parts.site.slot + i))
+                      (is_unwritten_in v.parts.site.slot c.end cs size (v.parts.site.slot + i))
+                      (ap (λ (t : Bool). not t && is_between (v.parts.site.slot + from) (v.parts.site.slot + c.end) (v.parts.site.slot + i)) done)
+                      (unwritten_low v.parts.site.slot c.end cs size (v.parts.site.slot + i) rise.1 (omega (arith, high))))
+                      ∙ there.same i low high;
+                  in_file = omega (arith, in_file, long);
+                  in_bytes = there.in_bytes;
+                },
+            written_in c.end cs rise.1
+                (λ i low high. is i (omega (arith, low, up)) high
+                ∙ ap (λ (t : Bool). t || is_unwritten_in v.parts.site.slot c.end cs size i)
+                (and_right (not c.is_written) (is_between (v.parts.site.slot + from) (v.parts.site.slot + c.end) i)
+                (between_not (v.parts.site.slot + from) (v.parts.site.slot + c.end) i (inr low))))
+                stand.1,
+          )
+
+      written_of : StandWritten a v.parts.site.slot v.parts.bytes v.parts.written_len v.parts.sealed
+          → StandWritten b v.parts.site.slot v.parts.bytes v.parts.written_len v.parts.sealed
+      written_of = written_in v.parts.written_len v.parts.sealed (rises n v among) (λ i low high. stale_in i (omega (arith, low)) high)
 
     pub written_shown : StandWritten log v.parts.site.slot v.parts.bytes v.parts.written_len v.parts.sealed
         → StandWritten now v.parts.site.slot v.parts.bytes v.parts.written_len v.parts.sealed
-    written_shown stand = written_in v.parts.written_len v.parts.sealed (rises n v among) (λ i low high. stale_in i (omega (arith, low)) high) stand
+    written_shown = written_of log now (sym (zeroed_long (is_stale size m line) log)) (zeroed_beside (is_stale size m line) log)
+
+    -- (and so the other way)
+    pub written_there : StandWritten now v.parts.site.slot v.parts.bytes v.parts.written_len v.parts.sealed
+        → StandWritten log v.parts.site.slot v.parts.bytes v.parts.written_len v.parts.sealed
+    written_there = written_of now log (zeroed_long (is_stale size m line) log) (λ i counts. sym (zeroed_beside (is_stale size m line) log i counts))
 
     -- and zeros for all else.
     pub laid_shown : StandWritten log v.parts.site.slot v.parts.bytes v.parts.written_len v.parts.sealed

@@ -24,6 +24,6 @@ module _ {sum : List ℕ → ℕ} {noted : List Batch} {size : ℕ} {device : St
       numbers = fits.shows.numbers;
       in_slots = fits.shows.in_slots;
     };
-    file = fits.file;
+    rests = fits.rests;
     hides = fits.hides;
   }

@@ -172,7 +172,7 @@ pub fits_holds : {D C : Type 0} (trace : D → Trace) (sum : List ℕ → ℕ) (
 unfolding Fits Holds
 fits_holds trace sum log H A f U fits = record {
   shows = record { holds = fits.shows.parts.holds; batches = fits.shows.batches; slots = fits.shows.slots };
-  file = fits.file;
+  rests = fits.rests;
 }
 
 -- what was acknowledged is written

@@ -1,4 +1,5 @@
--- An iterator over the segments of a settled log gives the messages of its history up to the iterator's end, but for those whose segment is gone and those whose blob is missing, and doesn't end at damage.
+-- An iterator over the segments of a log gives the messages of its history up to the iterator's end, but for those whose segment is gone and those whose blob
+-- is missing, and doesn't end at damage.
 use Rattle.std.proofs.Common.{⊎_elim, ◌≡◌, ◌≢◌, ◌⊎◌, ◌∙◌, ◌+◌, ◌*◌, ◌/◌, ◌%◌, ◌^◌, ◌<◌, ◌≤◌, ℕ, ℤ, pos, true, false, List, [], ◌∷◌, ◌++◌, map, Option, None, Some, IfNone, refl, sym, ap, subst, arith, inl, inr}
 use Rattle.std.specs.List.{Contains}
 use Rattle.std.proofs.Math.Nat.{mul-mod_left}
@@ -15,16 +16,17 @@ use Rattle.sled_core.specs.declared.iterator.Segment.{Segment}
 use Rattle.sled_core.specs.declared.iterator.scan.ScannedRecord.{ScannedRecord}
 use Rattle.sled_core.specs.declared.iterator.scan.ScanEnd.{ScanEnd}
 use Rattle.sled_core.specs.declared.iterator.scan.ScanEnd.TheVariants.{Full, Capped, Broken}
-use Rattle.sled_core.specs.Iterates.{Item, Damage, HasItsHeader, GivesOf, GivesBehind, IsIteration}
+use Rattle.sled_core.specs.Iterates.{Item, Damage, HasItsHeader, GivesBehind, IsIteration}
 use Rattle.sled_core.specs.LogSegments.{AreSegments}
 use Rattle.sled_core.specs.OnFile.{HasBlobThere, item_of, AreOnFile}
 use Rattle.sled_core.specs.inside.Recoverable.{PassesIfThere}
 use Rattle.sled_core.specs.Replayed.{IsReplayed}
-use Rattle.sled_core.specs.Scan.{IsPath, IsScan}
+use Rattle.sled_core.specs.Scan.{IsPath}
 use Rattle.sled_core.specs.Tail.{Scanned, open_at}
 use Rattle.sled_core.proofs.Iterated.Given.{AreGiven, GivesInline, met_inline, messages_given}
 use Rattle.sled_core.proofs.Iterated.Listed.{listed_of, listed_has, listed_rises}
 use Rattle.sled_core.proofs.Iterated.ReadHere.{IsReadHere}
+use Rattle.sled_core.proofs.Iterates.OneReplay.{IsNothing, damaged_further, gives_as, replayed_ends, replayed_further, replayed_gives, replayed_undamaged}
 use Rattle.sled_core.proofs.Reached.ReachedEntries.{path_to}
 use Rattle.sled_core.proofs.Tail.Multiples.{put_down, apart, lower_multiple, one_multiple}
 use Rattle.sled_core.proofs.Tail.OneTail.{Rises}
@@ -61,6 +63,11 @@ none_too : (o : Option ℕ) (P : Type 0) → P → IfNone o P
 none_too None P holds = holds
 none_too (Some at) P holds = tt
 
+-- and what holds is put in another way
+none_as : {P Q : Type 0} (o : Option ℕ) → IfNone o P → (P → Q) → IfNone o Q
+none_as None holds so = so holds
+none_as (Some at) holds so = tt
+
 -- Behind a segment that leads on, or behind which nothing is given, that is given which is given of the others.
 behind_goes : (why : ScanEnd) (on : List Item → Damage → Type 0) (items : List Item) → (why ≢ Broken) ⊎ (items ≡ []) → on items None → GivesBehind true why on items None
 behind_goes Full on items goes given = given
@@ -68,20 +75,19 @@ behind_goes Capped on items goes given = given
 behind_goes Broken on items (inl leads) given = absurd (leads refl)
 behind_goes Broken on items (inr none) given = (none, refl)
 
-module _ (sum : List ℕ → ℕ) (size : ℕ) (log : List ℕ) (some : 256 ≤ size) (H : History) (lie : LieApart H.messages) (reach : ℕ)
+module _ (sum : List ℕ → ℕ) (size : ℕ) (log : List ℕ) (some : 256 ≤ size) (H : History) (lie : LieApart H.messages)
     (blobs : ℤ → Option (List ℕ)) (good : (n : Message) → Contains H.messages n → PassesIfThere sum blobs n n.pointer)
     (end : ℕ) (closed : (b : Batch) → Contains H.batches b → b.low < end → b.peg < end) where
   abbrev ordered : Ascends H.messages
   ordered = apart_ascends H.messages lie
 
-  -- A segment that can be given: it begins below the end and below what was reached, in a slot where its header stands, and is read.
+  -- A segment that can be given: it begins below the end, in a slot where its header stands, and is read.
   pub record CanBeGivenOf (s : Segment) : Type 0 where
     pub slot : s.slot % size ≡ 0
     pub aligned : s.place % size ≡ 0
     pub below : s.place < end
-    pub near : s.place < reach
     pub header : HasItsHeader sum log s
-    pub reads : IsReadHere sum size log H reach end s.slot s.place
+    pub reads : IsReadHere sum size log H end s.slot s.place
 
   -- These messages of the history are given of these segments: all that lie in them below the end, but for those whose blob is missing.
   pub record AreGivenOf (ss : List Segment) (L : List Message) : Type 0 where
@@ -93,21 +99,16 @@ module _ (sum : List ℕ → ℕ) (size : ℕ) (log : List ℕ) (some : 256 ≤ 
   -- One segment more.
   module _ (s : Segment) (ss : List Segment) (first : CanBeGivenOf s) (each : (u : Segment) → Contains ss u → CanBeGivenOf u) (rises : (u : Segment) → Contains ss u → s.place < u.place) (L : List Message) (are : AreGivenOf ss L) where
     -- what is read of it
-    abbrev r : IsReadHere sum size log H reach end s.slot s.place
+    abbrev r : IsReadHere sum size log H end s.slot s.place
     r = first.reads
 
     -- up to where
     abbrev to : ℕ
     to = s.place + r.stop
 
-    -- what is given behind it
-    abbrev On : List Item → Damage → Type 0
-    On = GivesBehind true r.why (IsIteration sum size log blobs end true ss)
-
     -- the records that are met in it
     path : IsPath sum size log s.slot s.place 20 r.met r.stop
-    unfolding IsScan
-    path = r.read.0
+    path = r.path
 
     -- they lie in it
     within : r.stop ≤ size
@@ -130,101 +131,136 @@ module _ (sum : List ℕ → ℕ) (size : ℕ) (log : List ℕ) (some : 256 ≤ 
     none_behind none = ap (map item_of) (no_element L (λ n there. let u = (are.of n there).3 in none u.0 u.1))
 
     -- it leads on, or nothing is given behind it
-    leads : (r.why ≢ Broken) ⊎ (map item_of L ≡ [])
-    leads = elim r.goes [
-      | inl on ↦ inl on
-      | inr far ↦ inr (none_behind (λ u there. let next = later_far u there in let near = (each u there).near in omega (arith, next, near, far, within)))
-    ]
+    none_far : end ≤ to → map item_of L ≡ []
+    none_far far = none_behind (λ u there. let next = later_far u there in let below = (each u there).below in omega (arith, next, below, far, within))
 
     -- where it is read beyond the end nothing is given behind it
     last : end < to → map item_of L ≡ []
-    last over = none_behind (λ u there. let next = later_far u there in let below = (each u there).below in omega (arith, next, below, over, within))
+    last over = none_far (omega (arith, over))
 
     -- no record that is met gives a message with a blob
     known : (x : ScannedRecord) → Contains r.met x → GivesInline blobs x
     known x there = let at = path_to sum size log s.slot s.place 20 r.met r.stop path x there in met_inline sum size log blobs (s.slot + at.1) (s.place / size) x at.2.3
 
-    -- what is given of the others is given behind it
-    goes : On (map item_of L) None
-    goes = behind_goes r.why (IsIteration sum size log blobs end true ss) (map item_of L) leads are.gives
+    -- Where this is given behind it,
+    module _ (On : List Item → Damage → Type 0) (goes : On (map item_of L) None) where
+      -- these are given of its records,
+      abbrev IsOwn : List Message → Type 0
+      IsOwn own = AreGiven sum size log blobs H ordered good end closed On (map item_of L) goes to last (s.place + 20) r.met own
 
-    -- these are given of its records
-    abbrev IsOwn : List Message → Type 0
-    IsOwn own = AreGiven sum size log blobs H ordered good end closed On (map item_of L) goes to last (s.place + 20) r.met own
+      own_given : (own : List Message) × IsOwn own
+      own_given =
+          messages_given sum size log blobs H ordered good end closed On (map item_of L) goes to last (s.place + 20) r.met
+          (path_stands sum size log s.slot s.place 20 r.met r.stop path) (λ x there. (r.truth x there, known x there))
 
-    -- some are
-    own_given : (own : List Message) × IsOwn own
-    own_given =
-        messages_given sum size log blobs H ordered good end closed On (map item_of L) goes to last (s.place + 20) r.met (path_stands sum size log s.slot s.place 20 r.met r.stop path) (λ x there. (r.truth x there, known x there))
+      module _ (own : List Message) (is : IsOwn own)
+          (gives : IsIteration sum size log blobs end true (s ∷ ss) (map item_of own ++ map item_of L) None) where
+        -- they lie in it
+        own_below : (n : Message) → Contains own n → (n.place < s.place + size) × (n.place / size * size ≡ s.place)
+        own_below n there =
+            let of = is.of n there in
+            let inside : n.place % size < size = omega (arith, some) in
+            let parts = put_down size n.place in
+            let low : n.place < s.place + size = omega (arith, of.2, within) in
+            (low, by_multiple n (omega (arith, of.1)) low)
+          where
+            by_multiple : (n : Message) → s.place ≤ n.place → n.place < s.place + size → n.place / size * size ≡ s.place
+            by_multiple n above below = one_multiple size some s.place n.place first.aligned above below
 
-    module _ (own : List Message) (is : IsOwn own) where
-      -- they lie in it
-      own_below : (n : Message) → Contains own n → (n.place < s.place + size) × (n.place / size * size ≡ s.place)
-      own_below n there =
-          let of = is.of n there in
-          let inside : n.place % size < size = omega (arith, some) in
-          let parts = put_down size n.place in
-          let low : n.place < s.place + size = omega (arith, of.2, within) in
-          (low, by_multiple n (omega (arith, of.1)) low)
-        where
-          by_multiple : (n : Message) → s.place ≤ n.place → n.place < s.place + size → n.place / size * size ≡ s.place
-          by_multiple n above below = one_multiple size some s.place n.place first.aligned above below
+        -- these, and then those of the others
+        one_more : AreGivenOf (s ∷ ss) (own ++ L)
+        one_more = record {
+          of = λ n there. ⊎_elim
+              (λ mine. let of = is.of n mine in (of.0, of.3, of.4, (s, in_first s ss, (own_below n mine).1)))
+              (λ later. let of = are.of n later in (of.0, of.1, of.2, (of.3.0, in_rest s of.3.0 ss of.3.1, of.3.2)))
+              (Contains-append_cases own L n there);
+          ascends = append_ascends own L (s.place + size) is.ascends are.ascends
+              (all_from_in (λ n. n.place < s.place + size) own (λ n there. (own_below n there).0))
+              (all_from_in (λ n. s.place + size ≤ n.place) L rest_above);
+          all = λ u n there known_n lies under blob. ⊎_elim
+              (λ same.
+              let x = r.has n known_n (lies ∙ ap (λ (y : Segment). y.place) (sym same)) under in
+              Contains-append_left own L n (is.all x.0 n x.1 known_n x.2 under blob))
+              (λ later. Contains-append_right own L n (are.all u n later known_n lies under blob))
+              (in_cases s u ss there);
+          gives = subst (λ (l : List Item). IsIteration sum size log blobs end true (s ∷ ss) l None) (sym (map-append item_of own L)) gives;
+        }
 
-      -- these, and then those of the others
-      one_more : AreGivenOf (s ∷ ss) (own ++ L)
-      unfolding IsScan
-      one_more = record {
-        of = λ n there. ⊎_elim
-            (λ mine. let of = is.of n mine in (of.0, of.3, of.4, (s, in_first s ss, (own_below n mine).1)))
-            (λ later. let of = are.of n later in (of.0, of.1, of.2, (of.3.0, in_rest s of.3.0 ss of.3.1, of.3.2)))
-            (Contains-append_cases own L n there);
-        ascends = append_ascends own L (s.place + size) is.ascends are.ascends (all_from_in (λ n. n.place < s.place + size) own (λ n there. (own_below n there).0)) (all_from_in (λ n. s.place + size ≤ n.place) L rest_above);
-        all = λ u n there known_n lies under blob. ⊎_elim
-            (λ same.
-            let x = r.has n known_n (lies ∙ ap (λ (y : Segment). y.place) (sym same)) under in
-            Contains-append_left own L n (is.all x.0 n x.1 known_n x.2 under blob))
-            (λ later. Contains-append_right own L n (are.all u n later known_n lies under blob))
-            (in_cases s u ss there);
-        gives =
-            let x : Scanned = record { segment = s; met = r.met; stop = r.stop; why = r.why } in
-            let replayed : IsReplayed sum size log end x = (r.read.0, none_too (open_at end r.met) _ r.read.1) in
-            let items = subst (λ (l : List Item). GivesOf sum blobs end r.met On l None) (sym (map-append item_of own L)) is.gives in
-            inr (λ missing. missing first.header, inr (x, refl, replayed, items));
-      }
+    -- In each reading of it that is given, whether it leads on or is read up to the end.
+    with_own : (own : List Message) × AreGivenOf (s ∷ ss) (own ++ L)
+    with_own = elim r.goes [
+      | inl (why, ends, leads) ↦ (
+          let On : List Item → Damage → Type 0 = GivesBehind true why (IsIteration sum size log blobs end true ss) in
+          let goes : On (map item_of L) None = behind_goes why (IsIteration sum size log blobs end true ss) (map item_of L) (inl leads) are.gives in
+          let given = own_given On goes in
+          let own : List Message = given.0 in
+          let x : Scanned = record { segment = s; met = r.met; stop = r.stop; why = why } in
+          let read : IsReplayed sum size log end x = (r.path, none_too (open_at end r.met) _ ends) in (
+            own,
+            one_more On goes own given.1 (inr (
+              λ missing. missing first.header,
+              (
+                λ d. absurd (replayed_undamaged sum size log end x s refl read d),
+                λ y at again.
+                    gives_as sum size log end y.segment.slot y.segment.place blobs On
+                    (GivesBehind true y.why (IsIteration sum size log blobs end true ss)) y.met
+                    (none_as (open_at end y.met) (replayed_ends sum size log end y s at again x refl read)
+                    (λ same is d on. subst (λ (w : ScanEnd). GivesBehind true w (IsIteration sum size log blobs end true ss) is d) same on))
+                    (map item_of own ++ map item_of L) None
+                    (replayed_gives sum size log end y s at again blobs On x refl read (map item_of own ++ map item_of L) None given.1.gives),
+              ),
+            )),
+          ))
+      | inr far ↦ (
+          let nothing : map item_of L ≡ [] = none_far far in
+          let given = own_given IsNothing (nothing, refl) in
+          let own : List Message = given.0 in (
+            own,
+            one_more IsNothing (nothing, refl) own given.1 (inr (
+              λ missing. missing first.header,
+              (
+                damaged_further sum size log end s blobs r.met r.stop r.path far (map item_of own ++ map item_of L) None given.1.gives,
+                λ y at again.
+                    replayed_further sum size log end s blobs r.met r.stop r.path far (map item_of own ++ map item_of L) None given.1.gives y at again
+                    (GivesBehind true y.why (IsIteration sum size log blobs end true ss))
+                    (subst (λ (l : List Item). GivesBehind true y.why (IsIteration sum size log blobs end true ss) l None) nothing
+                    (behind_goes y.why (IsIteration sum size log blobs end true ss) (map item_of L) (inr nothing) are.gives)),
+              ),
+            )),
+          ))
+    ]
 
   -- The messages that are given of segments.
   pub given_of : (ss : List Segment) → Rises ss → ((s : Segment) → Contains ss s → CanBeGivenOf s) → (L : List Message) × AreGivenOf ss L
   given_of [] rises each = ([], record { of = λ n there. absurd (in_nothing n there); ascends = tt; all = λ s n there known lies under blob. absurd (in_nothing s there); gives = (refl, refl) })
   given_of (s ∷ ss) rises each =
       let later = given_of ss rises.1 (λ u there. each u (in_rest s u ss there)) in
-      let own = own_given s ss (each s (in_first s ss)) (λ u there. each u (in_rest s u ss there)) rises.0 later.0 later.1 in
-      (own.0 ++ later.0, one_more s ss (each s (in_first s ss)) (λ u there. each u (in_rest s u ss there)) rises.0 later.0 later.1 own.0 own.1)
+      let own = with_own s ss (each s (in_first s ss)) (λ u there. each u (in_rest s u ss there)) rises.0 later.0 later.1 in
+      (own.0 ++ later.0, own.1)
 
 -- a slot has a segment
 abbrev pub IsTakenIn : Machine → ℕ → Type 0
 IsTakenIn m k = is_free (slot_at m k).state ≡ false
 
 -- What is asked of the slots that aren't free, of the segment in each of them.
-pub record AreSlotsOf (sum : List ℕ → ℕ) (size : ℕ) (log : List ℕ) (H : History) (reach end : ℕ) (m : Machine) : Type 0 where
+pub record AreSlotsOf (sum : List ℕ → ℕ) (size : ℕ) (log : List ℕ) (H : History) (end : ℕ) (m : Machine) : Type 0 where
   -- it begins at a multiple of the size
   pub aligned : (k : ℕ) → IsTakenIn m k → (slot_at m k).lsn % size ≡ 0
   -- no other slot has one that begins there
   pub one : (j k : ℕ) → IsTakenIn m j → IsTakenIn m k → (slot_at m j).lsn ≡ (slot_at m k).lsn → j ≡ k
-  -- below the end it begins below what was reached
-  pub reached : (k : ℕ) → IsTakenIn m k → (slot_at m k).lsn < end → (slot_at m k).lsn < reach
-  -- its header stands in its slot
+  -- below the end its header stands in its slot
   pub begun : (k : ℕ) → IsTakenIn m k → (slot_at m k).lsn < end → (mark : ℤ) × IsHeader sum (part log (k * size) 20) (pos (slot_at m k).lsn) mark
   -- and it is read
-  pub reads : (k : ℕ) → IsTakenIn m k → (slot_at m k).lsn < end → IsReadHere sum size log H reach end (k * size) (slot_at m k).lsn
+  pub reads : (k : ℕ) → IsTakenIn m k → (slot_at m k).lsn < end → IsReadHere sum size log H end (k * size) (slot_at m k).lsn
   -- it ends below the last place
   pub fits : (k : ℕ) → IsTakenIn m k → (slot_at m k).lsn + size < 2 ^ 63
 
-module _ (sum : List ℕ → ℕ) (size : ℕ) (log : List ℕ) (some : 256 ≤ size) (H : History) (lie : LieApart H.messages) (reach end : ℕ)
-    (closed : (b : Batch) → Contains H.batches b → b.low < end → b.peg < end) (m : Machine) (slots : AreSlotsOf sum size log H reach end m)
+module _ (sum : List ℕ → ℕ) (size : ℕ) (log : List ℕ) (some : 256 ≤ size) (H : History) (lie : LieApart H.messages) (end : ℕ)
+    (closed : (b : Batch) → Contains H.batches b → b.low < end → b.peg < end) (m : Machine) (slots : AreSlotsOf sum size log H end m)
     (blobs : ℤ → Option (List ℕ)) (good : (n : Message) → Contains H.messages n → PassesIfThere sum blobs n n.pointer)
     (from : ℕ) (begins : from % size ≡ 0) (ss : List Segment) (are : AreSegments size m from end ss) where
   -- each segment of the list can be given
-  can_be_given : (s : Segment) → Contains ss s → CanBeGivenOf sum size log some H lie reach blobs good end closed s
+  can_be_given : (s : Segment) → Contains ss s → CanBeGivenOf sum size log some H lie blobs good end closed s
   can_be_given s there =
       let of = listed_of size m from end ss are s there in
       let k : ℕ = of.index in
@@ -232,22 +268,21 @@ module _ (sum : List ℕ → ℕ) (size : ℕ) (log : List ℕ) (some : 256 ≤ 
       let slot : s.slot ≡ k * size = of.slot ∙ ap (λ n. n * size) (omega arith) in
       let below = of.below in
       let low : (slot_at m k).lsn < end = omega (arith, below, place) in
-      let near = slots.reached k of.taken low in
       let header = slots.begun k of.taken low in
       let aligned = slots.aligned k of.taken in
       record {
         slot = ap (λ n. n % size) slot ∙ mul-mod_left k size;
         aligned = ap (λ n. n % size) place ∙ aligned;
         below = below;
-        near = omega (arith, near, place);
         header = (header.0, subst (λ n. IsHeader sum (part log n 20) (pos s.place) header.0) (sym slot) (subst (λ p. IsHeader sum (part log (k * size) 20) (pos p) header.0) (sym place) header.1));
-        reads = subst (λ n. IsReadHere sum size log H reach end n s.place) (sym slot) (subst (λ p. IsReadHere sum size log H reach end (k * size) p) (sym place) (slots.reads k of.taken low));
+        reads = subst (λ n. IsReadHere sum size log H end n s.place) (sym slot)
+            (subst (λ p. IsReadHere sum size log H end (k * size) p) (sym place) (slots.reads k of.taken low));
       }
 
   -- An iterator gives the messages of the history that are on file.
   pub gives_on_file : (ms : List Message) × AreOnFile size m blobs H from end ms × IsIteration sum size log blobs end true ss (map item_of ms) None
   gives_on_file =
-      let given = given_of sum size log some H lie reach blobs good end closed ss (listed_rises size m from end ss are slots.one) can_be_given in
+      let given = given_of sum size log some H lie blobs good end closed ss (listed_rises size m from end ss are slots.one) can_be_given in
       let L : List Message = given.0 in
       let is = given.1 in (
         L,

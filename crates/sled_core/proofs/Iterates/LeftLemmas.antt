@@ -1,5 +1,5 @@
 -- What is left for an iterator, step by step: a record has its turn, a segment is read, nothing is left.
-use Rattle.std.proofs.Common.{◌≡◌, ◌⊎◌, ◌+◌, ◌≤◌, ◌<◌, ◌++◌, nat_lt, if◌then◌else◌, ℕ, ℤ, Bool, true, false, List, [], ◌∷◌, length, get_or, drop, Option, Some, None, IfNone, arith, refl, sym, subst, inl, inr, ◌∙◌}
+use Rattle.std.proofs.Common.{◌≡◌, ◌⊎◌, ◌+◌, ◌≤◌, ◌<◌, ◌++◌, nat_lt, if◌then◌else◌, ℕ, ℤ, Bool, true, false, List, [], ◌∷◌, length, get_or, drop, Option, Some, None, arith, refl, sym, subst, inl, inr, ◌∙◌}
 use Rattle.std.specs.Bool.{MatchBool}
 use Rattle.std.specs.List.{Contains}
 use Rattle.std.proofs.lemmas.List.{drop_all, drop_more}
@@ -20,13 +20,8 @@ use Rattle.sled_core.specs.Tail.{Scanned, open_at}
 use Rattle.sled_core.specs.Iterates.{Item, Damage, EndsAt, IsNamed, SaysDamage, items_of, stops, GivesOf, GivesBehind, IsMissing, IsIteration}
 use Rattle.sled_core.specs.inside.Ahead.{IsGiven, IsLeft, IsSpent, LeftBehind, reads_behind}
 use Rattle.sled_core.proofs.Iterates.Named.{named_so}
-use Rattle.sled_core.proofs.Iterates.OneReplay.{gives_as, one_damage, replayed_ends, replayed_undamaged, replayed_gives}
+use Rattle.sled_core.proofs.Iterates.OneReplay.{gives_as}
 use Rattle.sled_core.proofs.Iterates.TurnLemmas.{none_so}
-
--- what holds where there is none, put in another way
-none_as : {A : Type 0} {P Q : Type 0} (o : Option A) → IfNone o P → (P → Q) → IfNone o Q
-none_as None holds so = so holds
-none_as (Some a) holds so = tt
 
 -- what ends at a damaged record is left where that is kept: it comes behind them where it lies below the end, and else nothing does
 ends_kept : (end place : ℕ) (b : Bool) → b ≡ nat_lt place end → (on : List Item → Damage → Type 0) → ((items : List Item) (damage : Damage) → (items ≡ []) × (damage ≡ None) → on items damage)
@@ -132,8 +127,9 @@ module _ {D C : Type 0} (trace : D → Trace) (sum : List ℕ → ℕ) (config :
     next_inside file = left_inside r items damage left file next (subst (Contains r.segments.items) (sym here) (Contains-get_or r.segments.items r.read next lt))
 
     abbrev Read : Type 0
-    Read = ((d : IsDamagedBefore sum size log r.end next) × GivesOf sum blobs r.end d.met (EndsAt r.end (next.place + d.next)) items damage)
-        ⊎ ((x : Scanned) × (x.segment ≡ next) × IsReplayed sum size log r.end x × GivesOf sum blobs r.end x.met (GivesBehind r.strict x.why Next) items damage)
+    Read = ((d : IsDamagedBefore sum size log r.end next) → GivesOf sum blobs r.end d.met (EndsAt r.end (next.place + d.next)) items damage)
+        × ((x : Scanned) → x.segment ≡ next → IsReplayed sum size log r.end x
+        → GivesOf sum blobs r.end x.met (GivesBehind r.strict x.why Next) items damage)
 
     by_segment : (IsMissing r.strict sum log next × (items ≡ []) × (damage ≡ None)) ⊎ ((IsMissing r.strict sum log next → ⊥) × Read)
     by_segment =
@@ -153,26 +149,21 @@ module _ {D C : Type 0} (trace : D → Trace) (sum : List ℕ → ℕ) (config :
       pub segment_damaged : (d : IsDamagedBefore sum size log r.end next) (q : Rest) → q.strict ≡ r.strict → q.segments ≡ r.segments → q.read ≡ length r.segments.items
           → q.met.items ≡ d.met → q.given ≡ 0 → q.end ≡ r.end → q.damaged ≡ nat_lt (next.place + d.next) r.end → IsLeft trace sum config q items damage
       unfolding IsLeft
-      segment_damaged d q strict segments all met given end damaged = elim is_read [
-        | inl broken ↦ (
-            let one = one_damage sum size log r.end next broken.0 d in
-            let Ends : ℕ → List Item → Damage → Type 0 = λ n. EndsAt r.end (next.place + n) in
-            let On : List Item → Damage → Type 0 = IsIteration sum size log blobs q.end q.strict (drop q.read q.segments.items) in
-            let here_on = subst (λ (ms : List ScannedRecord). GivesOf sum blobs r.end ms (Ends d.next) items damage) one.0
-            (subst (λ n. GivesOf sum blobs r.end broken.0.met (Ends n) items damage) one.1 broken.1) in
-            let none_left : drop q.read q.segments.items ≡ [] =
-            subst (λ v. drop q.read v.items ≡ []) (sym segments) (drop_all q.read r.segments.items (omega (arith, all))) in
-            let ends = ends_kept r.end (next.place + d.next) q.damaged damaged On
-            (λ is e at. subst (λ (ss : List Segment). IsIteration sum size log blobs q.end q.strict ss is e) (sym none_left) at) in
-            let gives = gives_as sum size log r.end next.slot next.place blobs (Ends d.next) (LeftBehind q.damaged On) d.met
-            (none_so (open_at r.end d.met) ((is : List Item) (e : Damage) → Ends d.next is e → LeftBehind q.damaged On is e) ends) items damage here_on in (
-              λ file y there_too. left_inside r items damage left (sym strict ∙ file) y (subst (λ v. Contains v.items y) segments there_too),
-              subst (λ n. GivesOf sum blobs n (drop q.given q.met.items) (LeftBehind q.damaged On) items damage) (sym end)
-                  (subst (λ n. GivesOf sum blobs r.end (drop n q.met.items) (LeftBehind q.damaged On) items damage) (sym given)
-                  (subst (λ (ms : List ScannedRecord). GivesOf sum blobs r.end ms (LeftBehind q.damaged On) items damage) (sym met) gives)),
-            ))
-        | inr read ↦ absurd (replayed_undamaged sum size log r.end read.0 next read.1 read.2 d)
-      ]
+      segment_damaged d q strict segments all met given end damaged =
+          let Ends : ℕ → List Item → Damage → Type 0 = λ n. EndsAt r.end (next.place + n) in
+          let On : List Item → Damage → Type 0 = IsIteration sum size log blobs q.end q.strict (drop q.read q.segments.items) in
+          let none_left : drop q.read q.segments.items ≡ [] =
+          subst (λ v. drop q.read v.items ≡ []) (sym segments) (drop_all q.read r.segments.items (omega (arith, all))) in
+          let ends = ends_kept r.end (next.place + d.next) q.damaged damaged On
+          (λ is e at. subst (λ (ss : List Segment). IsIteration sum size log blobs q.end q.strict ss is e) (sym none_left) at) in
+          let gives = gives_as sum size log r.end next.slot next.place blobs (Ends d.next) (LeftBehind q.damaged On) d.met
+          (none_so (open_at r.end d.met) ((is : List Item) (e : Damage) → Ends d.next is e → LeftBehind q.damaged On is e) ends) items damage
+          (is_read.0 d) in (
+            λ file y there_too. left_inside r items damage left (sym strict ∙ file) y (subst (λ v. Contains v.items y) segments there_too),
+            subst (λ n. GivesOf sum blobs n (drop q.given q.met.items) (LeftBehind q.damaged On) items damage) (sym end)
+                (subst (λ n. GivesOf sum blobs r.end (drop n q.met.items) (LeftBehind q.damaged On) items damage) (sym given)
+                (subst (λ (ms : List ScannedRecord). GivesOf sum blobs r.end ms (LeftBehind q.damaged On) items damage) (sym met) gives)),
+          )
 
       -- what is given behind a segment is what is left once it counts as read
       behind_read : (why : ScanEnd) (is : List Item) (d : Damage) → GivesBehind r.strict why Next is d → IsIteration sum size log blobs r.end r.strict (drop (reads_behind r.strict why (r.read + 1) (length r.segments.items)) r.segments.items) is d
@@ -190,25 +181,22 @@ module _ {D C : Type 0} (trace : D → Trace) (sum : List ℕ → ℕ) (config :
       pub segment_kept : (x : Scanned) → x.segment ≡ next → IsReplayed sum size log r.end x → (q : Rest) → q.strict ≡ r.strict → q.segments ≡ r.segments → q.read ≡ reads_behind r.strict x.why (r.read + 1) (length r.segments.items)
           → q.met.items ≡ x.met → q.given ≡ 0 → q.end ≡ r.end → q.damaged ≡ false → IsLeft trace sum config q items damage
       unfolding IsLeft
-      segment_kept x at read q strict segments next_one met given end undamaged = elim is_read [
-        | inl broken ↦ absurd (replayed_undamaged sum size log r.end x next at read broken.0)
-        | inr other ↦ (
-            let why = replayed_ends sum size log r.end x next at read other.0 other.1 other.2 in
-            let To : ℕ → List Item → Damage → Type 0 = λ n. IsIteration sum size log blobs r.end r.strict (drop n r.segments.items) in
-            let same = replayed_gives sum size log r.end x next at read blobs (GivesBehind r.strict other.0.why Next) other.0 other.1 other.2 items damage other.3 in
-            let gives = gives_as sum size log r.end x.segment.slot x.segment.place blobs (GivesBehind r.strict other.0.why Next) (To (reads_behind r.strict x.why (r.read + 1) (length r.segments.items))) x.met
-            (none_as (open_at r.end x.met) why (λ is i d on. behind_read x.why i d (subst (λ (w : ScanEnd). GivesBehind r.strict w Next i d) is on)))
-            items damage same in (
-              λ file y there_too. left_inside r items damage left (sym strict ∙ file) y (subst (λ v. Contains v.items y) segments there_too),
-              subst (λ (b : Bool). GivesOf sum blobs q.end (drop q.given q.met.items) (LeftBehind b (IsIteration sum size log blobs q.end q.strict (drop q.read q.segments.items))) items damage) (sym undamaged)
-                  (subst (λ n. GivesOf sum blobs n (drop q.given q.met.items) (IsIteration sum size log blobs n q.strict (drop q.read q.segments.items)) items damage) (sym end)
-                  (subst (λ (b : Bool). GivesOf sum blobs r.end (drop q.given q.met.items) (IsIteration sum size log blobs r.end b (drop q.read q.segments.items)) items damage) (sym strict)
-                  (subst (λ n. GivesOf sum blobs r.end (drop n q.met.items) (IsIteration sum size log blobs r.end r.strict (drop q.read q.segments.items)) items damage) (sym given)
-                  (subst (λ (ms : List ScannedRecord). GivesOf sum blobs r.end ms (IsIteration sum size log blobs r.end r.strict (drop q.read q.segments.items)) items damage) (sym met)
-                  (subst (λ n. GivesOf sum blobs r.end x.met (IsIteration sum size log blobs r.end r.strict (drop n q.segments.items)) items damage) (sym next_one)
-                  (subst (λ v. GivesOf sum blobs r.end x.met (IsIteration sum size log blobs r.end r.strict (drop (reads_behind r.strict x.why (r.read + 1) (length r.segments.items)) v.items)) items damage) (sym segments) gives)))))),
-            ))
-      ]
+      segment_kept x at read q strict segments next_one met given end undamaged =
+          let To : ℕ → List Item → Damage → Type 0 = λ n. IsIteration sum size log blobs r.end r.strict (drop n r.segments.items) in
+          let gives = gives_as sum size log r.end x.segment.slot x.segment.place blobs (GivesBehind r.strict x.why Next)
+          (To (reads_behind r.strict x.why (r.read + 1) (length r.segments.items))) x.met
+          (none_so (open_at r.end x.met) ((is : List Item) (e : Damage) → GivesBehind r.strict x.why Next is e
+          → To (reads_behind r.strict x.why (r.read + 1) (length r.segments.items)) is e) (λ is d on. behind_read x.why is d on))
+          items damage (is_read.1 x at read) in (
+            λ file y there_too. left_inside r items damage left (sym strict ∙ file) y (subst (λ v. Contains v.items y) segments there_too),
+            subst (λ (b : Bool). GivesOf sum blobs q.end (drop q.given q.met.items) (LeftBehind b (IsIteration sum size log blobs q.end q.strict (drop q.read q.segments.items))) items damage) (sym undamaged)
+                (subst (λ n. GivesOf sum blobs n (drop q.given q.met.items) (IsIteration sum size log blobs n q.strict (drop q.read q.segments.items)) items damage) (sym end)
+                (subst (λ (b : Bool). GivesOf sum blobs r.end (drop q.given q.met.items) (IsIteration sum size log blobs r.end b (drop q.read q.segments.items)) items damage) (sym strict)
+                (subst (λ n. GivesOf sum blobs r.end (drop n q.met.items) (IsIteration sum size log blobs r.end r.strict (drop q.read q.segments.items)) items damage) (sym given)
+                (subst (λ (ms : List ScannedRecord). GivesOf sum blobs r.end ms (IsIteration sum size log blobs r.end r.strict (drop q.read q.segments.items)) items damage) (sym met)
+                (subst (λ n. GivesOf sum blobs r.end x.met (IsIteration sum size log blobs r.end r.strict (drop n q.segments.items)) items damage) (sym next_one)
+                (subst (λ v. GivesOf sum blobs r.end x.met (IsIteration sum size log blobs r.end r.strict (drop (reads_behind r.strict x.why (r.read + 1) (length r.segments.items)) v.items)) items damage) (sym segments) gives)))))),
+          )
 
 -- What is left is left where the device was only read.
 pub left_still : {D C : Type 0} (trace : D → Trace) (sum : List ℕ → ℕ) (old new : RunningConfig D C) (r : Rest) (items : List Item) (damage : Damage) → OnlyReads trace old new → IsLeft trace sum old r items damage → IsLeft trace sum new r items damage

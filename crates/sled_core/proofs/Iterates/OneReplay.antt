@@ -1,14 +1,16 @@
--- Up to a batch that is open, a segment is met in one way: what is given of it is so of each reading, and no reading has a damaged record before that.
-use Rattle.std.proofs.Common.{◌≡◌, ◌⊎◌, ◌∙◌, ◌+◌, ◌/◌, ◌≤◌, ◌++◌, ◌||◌, nat_le, ℕ, ℤ, Bool, true, false, List, [], ◌∷◌, Option, Some, None, IfNone, if◌then◌else◌, refl, sym, ap, subst, inl, inr}
+-- Up to a batch that is open, a segment is met in one way: what is given of it is so of each reading, and no reading has a damaged record before that. Where it
+-- is read up to an iterator's end, so it is whatever stands behind that.
+use Rattle.std.proofs.Common.{◌≡◌, ◌⊎◌, ◌∙◌, ◌+◌, ◌/◌, ◌≤◌, ◌++◌, ◌||◌, nat_le, nat_lt, ℕ, ℤ, Bool, true, false, List, [], ◌∷◌, Option, Some, None, IfNone, if◌then◌else◌, refl, sym, ap, subst, arith, inl, inr}
 use Rattle.std.specs.Bool.{MatchBool}
+use Rattle.std.proofs.lemmas.Bool.Decides.{nat_tests}
 use Rattle.sled_core.specs.declared.iterator.Segment.{Segment}
 use Rattle.sled_core.specs.declared.iterator.scan.ScannedRecord.{ScannedRecord}
 use Rattle.sled_core.specs.declared.iterator.scan.ScanEnd.{ScanEnd}
 use Rattle.sled_core.specs.Reading.{IsMalformed}
-use Rattle.sled_core.specs.Scan.{IsPath, IsEnd, IsScan}
+use Rattle.sled_core.specs.Scan.{IsEnd, IsMet, IsPath, IsScan}
 use Rattle.sled_core.specs.Replayed.{IsReplayed, HasBadBlob, NamesBlobOf, with_blob, IsDamagedBefore}
 use Rattle.sled_core.specs.Tail.{Scanned, opens, open_at}
-use Rattle.sled_core.specs.Iterates.{Item, Damage, IsNamed, items_of, stops, GivesOf}
+use Rattle.sled_core.specs.Iterates.{Item, Damage, EndsAt, IsNamed, items_of, stops, GivesOf}
 use Rattle.sled_core.proofs.Tail.OneReading.{one_met, met_formed, no_end_at, end_formed, one_scan, path_begins}
 
 -- what holds by a test, where another thing does in the second case
@@ -41,6 +43,10 @@ no_stop end m is = by (nat_le end m.place) is where
   by : (b : Bool) → b || opens end m.what ≡ false → opens end m.what ≡ false
   by true at = absurd (cc)
   by false at = at
+
+-- nothing is given
+abbrev pub IsNothing : List Item → Damage → Type 0
+IsNothing items damage = (items ≡ []) × (damage ≡ None)
 
 -- what is asked behind a record that begins none
 shut : (end : ℕ) (m : ScannedRecord) (ms : List ScannedRecord) (P : Type 0) → opens end m.what ≡ false → IfNone (open_at end (m ∷ ms)) P → IfNone (open_at end ms) P
@@ -116,23 +122,54 @@ module _ (sum : List ℕ → ℕ) (size : ℕ) (log : List ℕ) (end slot place 
       undamaged (at + m.len) ms stop why ns next path.3 (shut end m ms (IsEnd sum size log slot place stop why) (ap (λ (y : ScannedRecord). opens end y.what) (sym same) ∙ parts.0) ends)
       (subst (λ k. Path k ns next) len other.3) parts.1 room bad
 
-  -- and all damaged records stand at one offset, behind the same records
-  same_damage : (at : ℕ) (ms : List ScannedRecord) (stop : ℕ) (ns : List ScannedRecord) (next : ℕ) → Path at ms stop → IsMalformed sum size log (slot + stop) (place / size)
-      → Path at ns next → IsMalformed sum size log (slot + next) (place / size) → (ms ≡ ns) × (stop ≡ next)
-  same_damage at [] stop [] next path bad other worse = (refl, path ∙ sym other)
-  same_damage at [] stop (n ∷ ns) next path bad other worse =
-      absurd (met_formed sum size log (slot + at) (place / size) n other.2 (subst (λ k. IsMalformed sum size log (slot + k) (place / size)) path bad))
-  same_damage at (m ∷ ms) stop [] next path bad other worse =
-      absurd (met_formed sum size log (slot + at) (place / size) m path.2 (subst (λ k. IsMalformed sum size log (slot + k) (place / size)) other worse))
-  same_damage at (m ∷ ms) stop (n ∷ ns) next path bad other worse =
-      let same : n ≡ m = one_met sum size log (slot + at) (place / size) n other.2 m path.2 (other.1 ∙ sym path.1) in
-      let len : at + n.len ≡ at + m.len = ap (λ (y : ScannedRecord). at + y.len) same in
-      let more = same_damage (at + m.len) ms stop ns next path.3 bad (subst (λ k. Path k ns next) len other.3) worse in
-      (ap (λ (l : List ScannedRecord). m ∷ l) more.0 ∙ ap (λ (y : ScannedRecord). y ∷ ns) (sym same), more.1)
+  -- What is given of a reading that comes up to the end is given of each one that goes on: what stands behind that is not given.
+  module _ (blobs : ℤ → Option (List ℕ)) (others : List Item → Damage → Type 0) where
+    -- no record is met where the one that goes on ends, and nothing is given behind that
+    abbrev EndsSo : List ScannedRecord → ℕ → Type 0
+    EndsSo ns next = IfNone (open_at end ns)
+        (((m : ScannedRecord) → next + 32 ≤ size → IsMet sum size log (slot + next) (place / size) m → ⊥) × (end ≤ place + next → others [] None))
 
--- Of a segment one damaged record can be met.
-pub one_damage : (sum : List ℕ → ℕ) (size : ℕ) (log : List ℕ) (end : ℕ) (s : Segment) (d e : IsDamagedBefore sum size log end s) → (d.met ≡ e.met) × (d.next ≡ e.next)
-one_damage sum size log end s d e = same_damage sum size log end s.slot s.place 20 d.met d.next e.met e.next d.path d.damaged e.path e.damaged
+    -- what is given of a record that doesn't stop an iterator, and of those behind it
+    abbrev Left : (List Item → Damage → Type 0) → ScannedRecord → List ScannedRecord → List Item → Damage → Type 0
+    Left on x xs items damage =
+        (HasBadBlob sum blobs x.what × (items ≡ []) × IsNamed (NamesBlobOf sum blobs x.what) damage)
+        ⊎ ((HasBadBlob sum blobs x.what → ⊥)
+        × ((rest : List Item) × (items ≡ items_of x (with_blob blobs x.what) ++ rest) × GivesOf sum blobs end xs on rest damage))
+
+    gives_further : (at : ℕ) (ms : List ScannedRecord) (stop : ℕ) → Path at ms stop → end ≤ place + stop → (ns : List ScannedRecord) (next : ℕ)
+        → Path at ns next → EndsSo ns next → (items : List Item) (damage : Damage) → GivesOf sum blobs end ms IsNothing items damage
+        → GivesOf sum blobs end ns others items damage
+    gives_further at [] stop path far [] next other ends items damage gives =
+        subst (λ (l : List Item). others l damage) (sym gives.0)
+        (subst (λ (d : Damage). others [] d) (sym gives.1) (ends.1 (omega (arith, far, path, other))))
+    gives_further at [] stop path far (n ∷ ns) next other ends items damage gives =
+        let over : end ≤ n.place = omega (arith, far, path, other.1) in
+        let test : nat_le end n.place ≡ true = grind (arith, nat_tests, over) in
+        let stopped : stops end n ≡ true = ap (λ (b : Bool). b || opens end n.what) test in
+        subst (λ (b : Bool). MatchBool b ((items ≡ []) × (damage ≡ None)) (Left others n ns items damage)) (sym stopped) gives
+    gives_further at (m ∷ ms) stop path far [] next other ends items damage gives =
+        absurd (ends.0 m (omega (arith, path.0, other)) (subst (λ k. IsMet sum size log (slot + k) (place / size) m) (sym other) path.2))
+    gives_further at (m ∷ ms) stop path far (n ∷ ns) next other ends items damage gives =
+        let same : m ≡ n = one_met sum size log (slot + at) (place / size) m path.2 n other.2 (path.1 ∙ sym other.1) in
+        let len : at + m.len ≡ at + n.len = ap (λ (y : ScannedRecord). at + y.len) same in
+        let here : GivesOf sum blobs end (n ∷ ms) IsNothing items damage =
+        subst (λ (y : ScannedRecord). GivesOf sum blobs end (y ∷ ms) IsNothing items damage) same gives in
+        second_case (stops end n) ((items ≡ []) × (damage ≡ None)) (Left IsNothing n ms items damage) (Left others n ns items damage)
+        (λ end_not left. elim left [
+          | inl bad ↦ inl bad
+          | inr on ↦ inr (
+            on.0,
+            (
+              on.1.0,
+              on.1.1,
+              gives_further (at + n.len) ms stop (subst (λ k. Path k ms stop) len path.3) far ns next other.3
+                  (shut end n ns (((x : ScannedRecord) → next + 32 ≤ size → IsMet sum size log (slot + next) (place / size) x → ⊥)
+                  × (end ≤ place + next → others [] None)) (no_stop end n end_not) ends)
+                  on.1.0 damage on.1.2,
+            ),
+          )
+        ])
+        here
 
 module _ (sum : List ℕ → ℕ) (size : ℕ) (log : List ℕ) (end : ℕ) (x : Scanned) (s : Segment) (at : x.segment ≡ s) (read : IsReplayed sum size log end x) where
   -- a segment that is read so has no damaged record before a batch that is open
@@ -166,3 +203,31 @@ module _ (sum : List ℕ → ℕ) (size : ℕ) (log : List ℕ) (end : ℕ) (x :
         let xs : Scanned = record { segment = x.segment; met = x.met; stop = x.stop; why = x.why } in
         let ys : Scanned = record { segment = x.segment; met = y.met; stop = y.stop; why = y.why } in
         ap (λ (t : Scanned). t.why) (one_scan sum size log ys xs refl (there.0, its_end) (read.0, ends))
+
+-- Where a segment is read up to the end, what is given of that is given of it, whatever stands behind the end.
+module _ (sum : List ℕ → ℕ) (size : ℕ) (log : List ℕ) (end : ℕ) (s : Segment) (blobs : ℤ → Option (List ℕ)) (ms : List ScannedRecord) (stop : ℕ)
+    (path : IsPath sum size log s.slot s.place 20 ms stop) (far : end ≤ s.place + stop) (items : List Item) (damage : Damage)
+    (gives : GivesOf sum blobs end ms IsNothing items damage) where
+  pub damaged_further : (d : IsDamagedBefore sum size log end s) → GivesOf sum blobs end d.met (EndsAt end (s.place + d.next)) items damage
+  damaged_further d =
+      gives_further sum size log end s.slot s.place blobs (EndsAt end (s.place + d.next)) 20 ms stop path far d.met d.next d.path
+      (if_none_so (open_at end d.met) _ (λ none. (
+        λ m room met. met_formed sum size log (s.slot + d.next) (s.place / size) m met d.damaged,
+        λ behind. (
+          refl,
+          sym (ap (λ (b : Bool). if b then Some None else None) (let test : nat_lt (s.place + d.next) end ≡ false =
+              grind (arith, nat_tests, behind) in test)),
+        ),
+      ))) items damage gives
+
+  pub replayed_further : (x : Scanned) → x.segment ≡ s → IsReplayed sum size log end x → (on : List Item → Damage → Type 0) → on [] None
+      → GivesOf sum blobs end x.met on items damage
+  replayed_further x at read on nothing =
+      let there = subst (λ (t : Segment). IsPath sum size log t.slot t.place 20 x.met x.stop
+      × IfNone (open_at end x.met) (IsEnd sum size log t.slot t.place x.stop x.why)) at read in
+      gives_further sum size log end s.slot s.place blobs on 20 ms stop path far x.met x.stop there.0
+      (if_none_so (open_at end x.met) _ (λ none. (
+        λ m room met. no_end_at sum size log s.slot s.place x.stop m x.why room met
+            (subst (λ (o : Option ℕ). IfNone o (IsEnd sum size log s.slot s.place x.stop x.why)) none there.1),
+        λ behind. nothing,
+      ))) items damage gives

@@ -28,14 +28,14 @@ use Rattle.sled_core.specs.inside.Running.{FitsWith, FitsShown}
 use Rattle.sled_core.specs.Recoverable.{NoHeaderOfZeros}
 use Rattle.sled_core.specs.inside.Hides.{HidesFrom}
 use Rattle.sled_core.specs.inside.SealedBuffers.{one_ended, one_fewer}
-use Rattle.sled_core.specs.inside.Shown.{IsAsShown, shown_of}
+use Rattle.sled_core.specs.inside.Shown.{RestsWhole, shown_of}
 use Rattle.sled_core.specs.inside.Turned.{ChangesLine, ended_now}
 use Rattle.sled_core.specs.Waiting.{buffer_at, unwritten_in}
 use Rattle.sled_core.proofs.Cleared.Calls.{cleared_ended}
 use Rattle.sled_core.proofs.Cleared.Shown.{ShowsSame}
 use Rattle.sled_core.proofs.Line.KeptCalls.{goes_on_quietly}
 use Rattle.sled_core.proofs.Line.Moves.{holds_as}
-use Rattle.sled_core.proofs.Line.Shown.{fits_shown, holds_shown}
+use Rattle.sled_core.proofs.Line.Shown.{fits_shown}
 use Rattle.sled_core.proofs.Line.LineEnds.{end_set}
 use Rattle.sled_core.proofs.Numbers.HidesAs.{from_as}
 use Rattle.sled_core.proofs.Line.LineEnds.{kept_same, noted_later, noted_same}
@@ -131,21 +131,21 @@ module _ {D C : Type 0} (old new : Log D C) (n : ℕ) (v : SegmentView) (there :
   -- The log holds and fits what the changed segments do.
 
   pub holds_ended : (trace : D → Trace) (sum : List ℕ → ℕ) (H : History)
-      → IsAsShown old.config.config.segment_size old.fault.kept (machine_of old.accountant) (line_of old) (state_of (trace old.config.device)).log
+      → RestsWhole old.fault.kept (state_of (trace old.config.device)).log
       → HoldsWith sum (noted_in old) old.config.config.segment_size (shown_of trace old) old.fault.kept (set (line_of old) n e)
       (machine_of old.accountant) (logged H)
       → Holds trace sum new H
-  holds_ended trace sum H file holds =
+  holds_ended trace sum H rests holds =
       holds_as trace sum old new rest.config rest.fault (noted_in old) noted_ended (set (line_of old) n e) line (machine_of old.accountant)
-      (ap machine_of rest.accountant) shows_ended file H holds
+      (ap machine_of rest.accountant) shows_ended rests H holds
 
   pub fits_ended : (trace : D → Trace) (sum : List ℕ → ℕ) (H' H : History) (A f : ℕ) (U : List Message)
       → (old.fault.kept ≡ None → NoHeaderOfZeros sum → HidesFrom sum old.config.config.segment_size (state_of (trace old.config.device))
       (machine_of old.accountant) (line_of old) (logged H'))
-      → IsAsShown old.config.config.segment_size old.fault.kept (machine_of old.accountant) (line_of old) (state_of (trace old.config.device)).log
+      → RestsWhole old.fault.kept (state_of (trace old.config.device)).log
       → FitsWith sum (noted_in old) old.config.config.segment_size (shown_of trace old) old.fault.kept (set (line_of old) n e) (machine_of old.accountant) old.pins H A f U → Fits trace sum new H A f U
   unfolding Fits
-  fits_ended trace sum H' H A f U hides file fits =
+  fits_ended trace sum H' H A f U hides rests fits =
       subst (λ (c : RunningConfig D C). FitsShown sum (noted_in new) c.config.segment_size (state_of (trace c.device)) new.fault.kept (line_of new) (machine_of new.accountant) new.pins H A f U) (sym rest.config)
       (subst (λ (x : Option IoError). FitsShown sum (noted_in new) old.config.config.segment_size (state_of (trace old.config.device)) x (line_of new) (machine_of new.accountant) new.pins H A f U) (sym rest.fault)
       (subst (λ (l : List SegmentView). FitsShown sum (noted_in new) old.config.config.segment_size (state_of (trace old.config.device)) old.fault.kept l (machine_of new.accountant) new.pins H A f U) (sym line)
@@ -153,7 +153,7 @@ module _ {D C : Type 0} (old new : Log D C) (n : ℕ) (v : SegmentView) (there :
       (subst (λ (p : ℕ). FitsShown sum (noted_in new) old.config.config.segment_size (state_of (trace old.config.device)) old.fault.kept (set (line_of old) n e) (machine_of old.accountant) p H A f U) (sym rest.pins)
       (subst (λ (bs : List Batch). FitsShown sum bs old.config.config.segment_size (state_of (trace old.config.device)) old.fault.kept (set (line_of old) n e) (machine_of old.accountant) old.pins H A f U) (sym noted_ended)
       (fits_shown sum (noted_in old) old.config.config.segment_size (state_of (trace old.config.device)) old.fault.kept (machine_of old.accountant)
-      (machine_of old.accountant) (line_of old) (set (line_of old) n e) shows_ended file old.pins H A f U
+      (machine_of old.accountant) (line_of old) (set (line_of old) n e) shows_ended rests old.pins H A f U
       (λ none zeros. from_as sum old.config.config.segment_size (omega (arith, old.config.config.least)) (state_of (trace old.config.device))
       (machine_of old.accountant) (machine_of old.accountant) (line_of old) (set (line_of old) n e) (logged H') (logged H) (λ j. refl) (λ j. refl)
       (shows_ended (state_of (trace old.config.device)).log.bytes)

@@ -19,7 +19,7 @@ use Rattle.sled_core.specs.inside.Begun.{line_end}
 use Rattle.sled_core.specs.inside.Numbers.{HasNumbers, HaveSlotsFrom}
 use Rattle.sled_core.specs.inside.Shown.{shown}
 use Rattle.sled_core.specs.inside.Slots.{HasAccount}
-use Rattle.sled_core.proofs.Cleared.Shown.{as_shown_faulty, shown_faulty}
+use Rattle.sled_core.proofs.Cleared.Shown.{shown_faulty}
 use Rattle.sled_core.proofs.Flush.FlushLemmas.{fault_or_none, holds-faulty}
 use Rattle.sled_core.proofs.Flush.SameFits.{fits_faulty}
 use Rattle.sled_core.proofs.Numbers.OwnLess.{less_same}
@@ -51,7 +51,7 @@ holds_faulty sum noted size device new fault now line m H holds e is names = rec
     batches = holds.batches;
     slots = slots_line_faulty size line device.log.bytes (shown size now m line new).log.bytes fault m holds.slots e now is;
   };
-  file = as_shown_faulty size e now is m line new.log;
+  rests = λ none. cc;
 }
 
 pub fits_shown_faulty : (sum : List ℕ → ℕ) (noted : List Batch) (size : ℕ) (device new : State) (fault now : Option IoError) (line : List SegmentView)
@@ -75,7 +75,7 @@ fits_shown_faulty sum noted size device new fault now line m pins H A f U fits e
         numbers = λ zeros. subst (λ (s : State). HasNumbers sum size 0 s m (line_end size line)) (sym same) (numbers zeros);
         in_slots = subst (λ (s : NamesState). HaveSlotsFrom sum size s.file H (stable_below fits.reach H.batches) m) (sym names) fits.in_slots;
       };
-      file = as_shown_faulty size e now is m line new.log;
+      rests = λ none. cc;
       hides = λ none zeros. cc;
     }
 

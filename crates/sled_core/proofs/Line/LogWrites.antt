@@ -1,5 +1,5 @@
 -- A log at each moment of the write of one of its sealed buffers, once that failed, and once it is done: what it held and fitted it holds and fits.
-use Rattle.std.proofs.Common.{◌≡◌, ◌∙◌, ◌<◌, ◌≤◌, ◌+◌, ap, sym, arith, subst, ℕ, zero, suc, List, [], ◌∷◌, length, map, set, Option, None, Some, inl, inr}
+use Rattle.std.proofs.Common.{◌≡◌, ◌∙◌, ◌<◌, ◌≤◌, ◌+◌, ap, refl, sym, arith, subst, ℕ, zero, suc, List, [], ◌∷◌, length, map, set, Option, None, Some, inl, inr}
 use Rattle.std.specs.List.{slice_get}
 use Rattle.std.specs.declared.io.Error.{Error as IoError}
 use Rattle.std.proofs.lemmas.List.{length-map}
@@ -7,6 +7,7 @@ use Rattle.sled_codec.specs.History.{Batch, Message, History}
 use Rattle.sled_codec.specs.Snapshots.{stable_place}
 use Rattle.sled_store.specs.Accounts.{machine_of}
 use Rattle.sled_store.specs.Device.{Event, LogState, State, Trace, state_of}
+use Rattle.sled_store.specs.Foreign.{HeaderWasPlaced, RecordWasPlaced}
 use Rattle.sled_store.specs.Moments.{Throughout}
 use Rattle.sled_store.specs.inside.Script.{Along}
 use Rattle.sled_store.specs.Script.{Performs, after_all}
@@ -26,22 +27,25 @@ use Rattle.sled_core.specs.inside.Fits.{FitsBatches, HoldsLine, HoldsShown, writ
 use Rattle.sled_core.specs.invariants.Fits.{Holds}
 use Rattle.sled_core.specs.Fits.{device_of, fault_of, line_of, noted_in, segment_size_of}
 use Rattle.sled_core.specs.inside.Begun.{first_place, line_end}
+use Rattle.sled_core.specs.inside.Cleared.{is_stale}
 use Rattle.sled_core.specs.inside.FreeSlots.{HasSlots}
-use Rattle.sled_core.specs.inside.OwnLog.{HasPlacedFile}
-use Rattle.sled_core.specs.inside.Shown.{IsAsShown, shown}
+use Rattle.sled_core.specs.inside.OwnLog.{HasPlacedFile, IsOwnFile}
+use Rattle.sled_core.specs.inside.Shown.{shown}
 use Rattle.sled_core.specs.Recoverable.{LeavesRecoverable, NoHeaderOfZeros}
 use Rattle.sled_core.specs.inside.Lasting.{LeavesRecovering}
 use Rattle.sled_core.specs.invariants.Running.{Fits}
 use Rattle.sled_core.specs.inside.Running.{FitsLine, FitsShown}
 use Rattle.sled_core.specs.inside.Numbers.{HasNumbers}
 use Rattle.sled_core.specs.inside.Slots.{AreWhole}
-use Rattle.sled_core.proofs.Cleared.Shown.{shown_is}
+use Rattle.sled_core.proofs.Cleared.Offsets.{zeroed_long}
+use Rattle.sled_core.proofs.Cleared.Shown.{shown_bytes}
 use Rattle.sled_core.specs.inside.Turned.{ChangesDevice, IsReadyIn, promoted, write_in, written_now}
 use Rattle.sled_core.proofs.Flush.FlushLemmas.{fault_or_none}
 use Rattle.sled_core.proofs.Holds.FitsBatches.{batches_left, batches_up}
 use Rattle.sled_core.proofs.Holds.BufferEnds.{written_behind}
 use Rattle.sled_core.proofs.Line.Ends.{line_holds}
-use Rattle.sled_core.proofs.Line.Faulty.{fits_shown_faulty, fits_with_device, holds_faulty, holds_with_device, line_leaves, names_written}
+use Rattle.sled_core.proofs.Line.Faulty.{fits_shown_faulty, fits_with_device, holds_faulty, holds_with_device, names_written, numbers_placed}
+use Rattle.sled_core.proofs.Line.LeftWrites.{left_writes}
 use Rattle.sled_core.proofs.Line.LineEnds.{end_left, end_set}
 use Rattle.sled_core.proofs.Line.WriteHides.{hides_behind}
 use Rattle.sled_core.proofs.Line.NthOpen.{line_with, nth_same}
@@ -49,7 +53,7 @@ use Rattle.sled_core.proofs.Line.Promotes.{end_promoted, holds_promoted}
 use Rattle.sled_core.proofs.Holds.Facts.{nth_facts}
 use Rattle.sled_core.proofs.Line.Fillings.{log_recorded}
 use Rattle.sled_core.proofs.Line.Segments.{AreSegments, filled_promoted, filled_written, follow_segments, line_segments, promoted_waits, run_written, segments_promoted, set_segment, written_segment}
-use Rattle.sled_core.proofs.Line.ShownWrite.{fits_moved, holds_moved, settled_same, shown_written, written_as_shown}
+use Rattle.sled_core.proofs.Line.ShownWrite.{fits_moved, holds_moved, shown_written}
 use Rattle.sled_core.proofs.Line.Writes.{along_write, buffer_begin, buffer_bytes, buffer_calls, buffer_synced, calls_are, fits_write, holds_write, passes_line, slots_write}
 use Rattle.sled_core.proofs.Line.WrittenSlots.{whole_write}
 use Rattle.sled_core.proofs.Line.NeededSlots.{newest_stable, slots_at}
@@ -166,29 +170,6 @@ module _ {D C : Type 0} (log : Log D C) (n k : ℕ) (r : IsReadyIn (line_of log)
     calls : write_in line n k ≡ buffer_calls sum size log.config.config.least sees log.fault.kept whole v k r.buffer r.there r.ready
     calls = calls_are sum size log.config.config.least sees log.fault.kept whole v k r.buffer r.there r.ready line n r.among
 
-    abbrev File : Type 0
-    File = IsAsShown size log.fault.kept slots line device.log
-
-    -- as yet what is shown is the device itself
-    shows_device : File → sees ≡ device
-    shows_device file = shown_is size log.fault.kept slots line device file
-
-    -- As yet what a crash leaves of the device at each moment of the calls is what it leaves of what is shown.
-    left_along : File → (reach : ℕ) (H : History) (A f : ℕ) (U : List Message) → FitsLine sum size sees log.fault.kept line reach log.pins H A f U
-        → Along (LeavesRecovering sum size H (stable_below reach H.batches) f) (write_in line n k) device
-    left_along file reach H A f U fits =
-        subst (λ (s : State). Along (LeavesRecovering sum size H (stable_below reach H.batches) f) (write_in line n k) s) (shows_device file)
-        (subst (λ (es : List Event). Along (LeavesRecovering sum size H (stable_below reach H.batches) f) es sees) (sym calls)
-        (along_write sum size log.config.config.least sees log.fault.kept whole v k r.buffer r.there r.ready log.pins H A f U
-        (log_recorded log n v r.among) log.segments.first.site.place reach line (line_segments log) n r.among fits))
-
-    left : (new : Trace) → Performs (write_in line n k) before new → File → (reach : ℕ) (H : History) (A f : ℕ) (U : List Message)
-        → FitsLine sum size sees log.fault.kept line reach log.pins H A f U
-        → Throughout (LeavesRecovering sum size H (stable_below reach H.batches) f) before new
-    left new came file reach H A f U fits =
-        performs_throughout (LeavesRecovering sum size H (stable_below reach H.batches) f) (write_in line n k) before new came
-        (left_along file reach H A f U fits)
-
     -- Made or not, they leave blobs and snapshots as they were.
     pub names : (new : Trace) → Performs (write_in line n k) before new → ((state_of new).blobs ≡ device.blobs) × ((state_of new).snapshots ≡ device.snapshots)
     names new came =
@@ -205,27 +186,114 @@ module _ {D C : Type 0} (log : Log D C) (n k : ℕ) (r : IsReadyIn (line_of log)
           holds_faulty sum (noted_in log) size sees (state_of new) log.fault.kept now line slots (logged H) holds.shows some.0 some.1 (names new came).1
     ]
 
+    -- the device once all was made, and what the lemmas on a write make of what was shown
+    abbrev behind_calls : State
+    behind_calls = buffer_synced sum size log.config.config.least device log.fault.kept whole v k r.buffer r.there r.ready
+
+    abbrev sees_behind : State
+    sees_behind = buffer_synced sum size log.config.config.least sees log.fault.kept whole v k r.buffer r.there r.ready
+
+    slots_behind : (m : Option IoError) → HasSlots size line sees.log.bytes log.fault.kept slots → HasSlots size line_left sees_behind.log.bytes m slots
+    slots_behind now has =
+        slots_write sum size log.config.config.least sees log.fault.kept whole v k r.buffer r.there r.ready log.segments.first.site.place line (line_segments log) n r.among slots now has
+
+    -- The log file that is shown is written over with the same bytes.
+    same_log : HasSlots size line sees.log.bytes log.fault.kept slots → (now : Option IoError) → now ≡ None
+        → (shown size now slots line_left behind_calls).log ≡ sees_behind.log
+    same_log has now none = shown_written sum size log.config.config.least device log.fault.kept whole v k r.buffer r.there r.ready
+        log.segments.first.site.place line (line_segments log) n r.among slots sees.log.bytes has now none
+
     -- Made or not, in the slots nothing that is the log's own has a greater number.
     abbrev Numbered : State → Type 0
     Numbered s = HasNumbers sum size 0 s slots (line_end size line)
 
-    module _ (H : History) (A f : ℕ) (U : List Message) (fits : FitsShown sum (noted_in log) size device log.fault.kept line slots log.pins H A f U)
-        (zeros : NoHeaderOfZeros sum) where
+    -- What it fits.
+    module _ (H : History) (A f : ℕ) (U : List Message) (fits : FitsShown sum (noted_in log) size device log.fault.kept line slots log.pins H A f U) where
+      abbrev has : HasSlots size line sees.log.bytes log.fault.kept slots
+      has = fits.shows.slots
+
+      abbrev stable : ℕ
+      stable = stable_below fits.shows.reach H.batches
+
       held : HoldsLine sum size sees log.fault.kept line (logged H)
       held = line_holds sum size sees log.fault.kept line fits.shows.reach log.pins H A f U fits.shows.parts
 
-      -- as yet so it is of the device where it is so of what is shown
-      write_numbers : Along Numbered (write_in line n k) device
-      write_numbers =
-          subst (λ (s : State). Along Numbered (write_in line n k) s) (shows_device fits.file)
-          (subst (λ (es : List Event). Along Numbered es sees) (sym calls)
+      write_numbers : NoHeaderOfZeros sum → Along Numbered (write_in line n k) device
+      write_numbers zeros =
+          subst (λ (es : List Event). Along Numbered es device) (sym calls)
           (numbers_along sum size log.config.config.least sees log.fault.kept whole v k r.buffer r.there r.ready log.segments.first.site.place line
-          (line_segments log) n r.among slots fits.shows.slots (logged H) held zeros (fits.shows.own whole zeros) (fits.shows.numbers zeros)))
+          (line_segments log) n r.among slots has (logged H) held zeros (fits.shows.own whole zeros) (fits.shows.numbers zeros) device refl)
 
-    numbers_left : (new : Trace) → Performs (write_in line n k) before new → (H : History) (A f : ℕ) (U : List Message)
-        → FitsShown sum (noted_in log) size device log.fault.kept line slots log.pins H A f U → NoHeaderOfZeros sum → Numbered (state_of new)
-    numbers_left new came H A f U fits zeros =
-        at_last Numbered before new (performs_throughout Numbered (write_in line n k) before new came (write_numbers H A f U fits zeros))
+      -- Once all was made it fits the same with the segments that are left,
+      after : (up_to : ℕ) × FitsLine sum size sees_behind None line_left up_to log.pins H A f U
+      after =
+          fits_write sum size log.config.config.least sees log.fault.kept whole v k r.buffer r.there r.ready log.pins H A f U (log_recorded log n v r.among)
+          log.reserved_to log.segments.first.site.place fits.shows.reach line (line_segments log) n r.among filled_now first_waits fits.shows.parts
+
+      abbrev sees_now : State
+      sees_now = shown size None slots line_left behind_calls
+
+      log_now : sees_now.log ≡ sees_behind.log
+      log_now = same_log has None (λ i. None)
+
+      -- (what was placed is so by what was placed on the device itself)
+      own_behind : NoHeaderOfZeros sum → HasPlacedFile sum size sees_now line_left
+      own_behind zeros =
+          subst (λ (l : LogState). IsOwnFile sum size (HeaderWasPlaced behind_calls.placed) (RecordWasPlaced sum size behind_calls.placed) l.bytes line_left)
+          (sym log_now)
+          (placed_left sum size log.config.config.least sees log.fault.kept whole v k r.buffer r.there r.ready log.segments.first.site.place line
+          (line_segments log) n r.among slots has (logged H) held zeros (fits.shows.own whole zeros) before (fits.rests whole) refl
+          (ap length (shown_bytes size log.fault.kept slots line device whole) ∙ zeroed_long (is_stale size slots line) device.log.bytes))
+
+      numbers_after : NoHeaderOfZeros sum → HasNumbers sum size 0 sees_now slots (line_end size line_left)
+      numbers_after zeros =
+          numbers_placed sum size behind_calls sees_now slots (line_end size line_left) refl
+          (subst (HasNumbers sum size 0 behind_calls slots) (sym end_stays)
+          (numbers_behind sum size log.config.config.least sees log.fault.kept whole v k r.buffer r.there r.ready log.segments.first.site.place line
+          (line_segments log) n r.among slots has (logged H) held zeros (fits.shows.own whole zeros) (fits.shows.numbers zeros) device refl))
+
+      fits_behind : FitsShown sum noted_left size behind_calls None line_left slots log.pins H A f U
+      fits_behind = record {
+        shows = record {
+          reach = after.0;
+          parts = fits_moved sum size log.config.config.least device log.fault.kept whole v k r.buffer r.there r.ready log.segments.first.site.place line
+              (line_segments log) n r.among slots sees.log.bytes has None (λ i. None) None line_left after.0 log.pins H A f U after.1;
+          batches = batches_after (logged H) fits.shows.batches;
+          slots = subst (λ (l : LogState). HasSlots size line_left l.bytes None slots) (sym log_now) (slots_behind None has);
+          whole = λ none zeros. subst (λ (l : LogState). AreWhole sum size l.bytes (logged H) (first_place line_left) slots) (sym log_now)
+              (whole_write sum size log.config.config.least sees log.fault.kept whole v k r.buffer r.there r.ready log.segments.first.site.place line
+              (line_segments log) n r.among slots has
+              fits.shows.reach after.0 log.pins H A f U fits.shows.parts after.1 zeros (fits.shows.whole whole zeros));
+          own = λ none zeros. own_behind zeros;
+          account = fits.shows.account;
+          numbers = numbers_after;
+          in_slots = λ first begins. slots_at sum size (stable_place first.stable) stable H slots (fits.shows.in_slots first begins)
+              (stable_below after.0 H.batches)
+              (λ zeros. newest_stable sum size _ None (λ i. None) line_left after.0 log.pins H A f U after.1 zeros first begins);
+        };
+        rests = λ none. refl;
+        hides = λ none zeros. hides_behind sum (noted_in log) size log.config.config.least device log.fault.kept whole zeros slots log.pins H A f U
+            log.segments.first.site.place line (line_segments log) fits.shows (fits.hides whole zeros) n v r.among k r.buffer r.there r.ready;
+      }
+
+      -- so at each moment of the calls a crash leaves what can be recovered, as it does of what is shown.
+      left_along : Along (LeavesRecovering sum size H stable f) (write_in line n k) device
+      left_along =
+          let are_left = segments_promoted size log.segments.first.site.place line_written segments_written in
+          subst (λ (es : List Event). Along (LeavesRecovering sum size H stable f) es device) (sym calls)
+          (left_writes sum (noted_in log) noted_left size log.config.config.least device log.fault.kept whole slots log.pins H A f U
+          log.segments.first.site.place line (line_segments log) fits n v r.among k r.buffer r.there r.ready are_left.0 are_left.1 fits_behind
+          (along_write sum size log.config.config.least sees log.fault.kept whole v k r.buffer r.there r.ready log.pins H A f U
+          (log_recorded log n v r.among) log.segments.first.site.place fits.shows.reach line (line_segments log) n r.among fits.shows.parts))
+
+      module _ (new : Trace) (came : Performs (write_in line n k) before new) where
+        left : LeavesRecovering sum size H stable f (state_of new)
+        left =
+            at_last (LeavesRecovering sum size H stable f) before new
+            (performs_throughout (LeavesRecovering sum size H stable f) (write_in line n k) before new came left_along)
+
+        numbers_left : NoHeaderOfZeros sum → Numbered (state_of new)
+        numbers_left zeros = at_last Numbered before new (performs_throughout Numbered (write_in line n k) before new came (write_numbers zeros))
 
     -- At each moment of the calls a crash leaves what can be recovered, and lasts.
     pub crash_write : (new : Trace) → Performs (write_in line n k) before new → (H : History) (A f : ℕ) (U : List Message) → Fits trace sum log H A f U → Throughout (LeavesRecoverable sum size H A f) before new
@@ -243,7 +311,7 @@ module _ {D C : Type 0} (log : Log D C) (n k : ℕ) (r : IsReadyIn (line_of log)
               (fits_ascends trace sum log H A f U fits)
               zeros s (has zeros);
         }))
-        (write_in line n k) device (left_along fits.file fits.shows.reach H A f U fits.shows.parts)
+        (write_in line n k) device (left_along H A f U fits)
         (along_if (NoHeaderOfZeros sum) Numbered (write_in line n k) device (λ zeros. write_numbers H A f U fits zeros)))
 
     pub fits_failed : (new : Trace) → Performs (write_in line n k) before new → (now : Option IoError) → (now ≡ None → new ≡ before) → (H : History)
@@ -253,36 +321,12 @@ module _ {D C : Type 0} (log : Log D C) (n k : ℕ) (r : IsReadyIn (line_of log)
       | inl none ↦ fits_with_device sum (noted_in log) size device (state_of new) log.fault.kept now line slots log.pins H A f U (ap state_of (same none)) (none ∙ sym whole) fits
       | inr some ↦
           fits_shown_faulty sum (noted_in log) size sees (state_of new) log.fault.kept now line slots log.pins H A f U fits.shows some.0 some.1
-          (names new came).0 (names new came).1
-          (at_last (LeavesRecovering sum size H (stable_below fits.shows.reach H.batches) f) before new
-          (left new came fits.file fits.shows.reach H A f U fits.shows.parts))
-          (λ zeros. numbers_left new came H A f U fits zeros)
+          (names new came).0 (names new came).1 (left H A f U fits new came) (numbers_left H A f U fits new came)
     ]
 
     -- Once they were all made it does so with the segments that are left.
     made : (new : Trace) → new ≡ after_all (write_in line n k) before → new ≡ after_all (buffer_calls sum size log.config.config.least device log.fault.kept whole v k r.buffer r.there r.ready) before
     made new came = came ∙ ap (λ (es : List Event). after_all es before) calls
-
-    -- the device then, and what the lemmas on a write make of what was shown
-    abbrev behind_calls : State
-    behind_calls = buffer_synced sum size log.config.config.least device log.fault.kept whole v k r.buffer r.there r.ready
-
-    abbrev sees_behind : State
-    sees_behind = buffer_synced sum size log.config.config.least sees log.fault.kept whole v k r.buffer r.there r.ready
-
-    slots_behind : (m : Option IoError) → HasSlots size line sees.log.bytes log.fault.kept slots → HasSlots size line_left sees_behind.log.bytes m slots
-    slots_behind now has =
-        slots_write sum size log.config.config.least sees log.fault.kept whole v k r.buffer r.there r.ready log.segments.first.site.place line (line_segments log) n r.among slots now has
-
-    module _ (has : HasSlots size line sees.log.bytes log.fault.kept slots) (file : File) where
-      -- The log file that is shown is written over with the same bytes.
-      same_log : (now : Option IoError) → now ≡ None → (shown size now slots line_left behind_calls).log ≡ sees_behind.log
-      same_log now none = shown_written sum size log.config.config.least device log.fault.kept whole v k r.buffer r.there r.ready
-          log.segments.first.site.place line (line_segments log) n r.among slots sees.log.bytes has now none
-
-      shown_after : (now : Option IoError) → IsAsShown size now slots line_left behind_calls.log
-      shown_after now = written_as_shown sum size log.config.config.least device log.fault.kept whole v k r.buffer r.there r.ready
-          log.segments.first.site.place line (line_segments log) n r.among slots sees.log.bytes has now file
 
     pub holds_done : (new : Trace) → new ≡ after_all (write_in line n k) before → (now : Option IoError) → now ≡ None → (H : History)
         → Holds trace sum log H → HoldsShown sum noted_left size (state_of new) now line_left slots (logged H)
@@ -299,56 +343,19 @@ module _ {D C : Type 0} (log : Log D C) (n k : ℕ) (r : IsReadyIn (line_of log)
                 (holds_write sum size log.config.config.least sees log.fault.kept whole v k r.buffer r.there r.ready log.segments.first.site.place line
                 (line_segments log) n r.among (logged H) holds.shows.holds));
             batches = batches_after (logged H) holds.shows.batches;
-            slots = subst (λ (l : LogState). HasSlots size line_left l.bytes log.fault.kept slots) (sym (same_log has holds.file log.fault.kept whole))
+            slots = subst (λ (l : LogState). HasSlots size line_left l.bytes log.fault.kept slots) (sym (same_log has log.fault.kept whole))
                 (slots_behind log.fault.kept has);
           };
-          file = shown_after has holds.file log.fault.kept;
+          rests = λ none. refl;
         }))
 
     pub fits_done : (new : Trace) → new ≡ after_all (write_in line n k) before → (now : Option IoError) → now ≡ None → (H : History) (A f : ℕ)
         (U : List Message) → Fits trace sum log H A f U → FitsShown sum noted_left size (state_of new) now line_left slots log.pins H A f U
     unfolding Fits
     fits_done new came now none H A f U fits =
-        let has = fits.shows.slots in
-        let after = fits_write sum size log.config.config.least sees log.fault.kept whole v k r.buffer r.there r.ready log.pins H A f U
-        (log_recorded log n v r.among) log.reserved_to log.segments.first.site.place fits.shows.reach line (line_segments log) n r.among filled_now first_waits fits.shows.parts in
-        let sees_now : State = shown size None slots line_left behind_calls in
-        let log_now = same_log has fits.file None (λ i. None) in
-        -- as yet what is shown behind the calls is what they make of what was shown, also in what was placed
-        let settled : sees_now ≡ sees_behind = settled_same sum size log.config.config.least device log.fault.kept whole v k r.buffer r.there r.ready
-        log.segments.first.site.place line (line_segments log) n r.among slots sees.log.bytes has None fits.file in
         subst (λ (o : Option IoError). FitsShown sum noted_left size (state_of new) o line_left slots log.pins H A f U) (sym none)
-        (subst (λ (t : Trace). FitsShown sum noted_left size (state_of t) None line_left slots log.pins H A f U) (sym (made new came)) (record {
-          shows = record {
-            reach = after.0;
-            parts = fits_moved sum size log.config.config.least device log.fault.kept whole v k r.buffer r.there r.ready log.segments.first.site.place line
-                (line_segments log) n r.among slots sees.log.bytes has None (λ i. None) None line_left after.0 log.pins H A f U
-                (subst (LeavesRecovering sum size H (stable_below after.0 H.batches) f) (sym settled)
-                (line_leaves sum size sees_behind None line_left after.0 log.pins H A f U after.1)) after.1;
-            batches = batches_after (logged H) fits.shows.batches;
-            slots = subst (λ (l : LogState). HasSlots size line_left l.bytes None slots) (sym log_now) (slots_behind None has);
-            whole = λ none zeros. subst (λ (l : LogState). AreWhole sum size l.bytes (logged H) (first_place line_left) slots) (sym log_now)
-                (whole_write sum size log.config.config.least sees log.fault.kept whole v k r.buffer r.there r.ready log.segments.first.site.place line
-                (line_segments log) n r.among slots has
-                fits.shows.reach after.0 log.pins H A f U fits.shows.parts after.1 zeros (fits.shows.whole whole zeros));
-            own = λ none zeros. subst (λ (s : State). HasPlacedFile sum size s line_left) (sym settled)
-                (placed_left sum size log.config.config.least sees log.fault.kept whole v k r.buffer r.there r.ready log.segments.first.site.place line
-                (line_segments log) n r.among slots has (logged H)
-                (held H A f U fits zeros) zeros (fits.shows.own whole zeros));
-            account = fits.shows.account;
-            numbers = λ zeros.
-                subst (λ (s : State). HasNumbers sum size 0 s slots (line_end size line_left)) (sym settled)
-                (subst (HasNumbers sum size 0 sees_behind slots) (sym end_stays)
-                (numbers_behind sum size log.config.config.least sees log.fault.kept whole v k r.buffer r.there r.ready log.segments.first.site.place line
-                (line_segments log) n r.among slots has (logged H) (held H A f U fits zeros) zeros (fits.shows.own whole zeros) (fits.shows.numbers zeros)));
-            in_slots = λ first begins. slots_at sum size (stable_place first.stable) (stable_below fits.shows.reach H.batches) H slots
-                (fits.shows.in_slots first begins) (stable_below after.0 H.batches)
-                (λ zeros. newest_stable sum size _ None (λ i. None) line_left after.0 log.pins H A f U after.1 zeros first begins);
-          };
-          file = shown_after has fits.file None;
-          hides = λ none zeros. hides_behind sum (noted_in log) size log.config.config.least device log.fault.kept whole zeros slots log.pins H A f U
-              log.segments.first.site.place line (line_segments log) fits.shows (fits.hides whole zeros) n v r.among k r.buffer r.there r.ready;
-        }))
+        (subst (λ (t : Trace). FitsShown sum noted_left size (state_of t) None line_left slots log.pins H A f U) (sym (made new came))
+        (fits_behind H A f U fits))
 
 -- A call that changed the device alone left the line as it was.
 pub same_line : {D C : Type 0} (old mid : Log D C) → ChangesDevice old mid → line_of mid ≡ line_of old

@@ -15,14 +15,14 @@ use Rattle.sled_core.specs.invariants.Running.{Fits}
 use Rattle.sled_core.specs.Recoverable.{NoHeaderOfZeros}
 use Rattle.sled_core.specs.inside.Hides.{HidesFrom}
 use Rattle.sled_core.specs.inside.Running.{FitsShown, FitsWith}
-use Rattle.sled_core.specs.inside.Shown.{IsAsShown, shown_of}
+use Rattle.sled_core.specs.inside.Shown.{RestsWhole, shown_of}
 use Rattle.sled_core.proofs.Cleared.Shown.{ShowsSame}
 use Rattle.sled_core.proofs.Line.Shown.{fits_shown, holds_shown}
 
 module _ {D C : Type 0} (trace : D → Trace) (sum : List ℕ → ℕ) (old new : Log D C) (config : config_of new ≡ config_of old) (fault : fault_of new ≡ fault_of old) (bs : List Batch) (noted : noted_in new ≡ bs)
     (line : List SegmentView) (is_line : line_of new ≡ line) (m : Machine) (is_machine : machine_at new ≡ m)
     (same : ShowsSame (segment_size_of old) (machine_at old) m (line_of old) line)
-    (file : IsAsShown (segment_size_of old) (fault_of old) (machine_at old) (line_of old) (state_of (trace (device_of old))).log) (H : History) where
+    (rests : RestsWhole (fault_of old) (state_of (trace (device_of old))).log) (H : History) where
   pub holds_as : HoldsWith sum bs (segment_size_of old) (shown_of trace old) (fault_of old) line m (logged H) → Holds trace sum new H
   unfolding Holds
   holds_as holds =
@@ -32,7 +32,7 @@ module _ {D C : Type 0} (trace : D → Trace) (sum : List ℕ → ℕ) (old new 
       (subst (λ (x : Machine). HoldsShown sum (noted_in new) (segment_size_of old) (state_of (trace (device_of old))) (fault_of old) line x (logged H)) (sym is_machine)
       (subst (λ (l : List Batch). HoldsShown sum l (segment_size_of old) (state_of (trace (device_of old))) (fault_of old) line m (logged H)) (sym noted)
       (holds_shown sum bs (segment_size_of old) (state_of (trace (device_of old))) (fault_of old) (machine_at old) m (line_of old) line same
-      file (logged H) holds)))))
+      rests (logged H) holds)))))
 
   pub fits_as : (A f : ℕ) (U : List Message) → pins_of new ≡ pins_of old
       → (fault_of old ≡ None → NoHeaderOfZeros sum → HidesFrom sum (segment_size_of old) (state_of (trace (device_of old))) m line (logged H))
@@ -46,4 +46,4 @@ module _ {D C : Type 0} (trace : D → Trace) (sum : List ℕ → ℕ) (old new 
       (subst (λ n. FitsShown sum (noted_in new) (segment_size_of old) (state_of (trace (device_of old))) (fault_of old) line m n H A f U) (sym pins)
       (subst (λ (l : List Batch). FitsShown sum l (segment_size_of old) (state_of (trace (device_of old))) (fault_of old) line m (pins_of old) H A f U) (sym noted)
       (fits_shown sum bs (segment_size_of old) (state_of (trace (device_of old))) (fault_of old) (machine_at old) m (line_of old) line same
-      file (pins_of old) H A f U hides fits))))))
+      rests (pins_of old) H A f U hides fits))))))

@@ -1,32 +1,37 @@
 -- Where all that was reserved is on the device nothing is left in any segment but what fills it: the device has all of the history.
-use Rattle.std.proofs.Common.{inl, inr, ap, ◌≡◌, ◌∙◌, ◌≤◌, ◌<◌, ◌+◌, ◌/◌, max, refl, arith, subst, ℕ, Option, List, [], ◌∷◌, ◌++◌, length, map, None}
-use Rattle.std.specs.List.{All, Contains}
+use Rattle.std.proofs.Common.{inl, inr, ap, ◌≡◌, ◌∙◌, ◌≤◌, ◌<◌, ◌+◌, ◌/◌, max, refl, arith, subst, ℕ, Option, List, [], ◌∷◌, ◌++◌, length, map, None, Some}
+use Rattle.std.specs.List.{All, Contains, slice_get}
 use Rattle.std.specs.declared.io.Error.{Error as IoError}
 use Rattle.std.proofs.lemmas.Bool.{cases_lt}
 use Rattle.std.proofs.lemmas.List.{append-nil}
 use Rattle.std.proofs.lemmas.List.Elements.{All-contains, All-head, All-tail}
 use Rattle.sled_codec.specs.History.{Batch, History, Message}
-use Rattle.sled_store.specs.Device.{State, Trace, state_of}
+use Rattle.sled_codec.specs.Snapshots.{stable_place}
+use Rattle.sled_store.specs.Device.{State, Trace, at_rest, state_of}
 use Rattle.sled_store.proofs.Segments.Elements.{all_from_in, in_cases, in_first, in_nothing}
 use Rattle.sled_core.specs.inside.Begun.{AreFilled, IsUsed}
 use Rattle.sled_core.specs.Begun.{SegmentView, segment_view}
 use Rattle.sled_core.specs.declared.logger.batches.NotedBatch.{NotedBatch}
 use Rattle.sled_core.specs.declared.logger.Log.{Log}
 use Rattle.sled_core.specs.inside.Buffers.{completed_in}
-use Rattle.sled_core.specs.SealedBuffers.{AreZeros, sealed_end}
-use Rattle.sled_core.specs.Fits.{CloseBelow, IsWritten, device_of, fault_of, line_of, machine_at, noted_in, reserved_end, segment_size_of, stable_end, synced_end}
+use Rattle.sled_core.specs.LogFile.{StaysFrom}
+use Rattle.sled_core.specs.Fits.{CloseBelow, IsOnDevice, IsWritten, device_of, fault_of, line_of, machine_at, noted_in, reserved_end, segment_size_of, stable_end, synced_end}
+use Rattle.sled_core.specs.inside.FreeSlots.{HasSlot}
+use Rattle.sled_core.specs.inside.Shown.{shown}
 use Rattle.sled_core.specs.inside.Fits.{HoldBehind, HoldsNext, HoldsWith, parts_in}
 use Rattle.sled_core.specs.invariants.Fits.{Holds}
 use Rattle.sled_core.specs.Logged.{logged}
 use Rattle.sled_core.specs.OpenBatches.{batch_of}
-use Rattle.sled_core.proofs.Flush.FlushLemmas.{all_kept}
+use Rattle.sled_core.proofs.Flush.FlushLemmas.{all_kept, on_file}
 use Rattle.sled_core.proofs.Holds.BufferEnds.{written_behind}
 use Rattle.sled_core.proofs.Line.Entered.{used_end, IsEntered}
-use Rattle.sled_core.proofs.Line.Shown.{holds_real}
+use Rattle.sled_core.proofs.Line.Segments.{line_segments}
+use Rattle.sled_core.proofs.Line.ShownParts.{line_older, line_written}
+use Rattle.sled_core.proofs.Line.StandsThere.{file_there}
 use Rattle.sled_core.proofs.Reached.OpenBatch.{whole_not}
 use Rattle.sled_core.proofs.Reached.StableBelow.{stable_all}
 use Rattle.sled_core.proofs.Reserve.BeginBelow.{ArePadding, entered_padding, padding_nothing}
-use Rattle.sled_core.proofs.Sealed.Zeros.{rest_zeros}
+use Rattle.sled_core.proofs.Reserve.Ranges.{at_there}
 
 -- The first segment's reservations begin below the place, and it has more than its header only where one does.
 filled_first : (size to : ℕ) (v : SegmentView) (vs : List SegmentView) → AreFilled size to (v ∷ vs) → IsEntered to v × IsUsed to v.parts.site.place (length v.parts.bytes)
@@ -94,13 +99,18 @@ all_ended trace sum log all H holds = all_from_in (λ (b : Batch). (b.low < sync
   begins : (b : Batch) → Contains H.batches b → b.low < synced_end log
   begins b there = elim (holds.shows.batches.rising b there) [ inl pegged ↦ (let low = ends b there in omega (arith, low, pegged)) | inr low ↦ low ]
 
-module _ {D C : Type 0} (trace : D → Trace) (sum : List ℕ → ℕ) (log : Log D C) (all : reserved_end log ≤ synced_end log) (whole : fault_of log ≡ None) (H : History)
-    (holds : HoldsWith sum (noted_in log) (segment_size_of log) (state_of (trace (device_of log))) (fault_of log) (line_of log) (machine_at log) (logged H)) (closed : CloseBelow (synced_end log) H.batches) where
+module _ {D C : Type 0} (trace : D → Trace) (sum : List ℕ → ℕ) (log : Log D C) (all : reserved_end log ≤ synced_end log) (H : History) where
   abbrev its_size : ℕ
   its_size = segment_size_of log
 
   abbrev its_device : State
   its_device = state_of (trace (device_of log))
+
+  abbrev its_line : List SegmentView
+  its_line = line_of log
+
+  abbrev sees : State
+  sees = shown its_size None (machine_at log) its_line its_device
 
   abbrev bytes : List ℕ
   bytes = log.segments.first.buffer.bytes.items
@@ -111,38 +121,60 @@ module _ {D C : Type 0} (trace : D → Trace) (sum : List ℕ → ℕ) (log : Lo
   abbrev behind : List SegmentView
   behind = map segment_view log.segments.behind.items
 
-  within : from ≤ its_size
-  within = let low = written_behind log.segments.first.buffer in let short = log.line.lies.in_segment in omega (arith, low, short)
+  module _ (rests : its_device.log ≡ at_rest its_device.log.bytes)
+      (holds : HoldsWith sum (noted_in log) its_size sees None its_line (machine_at log) (logged H)) (closed : CloseBelow (synced_end log) H.batches) where
+    within : from ≤ its_size
+    within = let low = written_behind log.segments.first.buffer in let short = log.line.lies.in_segment in omega (arith, low, short)
 
-  sealed_within : sealed_end from log.segments.first.buffer.sealed.items ≤ length bytes
-  sealed_within = let at = log.segments.first.buffer.begins in let low = log.segments.first.buffer.behind in omega (arith, at, low)
+    first : IsEntered log.reserved_to (segment_view log.segments.first) × IsUsed log.reserved_to log.segments.first.site.place (length bytes)
+    first = filled_first its_size log.reserved_to (segment_view log.segments.first) behind log.line.filled
 
-  first : IsEntered log.reserved_to (segment_view log.segments.first) × IsUsed log.reserved_to log.segments.first.site.place (length bytes)
-  first = filled_first its_size log.reserved_to (segment_view log.segments.first) behind log.line.filled
+    fill : ArePadding its_size log.segments.first.buffer.reserved.items
+    fill = entered_padding sum its_size (log.segments.first.site.place / its_size) log.reserved_to log.segments.first.site.place (max 20 from) (length bytes)
+        bytes log.segments.first.buffer.reserved.items (omega (arith, all)) holds.holds.own.records.chain holds.holds.own.records.stand first.0
 
-  fill : ArePadding its_size log.segments.first.buffer.reserved.items
-  fill = entered_padding sum its_size (log.segments.first.site.place / its_size) log.reserved_to log.segments.first.site.place (max 20 from) (length bytes) bytes log.segments.first.buffer.reserved.items (omega (arith, all)) holds.holds.own.records.chain holds.holds.own.records.stand first.0
+    nothing_behind : holds.holds.later ≡ []
+    nothing_behind =
+        behind_nothing sum its_size log.reserved_to sees None (log.segments.first.site.place + its_size) behind _ (logged H).batches holds.holds.later
+        (let low = within in omega (arith, all, low)) (filled_rest its_size log.reserved_to (segment_view log.segments.first) behind log.line.filled)
+        holds.holds.others
 
-  begun : 20 < sealed_end from log.segments.first.buffer.sealed.items → 20 ≤ from
-  begun some = let low = sealed_within in let used = first.1 (omega (arith, some, low)) in omega (arith, used, all)
+    taken : (n : ℕ) (u : SegmentView) → slice_get its_line n ≡ Some u → HasSlot its_size (machine_at log) u
+    taken n u there = at_there (HasSlot its_size (machine_at log)) its_line n u there holds.slots.taken
 
-  clean : AreZeros its_device.log.bytes (log.segments.first.site.slot + from) (log.segments.first.site.slot + its_size)
-  clean = rest_zeros its_device.log.bytes log.segments.first.site.slot its_size bytes from log.segments.first.buffer.sealed.items log.segments.first.buffer.reserved.items log.segments.first.buffer.head log.segments.first.buffer.are fill
-      (let low = sealed_within in let short = log.line.lies.in_segment in omega (arith, low, short)) begun (holds.holds.own.laid whole)
+    some_size : 0 < its_size
+    some_size = let least = log.config.config.least in omega (arith, least)
 
-  nothing_behind : holds.holds.later ≡ []
-  nothing_behind = behind_nothing sum its_size log.reserved_to its_device (fault_of log) (log.segments.first.site.place + its_size) behind _ (logged H).batches holds.holds.later (let low = within in omega (arith, all, low))
-      (filled_rest its_size log.reserved_to (segment_view log.segments.first) behind log.line.filled) holds.holds.others
+    -- What is shown stands in the file.
+    on_device : IsOnDevice sum its_size its_device.log log.segments.first.site from holds.holds.own.records.earlier
+        (StaysFrom (logged H) (stable_place holds.holds.begun.first.stable))
+    on_device =
+        let written = line_written sum its_size some_size its_device None refl (machine_at log) log.segments.first.site.place its_line (line_segments log)
+        (logged H) holds.holds taken 0 (segment_view log.segments.first) refl in
+        record {
+          log = its_device.log.bytes;
+          settled = rests;
+          file = file_there sum its_size sees.log.bytes its_device.log.bytes written.long log.segments.first.site from written.front
+              holds.holds.own.records.earlier (StaysFrom (logged H) (stable_place holds.holds.begun.first.stable))
+              (line_older sum its_size some_size its_device (machine_at log) (segment_view log.segments.first) behind log.segments.first.site.place
+              (line_segments log) (logged H) holds.holds taken)
+              (on_file sum its_size sees.log log.segments.first.site from holds.holds.own.records.earlier
+              (StaysFrom (logged H) (stable_place holds.holds.begun.first.stable)) (holds.holds.own.written refl));
+        }
 
-  all_there : IsWritten trace sum log H
-  all_there = all_kept sum its_size log.segments.first.site its_device (fault_of log) bytes from log.segments.first.buffer.sealed.items log.segments.first.buffer.reserved.items (logged H) holds.holds closed (padding_nothing its_size log.segments.first.site bytes log.segments.first.buffer.reserved.items fill).0
-      nothing_behind whole log.line.lies.place_in_reach within clean
+    all_there : IsWritten trace sum log H
+    all_there =
+        all_kept sum its_size log.segments.first.site sees None bytes from log.segments.first.buffer.sealed.items log.segments.first.buffer.reserved.items
+        (logged H) holds.holds its_device.log on_device closed
+        (padding_nothing its_size log.segments.first.site bytes log.segments.first.buffer.reserved.items fill).0
+        nothing_behind log.line.lies.place_in_reach within
 
 -- So the device has all of what the log holds.
 pub all_written : {D C : Type 0} (trace : D → Trace) (sum : List ℕ → ℕ) (log : Log D C) → reserved_end log ≤ synced_end log → fault_of log ≡ None → (H : History) → Holds trace sum log H → IsWritten trace sum log H
 unfolding Holds
 all_written trace sum log all whole H holds =
-    -- as yet what is shown is on the device itself
-    all_there trace sum log all whole H
-    (holds_real sum (noted_in log) (segment_size_of log) (state_of (trace (device_of log))) (fault_of log) (machine_at log) (line_of log) (logged H) holds)
+    all_there trace sum log all H (holds.rests whole)
+    (subst (λ (o : Option IoError). HoldsWith sum (noted_in log) (segment_size_of log)
+    (shown (segment_size_of log) o (machine_at log) (line_of log) (state_of (trace (device_of log)))) o (line_of log) (machine_at log) (logged H))
+    whole holds.shows)
     (all_ended trace sum log all H holds)

@@ -34,7 +34,7 @@ use Rattle.sled_core.proofs.Line.PlacedWrite as placed
 use Rattle.sled_core.proofs.Line.Segments.{AreSegments, nth_segment}
 use Rattle.sled_core.proofs.Line.Writes.{buffer_begin, buffer_bytes, buffer_calls}
 use Rattle.sled_core.proofs.OwnLog.BufferPlaces.{buffer_places}
-use Rattle.sled_core.proofs.Numbers.OwnLess.{less_synced}
+use Rattle.sled_core.proofs.Numbers.OwnLess.{less_same, less_synced}
 use Rattle.sled_core.proofs.Numbers.Stay.{numbers_less}
 use Rattle.sled_core.proofs.OwnLog.SlotWritten.{numbers_written}
 use Rattle.sled_core.proofs.OwnLog.WrittenOwn.{new, placed_first}
@@ -164,16 +164,25 @@ module _ (sum : List ℕ → ℕ) (size : ℕ) (big : 256 ≤ size) (device : St
   abbrev Numbered : State → Type 0
   Numbered s = HasNumbers sum size 0 s m (line_end size line)
 
-  -- and behind the sync,
-  pub numbers_behind : Numbered (step Synced (step (Wrote (slot + begin) asked asked) device))
-  numbers_behind =
-      let mid : State = step (Wrote (slot + begin) asked asked) device in
-      numbers_less sum size (step Synced mid) mid (less_synced sum size mid) m (line_end size line) (numbers_behind_write asked)
+  -- So it is of each device on which the same was placed.
+  module _ (real : State) (same : real.placed ≡ device.placed) where
+    numbers_real : (now : List ℕ) → Numbered (step (Wrote (slot + begin) asked now) real)
+    numbers_real now =
+        let mid : State = step (Wrote (slot + begin) asked now) device in
+        let its : State = step (Wrote (slot + begin) asked now) real in
+        numbers_less sum size its mid (less_same sum size its mid (ap (λ (ps : List Placement). its_write now ∷ ps) same)) m (line_end size line)
+        (numbers_behind_write now)
 
-  -- and at each moment of the calls.
-  pub numbers_along : Along Numbered (buffer_calls sum size big device fault whole v k b there ready) device
-  numbers_along = (
-    numbers,
-    λ torn tears. subst (λ (e : Event). Numbered (step e device)) (sym tears.2) (numbers_behind_write tears.0),
-    (numbers_behind_write asked, λ torn tears. absurd tears, numbers_behind),
-  )
+    -- and behind the sync,
+    pub numbers_behind : Numbered (step Synced (step (Wrote (slot + begin) asked asked) real))
+    numbers_behind =
+        let mid : State = step (Wrote (slot + begin) asked asked) real in
+        numbers_less sum size (step Synced mid) mid (less_synced sum size mid) m (line_end size line) (numbers_real asked)
+
+    -- and at each moment of the calls.
+    pub numbers_along : Along Numbered (buffer_calls sum size big device fault whole v k b there ready) real
+    numbers_along = (
+      numbers_less sum size real device (less_same sum size real device same) m (line_end size line) numbers,
+      λ torn tears. subst (λ (e : Event). Numbered (step e real)) (sym tears.2) (numbers_real tears.0),
+      (numbers_real asked, λ torn tears. absurd tears, numbers_behind),
+    )

@@ -1,5 +1,5 @@
--- What a log shows of its device: where a call leaves that, what is held and fitted over it is held and fitted by the log behind the call. As yet it is the
--- device itself.
+-- What a log shows of its device: where a call leaves that, what is held and fitted over it is held and fitted by the log behind the call. A log that begins
+-- shows the device itself.
 use Rattle.std.specs.declared.io.Error.{Error as IoError}
 use Rattle.std.proofs.Common.{◌≡◌, ◌≢◌, ◌∙◌, ◌+◌, ◌*◌, ◌<◌, ℕ, zero, suc, max, List, [], ◌∷◌, Option, Some, None, refl, sym, ap, subst, arith, inl, inr}
 use Rattle.std.specs.List.{slice_get}
@@ -14,14 +14,15 @@ use Rattle.sled_core.specs.Logged.{logged}
 use Rattle.sled_core.specs.Recoverable.{NoHeaderOfZeros}
 use Rattle.sled_core.specs.OpenBatches.{stable_below}
 use Rattle.sled_core.specs.Running.{end_below}
+use Rattle.sled_core.specs.inside.Cleared.{cleared}
 use Rattle.sled_core.specs.inside.Fits.{HoldsLine, HoldsShown, HoldsWith}
 use Rattle.sled_core.specs.inside.FreeSlots.{HasSlot, HasSlots}
 use Rattle.sled_core.specs.inside.Running.{FitsShown, FitsWith}
 use Rattle.sled_core.specs.inside.Hides.{HidesFrom}
-use Rattle.sled_core.specs.inside.Shown.{IsAsShown, shown}
+use Rattle.sled_core.specs.inside.Shown.{RestsWhole, shown}
 use Rattle.sled_core.specs.Tail.{least_place}
 use Rattle.sled_core.proofs.Cleared.Offsets.{LineRises, OthersBeside, cleared_itself, segments_apart}
-use Rattle.sled_core.proofs.Cleared.Shown.{ShowsSame, as_shown_same, shown_is, shown_same}
+use Rattle.sled_core.proofs.Cleared.Shown.{ShowsSame, shown_same, with_log}
 use Rattle.sled_core.proofs.Holds.FitsAnew.{fits_anew}
 use Rattle.sled_core.proofs.Holds.RunningLemmas.{fits-acknowledged, fits-pinned}
 use Rattle.sled_core.proofs.Line.Ends.{line_holds, with_part}
@@ -63,12 +64,12 @@ others_beside size some m place line are taken n u at j w at_j differs =
 
 -- Where the same counts for nothing, what is held and fitted over what was shown is so over what is shown.
 module _ (sum : List ℕ → ℕ) (noted : List Batch) (size : ℕ) (device : State) (fault : Option IoError) (m m' : Machine) (line line' : List SegmentView)
-    (same : ShowsSame size m m' line line') (file : IsAsShown size fault m line device.log) where
+    (same : ShowsSame size m m' line line') (rests : RestsWhole fault device.log) where
   pub holds_shown : (H : History) → HoldsWith sum noted size (shown size fault m line device) fault line' m' H
       → HoldsShown sum noted size device fault line' m' H
   holds_shown H holds = record {
     shows = subst (λ (d : State). HoldsWith sum noted size d fault line' m' H) (sym (shown_same size fault m m' line line' same device)) holds;
-    file = as_shown_same size fault m m' line line' same device.log file;
+    rests = rests;
   }
 
   pub fits_shown : (pins : ℕ) (H : History) (A f : ℕ) (U : List Message)
@@ -76,54 +77,48 @@ module _ (sum : List ℕ → ℕ) (noted : List Batch) (size : ℕ) (device : St
       → FitsWith sum noted size (shown size fault m line device) fault line' m' pins H A f U → FitsShown sum noted size device fault line' m' pins H A f U
   fits_shown pins H A f U hides fits = record {
     shows = subst (λ (d : State). FitsWith sum noted size d fault line' m' pins H A f U) (sym (shown_same size fault m m' line line' same device)) fits;
-    file = as_shown_same size fault m m' line line' same device.log file;
+    rests = rests;
     hides = hides;
   }
-
--- As yet it is so over the device itself.
-module _ (sum : List ℕ → ℕ) (noted : List Batch) (size : ℕ) (device : State) (fault : Option IoError) (m : Machine) (line : List SegmentView) where
-  pub holds_real : (H : History) → HoldsShown sum noted size device fault line m H → HoldsWith sum noted size device fault line m H
-  holds_real H holds = subst (λ (d : State). HoldsWith sum noted size d fault line m H) (shown_is size fault m line device holds.file) holds.shows
-
-  pub fits_real : (pins : ℕ) (H : History) (A f : ℕ) (U : List Message) → FitsShown sum noted size device fault line m pins H A f U
-      → FitsWith sum noted size device fault line m pins H A f U
-  fits_real pins H A f U fits =
-      subst (λ (d : State). FitsWith sum noted size d fault line m pins H A f U) (shown_is size fault m line device fits.file) fits.shows
 
 -- A log that holds a history over its device, as one does that begins, shows the device itself, and hides nothing.
 module _ (sum : List ℕ → ℕ) (size : ℕ) (some : 0 < size) (t : Trace) (m : Machine) (line : List SegmentView) where
   abbrev device : State
   device = state_of t
 
-  begins_shown : (H : History) → HoldsLine sum size device None line H → HasSlots size line device.log.bytes None m
-      → IsAsShown size None m line device.log
-  begins_shown H holds slots = record {
-    rests = λ none. settled line holds;
-    same = λ none. cleared_itself size some m line device.log.bytes (slots.zeros refl)
-        (λ n v there. with_part sum size device None line n v H holds there (λ stays own segment. segment.laid refl));
-  } where
-    settled : (vs : List SegmentView) → HoldsLine sum size device None vs H → device.log ≡ at_rest device.log.bytes
-    settled [] held = absurd held
-    settled (v ∷ vs) held =
-        let on = held.own.written refl in
-        on.settled ∙ ap at_rest (sym (ap (λ (x : LogState). x.bytes) on.settled))
+  module _ (H : History) (holds : HoldsLine sum size device None line H) (slots : HasSlots size line device.log.bytes None m) where
+    begins_rests : device.log ≡ at_rest device.log.bytes
+    begins_rests = by line holds where
+      by : (vs : List SegmentView) → HoldsLine sum size device None vs H → device.log ≡ at_rest device.log.bytes
+      by [] held = absurd held
+      by (v ∷ vs) held =
+          let on = held.own.written refl in
+          on.settled ∙ ap at_rest (sym (ap (λ (x : LogState). x.bytes) on.settled))
+
+    begins_same : cleared size m line device.log.bytes ≡ device.log.bytes
+    begins_same = cleared_itself size some m line device.log.bytes (slots.zeros refl)
+        (λ n v there. with_part sum size device None line n v H holds there (λ stays own segment. segment.laid refl))
+
+    begins_shown : shown size None m line device ≡ device
+    begins_shown = ap (with_log device) (ap at_rest begins_same ∙ sym begins_rests)
 
   module _ (noted : List Batch) where
     pub holds_begun : (H : History) → HoldsWith sum noted size device None line m H → HoldsShown sum noted size device None line m H
-    holds_begun H holds =
-        let file = begins_shown H holds.holds holds.slots in
-        record { shows = subst (λ (d : State). HoldsWith sum noted size d None line m H) (sym (shown_is size None m line device file)) holds; file = file }
+    holds_begun H holds = record {
+      shows = subst (λ (d : State). HoldsWith sum noted size d None line m H) (sym (begins_shown H holds.holds holds.slots)) holds;
+      rests = λ none. begins_rests H holds.holds holds.slots;
+    }
 
     pub fits_begun : (pins : ℕ) (H : History) (A f : ℕ) (U : List Message) → FitsWith sum noted size device None line m pins H A f U
         → FitsShown sum noted size device None line m pins H A f U
     fits_begun pins H A f U fits =
-        let file = begins_shown (logged H) (line_holds sum size device None line fits.reach pins H A f U fits.parts) fits.slots in
+        let held = line_holds sum size device None line fits.reach pins H A f U fits.parts in
         record {
-          shows = subst (λ (d : State). FitsWith sum noted size d None line m pins H A f U) (sym (shown_is size None m line device file)) fits;
-          file = file;
+          shows = subst (λ (d : State). FitsWith sum noted size d None line m pins H A f U) (sym (begins_shown (logged H) held fits.slots)) fits;
+          rests = λ none. begins_rests (logged H) held fits.slots;
           hides = λ none zeros first begins.
-              hides_at_rest sum size t m line (file.same refl) (file.rests refl) (fits.numbers zeros) fits.slots.own
-              (least_place size first) 0 (logged H) (omega arith);
+              hides_at_rest sum size t m line (begins_same (logged H) held fits.slots) (begins_rests (logged H) held fits.slots) (fits.numbers zeros)
+              fits.slots.own (least_place size first) 0 (logged H) (omega arith);
         }
 
 -- Of segments of which there is one: another count of pins fits, where one is out while there are messages that aren't marked,

@@ -1,10 +1,12 @@
--- A buffer is written and synced: what is shown is written over with the same bytes, and the file is as shown still.
+-- A buffer is written and synced: what is shown is written over with the same bytes, and what is held and fitted over the one is so over the other.
 use Rattle.std.specs.declared.io.Error.{Error as IoError}
-use Rattle.std.proofs.Common.{◌≡◌, ◌∙◌, ◌+◌, ◌≤◌, ℕ, suc, true, List, length, set, take, drop, Option, Some, None, refl, sym, ap, subst, arith}
+use Rattle.std.proofs.Common.{◌≡◌, ◌+◌, ◌≤◌, ℕ, suc, true, List, ◌∷◌, length, set, take, drop, Option, Some, None, refl, sym, ap, subst, arith}
 use Rattle.std.specs.List.{slice_get}
 use Rattle.sled_codec.specs.History.{History, Message}
-use Rattle.sled_store.specs.Device.{State, at_rest, overwritten}
+use Rattle.sled_store.specs.Device.{LeavesLog, LogState, State, at_rest, overwritten}
+use Rattle.sled_store.specs.Foreign.{NoForeignLog}
 use Rattle.sled_store.specs.SegmentStates.{Machine}
+use Rattle.sled_store.proofs.LogFile.LogLemmas.{at_rest_left}
 use Rattle.sled_core.specs.Begun.{SegmentView}
 use Rattle.sled_core.specs.OpenBatches.{stable_below}
 use Rattle.sled_core.specs.declared.iobuf.Sealed.{Sealed}
@@ -14,15 +16,18 @@ use Rattle.sled_core.specs.inside.FreeSlots.{HasSlot, HasSlots}
 use Rattle.sled_core.specs.inside.Lasting.{LeavesRecovering}
 use Rattle.sled_core.specs.inside.Running.{FitsLine}
 use Rattle.sled_core.specs.inside.SealedBuffers.{is_ready}
-use Rattle.sled_core.specs.inside.Shown.{IsAsShown, shown, shown_log}
+use Rattle.sled_core.specs.inside.Shown.{shown, shown_log}
 use Rattle.sled_core.specs.inside.Turned.{promoted, written_now}
 use Rattle.sled_core.proofs.Blobs.Over.{fits_line_over, line_over, with_rest}
 use Rattle.sled_core.proofs.Blobs.StaysOwn.{own_same}
 use Rattle.sled_core.proofs.Cleared.Calls.{cleared_write}
-use Rattle.sled_core.proofs.Cleared.Shown.{shown_is, with_log}
+use Rattle.sled_core.proofs.Cleared.Shown.{with_log}
+use Rattle.sled_core.proofs.Line.Faulty.{line_leaves}
 use Rattle.sled_core.proofs.Line.Segments.{AreSegments, nth_segment}
 use Rattle.sled_core.proofs.Line.Shown.{line_rises, others_beside}
 use Rattle.sled_core.proofs.Line.Writes.{buffer_begin, buffer_bytes, buffer_synced, rises}
+use Rattle.sled_core.proofs.OwnLog.NoneForeign.{WasPlaced, none_foreign, resettled, was_placed}
+use Rattle.sled_core.proofs.OwnLog.Placed.{asked_now}
 use Rattle.sled_core.proofs.Reserve.Ranges.{at_there, there_split}
 use Rattle.sled_core.proofs.Sealed.LaidLemmas.{EndsRise}
 use Rattle.sled_core.proofs.Sealed.OneWritten.{length-between, rises_at}
@@ -76,19 +81,6 @@ module _ (sum : List ℕ → ℕ) (size : ℕ) (big : 256 ≤ size) (device : St
     by None is (Some e) was = cc
     by (Some e) is p was = cc
 
-  -- and the file is as shown.
-  pub written_as_shown : (now : Option IoError) → IsAsShown size fault m line device.log → IsAsShown size now m left after.log
-  written_as_shown now file = record {
-    rests = λ none. refl;
-    same = λ none. cleared_behind device.log.bytes ∙ ap (λ (l : List ℕ). overwritten l at bytes) (file.same whole);
-  }
-
-  -- Behind the calls what is shown differs in what was placed alone, as the bytes of the file itself are noted with that. As yet it is the same.
-  pub settled_same : (now : Option IoError) → IsAsShown size fault m line device.log → shown size now m left after ≡ sees_after
-  settled_same now file =
-      shown_is size now m left after (written_as_shown now file)
-      ∙ ap (λ (s : State). buffer_synced sum size big s fault whole v k b there ready) (sym (shown_is size fault m line device file))
-
   module _ (now : Option IoError) (none : now ≡ None) where
     abbrev pub shown_now : State
     shown_now = shown size now m left after
@@ -97,21 +89,48 @@ module _ (sum : List ℕ → ℕ) (size : ℕ) (big : 256 ≤ size) (device : St
     moved : with_rest sees_after shown_now ≡ shown_now
     moved = ap (with_log shown_now) (sym (shown_written now none))
 
+    -- They differ in what was placed alone, as the bytes of the file itself are noted with that. So a crash leaves of the one what it leaves of the other.
+    recovers_moved : (H : History) (A f : ℕ) → LeavesRecovering sum size H A f sees_after → LeavesRecovering sum size H A f shown_now
+    recovers_moved H A f recovers left leaves own_left =
+        let written : List ℕ = overwritten sees.log.bytes at bytes in
+        let alone : left.log ≡ written =
+        at_rest_left written left.log (subst (λ (l : LogState). LeavesLog l left.log) (shown_written now none) leaves.log) in
+        let placed : (slot : ℕ) → WasPlaced sum size shown_now.placed written slot =
+        subst (λ (l : List ℕ). (slot : ℕ) → WasPlaced sum size shown_now.placed l slot) alone
+        (was_placed sum size shown_now.placed left.log shown_now.log own_left.log) in
+        recovers left
+        (record {
+          log = subst (λ (l : LogState). LeavesLog l left.log) (shown_written now none) leaves.log;
+          blobs = leaves.blobs;
+          snapshots = leaves.snapshots;
+        })
+        (record {
+          log = subst (λ (l : List ℕ). NoForeignLog sum size sees_after.log sees_after.placed l) (sym alone)
+              (none_foreign sum size sees_after.placed written
+              (resettled sum size written (overwritten device.log.bytes at bytes) (asked_now at bytes ∷ device.placed) placed));
+          blobs = own_left.blobs;
+          snapshots = own_left.snapshots;
+          zeros = own_left.zeros;
+        })
+
     -- What segments hold over the one they hold over the other,
     pub holds_moved : (later : Option IoError) (vs : List SegmentView) (H : History) → HoldsLine sum size sees_after later vs H
         → HoldsLine sum size shown_now later vs H
     holds_moved later vs H holds =
         subst (λ (s : State). HoldsLine sum size s later vs H) moved (line_over sum size sees_after shown_now later refl vs H holds)
 
-    -- and what they fit they fit, where what a crash leaves can be recovered.
+    -- and what they fit they fit.
     pub fits_moved : (later : Option IoError) (vs : List SegmentView) (reach pins : ℕ) (H : History) (A f : ℕ) (U : List Message)
-        → LeavesRecovering sum size H (stable_below reach H.batches) f shown_now
         → FitsLine sum size sees_after later vs reach pins H A f U → FitsLine sum size shown_now later vs reach pins H A f U
-    fits_moved later vs reach pins H A f U can fits =
+    fits_moved later vs reach pins H A f U fits =
         subst (λ (s : State). FitsLine sum size s later vs reach pins H A f U) moved
         (fits_line_over sum size sees_after shown_now later refl H A f U
         (λ first named. record {
           names = named.names;
           own_names = λ ok. own_same sum sees_after (with_rest sees_after shown_now) refl refl (named.own_names ok);
         })
-        vs reach pins (λ items. items, λ was. subst (LeavesRecovering sum size H (stable_below reach H.batches) f) (sym moved) can) fits)
+        vs reach pins (
+          λ items. items,
+          λ was. subst (LeavesRecovering sum size H (stable_below reach H.batches) f) (sym moved)
+              (recovers_moved H (stable_below reach H.batches) f (line_leaves sum size sees_after later vs reach pins H A f U fits)),
+        ) fits)

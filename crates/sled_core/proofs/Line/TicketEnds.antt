@@ -24,7 +24,7 @@ use Rattle.sled_core.specs.inside.Fits.{HoldsWith}
 use Rattle.sled_core.specs.inside.Running.{FitsWith}
 use Rattle.sled_core.specs.Recoverable.{NoHeaderOfZeros}
 use Rattle.sled_core.specs.inside.Hides.{HidesFrom}
-use Rattle.sled_core.specs.inside.Shown.{IsAsShown, shown_of}
+use Rattle.sled_core.specs.inside.Shown.{RestsWhole, shown_of}
 use Rattle.sled_core.specs.OpenBatches.{not_whole}
 use Rattle.sled_core.specs.Keeps.{GoesOn, KeepsOthers}
 use Rattle.sled_core.specs.Logged.{in_log, logged}
@@ -156,7 +156,7 @@ module _ {D C : Type 0} {old new : Log D C} {ticket : Reservation} {n index : �
 
       -- holds what the changed segments hold,
       pub ticket_holds : (H : History)
-          → IsAsShown old.config.config.segment_size old.fault.kept (machine_of old.accountant) (line_of old) (state_of (trace old.config.device)).log
+          → RestsWhole old.fault.kept (state_of (trace old.config.device)).log
           → HoldsWith sum (noted_in old) old.config.config.segment_size (shown_of trace old) old.fault.kept
           (set (line_of old) n (ended_now i r e.text state v)) (machine_of old.accountant) (logged H)
           → Holds trace sum new H
@@ -166,7 +166,7 @@ module _ {D C : Type 0} {old new : Log D C} {ticket : Reservation} {n index : �
       pub ticket_fits : (H' H : History) (A f : ℕ) (U : List Message)
           → (old.fault.kept ≡ None → NoHeaderOfZeros sum → HidesFrom sum old.config.config.segment_size (state_of (trace old.config.device))
           (machine_of old.accountant) (line_of old) (logged H'))
-          → IsAsShown old.config.config.segment_size old.fault.kept (machine_of old.accountant) (line_of old) (state_of (trace old.config.device)).log
+          → RestsWhole old.fault.kept (state_of (trace old.config.device)).log
           → FitsWith sum (noted_in old) old.config.config.segment_size (shown_of trace old) old.fault.kept
           (set (line_of old) n (ended_now i r e.text state v)) (machine_of old.accountant) old.pins H A f U
           → Fits trace sum new H A f U

@@ -29,13 +29,12 @@ use Rattle.sled_core.proofs.Cleared.Offsets.{LineRises, OthersBeside, slot_is, z
 use Rattle.sled_core.proofs.Cleared.Moves.{cleared_written, within}
 use Rattle.sled_core.proofs.Numbers.Hides.{gone_less}
 use Rattle.sled_core.proofs.Numbers.OwnLess.{less_synced}
-use Rattle.sled_core.proofs.OwnLog.Placed.{asked_now}
+use Rattle.sled_core.proofs.OwnLog.Placed.{asked_now, stands_covered}
 use Rattle.sled_core.proofs.OwnLog.WrittenOwn.{header_or_written, header_synced, placed_covers, placed_first, record_or_written, record_synced}
 use Rattle.sled_core.proofs.Line.LineEnds.{end_set}
 use Rattle.sled_core.proofs.Read.FoundLemmas.{pos_injective}
 use Rattle.sled_core.proofs.Reserve.Ranges.{chain_grows}
 use Rattle.sled_core.proofs.Sealed.OneWritten.{length-between, overwritten_beside, overwritten_inside}
-use Rattle.sled_core.proofs.Tail.LogFileLemmas.{part_laid}
 use Rattle.sled_core.proofs.Tail.Multiples.{put_down}
 
 -- The same bytes are written over two files that are as long. A text that stood in one and stands in the other behind it stands in the one behind it, too.
@@ -133,14 +132,7 @@ module _ (sum : List ℕ → ℕ) (size : ℕ) (some : 256 ≤ size) (s : State)
 
   -- So is one that was written.
   laid : (lid : ℕ) (text : List ℕ) → Covers (at, xs) lid text → part after lid (length text) ≡ text
-  laid lid text c =
-      let low = c.begins in
-      let high = c.ends in
-      let off : at + (lid - at) ≡ lid = omega (arith, low) in
-      ap (λ (l : List ℕ). part l lid (length text)) written_over
-      ∙ ap (λ i. part (overwritten before at xs) i (length text)) (sym off)
-      ∙ part_laid sum size before at xs (lid - at) (length text) (omega (arith, low, high))
-      ∙ c.same
+  laid lid text c = ap (λ (l : List ℕ). part l lid (length text)) written_over ∙ stands_covered sum size before at xs lid text c
 
   -- Segments at multiples of the size have numbers of their own.
   one_number : (p q : ℕ) → p % size ≡ 0 → q % size ≡ 0 → p / size ≡ q / size → p ≡ q

@@ -54,16 +54,21 @@ module _ (sum : List ℕ → ℕ) (size : ℕ) (t : Trace) (bytes : List ℕ) (r
         (record { at = p.at; bytes = p.bytes; since = l }) at text) seen.1 stood))
   ]
 
-  -- So a record that is own stands in it,
-  pub own_record_stands : (number at : ℕ) (text : List ℕ) → IsOwnRecord sum size (state_of t) number at text → StandsIn at text bytes
+  -- So a record that was placed stands in it, and has stood since,
+  pub record_stood : (number at : ℕ) (text : List ℕ) → RecordWasPlaced sum size (state_of t).placed number at text → StandsIn at text bytes
   unfolding RecordWasPlaced
-  own_record_stands number at text own = let laid = own.placed in stands_now laid.0 laid.1 at text laid.4
+  record_stood number at text laid = stands_now laid.0 laid.1 at text laid.4
+
+  pub own_record_stands : (number at : ℕ) (text : List ℕ) → IsOwnRecord sum size (state_of t) number at text → StandsIn at text bytes
+  own_record_stands number at text own = record_stood number at text own.placed
 
   -- and a header.
-  pub own_header_stands : (k place : ℕ) (mark : ℤ) → IsOwnHeader sum size (state_of t) k place mark → IsHeader sum (part bytes (k * size) 20) (pos place) mark
+  pub header_stood : (at : ℕ) (text : List ℕ) → HeaderWasPlaced (state_of t).placed at text → StandsIn at text bytes
   unfolding HeaderWasPlaced
+  header_stood at text laid = stands_now laid.0 laid.1 at text laid.4
+
+  pub own_header_stands : (k place : ℕ) (mark : ℤ) → IsOwnHeader sum size (state_of t) k place mark → IsHeader sum (part bytes (k * size) 20) (pos place) mark
   own_header_stands k place mark own =
-      let laid = own.placed in
-      let stands = stands_now laid.0 laid.1 (k * size) own.text laid.4 in
+      let stands = header_stood (k * size) own.text own.placed in
       let long : length own.text ≡ 20 = ap length own.is.is ∙ length-short_header sum (pos place) mark in
       subst (λ (l : List ℕ). IsHeader sum l (pos place) mark) (sym (ap (λ n. part bytes (k * size) n) (sym long) ∙ stands)) own.is

@@ -91,7 +91,7 @@ module _ (sum : List ℕ → ℕ) (size : ℕ) (log : List ℕ) (some : 256 ≤ 
         (x.0, x.1, (message_of sum size log H ordered x.0 (stands.truth t x.0 known x.1) n there x.2 x.3).0)
 
     -- and where it leads on there is none behind it.
-    pub none_past : (n : Message) → Contains H.messages n → n.place / size * size ≡ t.segment.place → t.why ≢ Broken → t.segment.place + t.stop ≤ n.place → ⊥
+    none_past : (n : Message) → Contains H.messages n → n.place / size * size ≡ t.segment.place → t.why ≢ Broken → t.segment.place + t.stop ≤ n.place → ⊥
     unfolding IsScan
     none_past n there own leads past = by (stands.placed n there).begins.room (put_down size n.place).0 t.why leads (stands.caps t known) t_known.1.1 where
       by : n.place % size + 32 ≤ size → n.place / size * size + n.place % size ≡ n.place → (why : ScanEnd) → why ≢ Broken
@@ -102,7 +102,7 @@ module _ (sum : List ℕ → ℕ) (size : ℕ) (log : List ℕ) (some : 256 ≤ 
       by room parts Broken leads caps broken = leads refl
 
     -- So where it leads on each message of it is reached.
-    whole_found : t.why ≢ Broken → IsWholeSegment sum size log H t.segment.slot t.segment.place
+    pub whole_found : t.why ≢ Broken → IsWholeSegment sum size log H t.segment.slot t.segment.place
     whole_found leads = record {
       mark = t.segment.mark;
       found = let its = t_found in record { slot = its.slot; header = its.header; not_below = omega arith };

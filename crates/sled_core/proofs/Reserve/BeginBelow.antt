@@ -1,5 +1,5 @@
 -- Reservations of a segment begin below a place: below a greater one too, with one more, without some, and once one has ended; and where all of it lies behind the place, it has nothing but what fills it.
-use Rattle.std.proofs.Common.{◌≡◌, ◌≢◌, ◌⊎◌, ◌∙◌, ◌<◌, ◌≤◌, ◌+◌, inl, inr, arith, refl, sym, ap, subst, ℕ, zero, suc, List, [], ◌∷◌, ◌++◌, drop, set, take, Some}
+use Rattle.std.proofs.Common.{◌≡◌, ◌≢◌, ◌∙◌, ◌<◌, ◌≤◌, ◌+◌, arith, refl, sym, ap, subst, ℕ, zero, suc, List, [], ◌∷◌, ◌++◌, drop, set, Some}
 use Rattle.std.specs.List.{All, slice_get}
 use Rattle.std.proofs.lemmas.List.Elements.{All-head, All-tail}
 use Rattle.sled_codec.specs.History.{Batch, Message}
@@ -10,7 +10,6 @@ use Rattle.sled_core.specs.declared.iobuf.Reserved.{Reserved}
 use Rattle.sled_core.specs.declared.iobuf.ReservationState.{ReservationState}
 use Rattle.sled_core.specs.declared.iobuf.ReservationState.TheVariants.{Open, Completed, Canceled, Manifest, Padding}
 use Rattle.sled_core.specs.declared.iobuf.SegmentPosition.{SegmentPosition}
-use Rattle.sled_core.proofs.Reserve.Ranges.{chain_grows}
 
 -- They begin below a greater one.
 pub entered_up : (to to' place : ℕ) (rs : List Reserved) → to ≤ to' → AreEntered to place rs → AreEntered to' place rs
@@ -41,11 +40,6 @@ abbrev pub ArePadding : ℕ → List Reserved → Type 0
 ArePadding size [] = Unit {0}
 ArePadding size (r ∷ rs) = (r.state ≡ Padding) × (r.from + r.len ≡ size) × ArePadding size rs
 
-pub padding_take : (size n : ℕ) (rs : List Reserved) → ArePadding size rs → ArePadding size (take n rs)
-padding_take size zero rs are = tt
-padding_take size (suc n) [] are = tt
-padding_take size (suc n) (r ∷ rs) are = (are.0, are.1, padding_take size n rs are.2)
-
 -- So it is with those that lie behind the place,
 pub entered_padding : (sum : List ℕ → ℕ) (size number to place at end : ℕ) (bytes : List ℕ) (rs : List Reserved) → to ≤ place + at → IsChain at rs end → All (Stands sum size number bytes) rs → AreEntered to place rs → ArePadding size rs
 entered_padding sum size number to place at end bytes [] past chain stand entered = tt
@@ -70,12 +64,3 @@ padding_nothing size site bytes (r ∷ rs) are =
     let m : Message = message_in site bytes r in
     let b : Batch = batch_in site bytes r in
     (ap (λ (s : ReservationState). with_own s m (completed_in site bytes rs)) are.0 ∙ rest.0, ap (λ (s : ReservationState). with_batch s b (batches_in site bytes rs)) are.0 ∙ rest.1)
-
--- A chain of them has none, or ends with the segment.
-pub padding_end : (size at end : ℕ) (rs : List Reserved) → IsChain at rs end → ArePadding size rs → (at ≡ end) ⊎ (size ≤ end)
-padding_end size at end [] chain are = inl chain
-padding_end size at end (r ∷ rs) chain are =
-    let up = chain_grows (at + r.len) end rs chain.1 in
-    let here = chain.0 in
-    let fills = are.1 in
-    inr (omega (arith, up, here, fills))

@@ -17,6 +17,13 @@ ready_closed b is = by_test b.is_written is where
   by_test true told = cc
   by_test false told = grind (arith, nat_tests, told)
 
+-- and isn't written yet
+pub ready_fresh : (b : Sealed) → is_ready b ≡ true → b.is_written ≡ false
+ready_fresh b is = by_test b.is_written is where
+  by_test : (o : Bool) → (if o then false else b.open_count == 0) ≡ true → o ≡ false
+  by_test true told = cc
+  by_test false told = refl
+
 -- the buffers around the one that is written
 pub written_around : (k : ℕ) (bs : List Sealed) (b : Sealed) → slice_get bs k ≡ Some b → written_at k bs ≡ take k bs ++ now_written b ∷ drop (suc k) bs
 written_around zero [] b there = cc

@@ -1,6 +1,6 @@
 -- The log file as one reads it who knows the slots. A byte counts for nothing where no segment is in its slot, or where it isn't written yet of one that
 -- was begun: what stands there is of a segment that is gone. There it is read as a zero.
-use Rattle.std.specs.Prelude.{◌≡◌, ◌&&◌, ◌||◌, ◌+◌, ◌/◌, not, nat_le, nat_lt, ℕ, Bool, true, false, if◌then◌else◌, List, [], ◌∷◌, length, map, get_or}
+use Rattle.std.specs.Prelude.{◌≡◌, ◌&&◌, ◌||◌, ◌+◌, ◌/◌, ◌≤◌, ◌<◌, not, nat_le, nat_lt, ℕ, Bool, true, false, if◌then◌else◌, List, [], ◌∷◌, length, map, get_or}
 use Rattle.std.specs.List.{range_with_len}
 use Rattle.sled_store.specs.SegmentStates.{Machine, is_free, slot_at}
 use Rattle.sled_core.specs.declared.iobuf.Sealed.{Sealed}
@@ -46,3 +46,10 @@ AreUnwrittenZeros log slot from (b ∷ bs) to = (b.is_written ≡ false → AreZ
 abbrev pub StandWritten : List ℕ → ℕ → List ℕ → ℕ → List Sealed → Type 0
 StandWritten log slot bytes from [] = Unit {0}
 StandWritten log slot bytes from (b ∷ bs) = (b.is_written ≡ true → Agrees log slot bytes from b.end) × StandWritten log slot bytes b.end bs
+
+-- Of two files of one length the second one has what is written of a segment as the first one has it: that without a gap, and each buffer that is written,
+-- with these bytes.
+pub record IsWrittenIn (shown log : List ℕ) (slot : ℕ) (bytes : List ℕ) (from : ℕ) (bs : List Sealed) : Type 0 where
+  pub long : length log ≡ length shown
+  pub front : (i : ℕ) → slot ≤ i → i < slot + from → get_or shown i 0 ≡ get_or log i 0
+  pub stand : StandWritten log slot bytes from bs

@@ -21,7 +21,7 @@ use Rattle.sled_core.specs.inside.OpenBatches.{AreApart}
 use Rattle.sled_core.specs.inside.Reached.{BegunSegment, FollowApart}
 use Rattle.sled_core.specs.inside.Recoverable.{IsMarkOf, NoBatchEnds}
 use Rattle.sled_core.specs.inside.SealedBuffers.{AreSealed, Laid}
-use Rattle.sled_core.specs.inside.Shown.{IsAsShown, shown}
+use Rattle.sled_core.specs.inside.Shown.{RestsWhole, shown}
 use Rattle.sled_core.specs.SealedBuffers.{sealed_end}
 use Rattle.sled_core.specs.Waiting.{BufferAt}
 use Rattle.sled_core.specs.Fits.{reserved_end, IsOnDevice, IsBegunFrom, EndBelow, CloseBelow, buffers_of}
@@ -165,7 +165,7 @@ pub record HoldsWith (sum : List ℕ → ℕ) (noted : List Batch) (size : ℕ) 
 pub record HoldsShown (sum : List ℕ → ℕ) (noted : List Batch) (size : ℕ) (device : State) (fault : Option IoError) (line : List SegmentView) (m : Machine)
     (H : History) : Type 0 where
   pub shows : HoldsWith sum noted size (shown size fault m line device) fault line m H
-  pub file : IsAsShown size fault m line device.log
+  pub rests : RestsWhole fault device.log
 
 -- The buffers of a log are those that they were, and behind them at most those that begin at or behind all that was reserved: the header of a segment that
 -- was begun is one.

@@ -25,7 +25,7 @@ use Rattle.sled_core.specs.inside.Lasting.{LeavesRecovering}
 use Rattle.sled_core.specs.inside.Reached.{StandsAmong, StandsActive}
 use Rattle.sled_core.specs.inside.LogFile.{padded}
 use Rattle.sled_core.specs.Ready.{IsReady}
-use Rattle.sled_core.specs.inside.Shown.{IsAsShown, shown}
+use Rattle.sled_core.specs.inside.Shown.{RestsWhole, shown}
 use Rattle.sled_core.specs.inside.Slots.{AreWhole, HasAccount}
 use Rattle.sled_core.specs.Running.{KeepsItem}
 
@@ -119,7 +119,7 @@ pub record FitsWith (sum : List ℕ → ℕ) (noted : List Batch) (size : ℕ) (
 pub record FitsShown (sum : List ℕ → ℕ) (noted : List Batch) (size : ℕ) (device : State) (fault : Option IoError) (line : List SegmentView) (m : Machine)
     (pins : ℕ) (H : History) (A f : ℕ) (U : List Message) : Type 0 where
   pub shows : FitsWith sum noted size (shown size fault m line device) fault line m pins H A f U
-  pub file : IsAsShown size fault m line device.log
+  pub rests : RestsWhole fault device.log
   -- and this is what the file has besides
   pub hides : fault ≡ None → NoHeaderOfZeros sum → HidesFrom sum size device m line (logged H)
 

@@ -30,7 +30,6 @@ abbrev pub shown_of : {D C : Type 0} → (D → Trace) → Log D C → State
 shown_of trace log =
     shown log.config.config.segment_size log.fault.kept (machine_of log.accountant) (line_of log) (state_of (trace log.config.device))
 
--- The log file of a log that keeps no failure is at rest; and, as long as no slot is freed, it is itself what is shown of it.
-pub record IsAsShown (size : ℕ) (fault : Option IoError) (m : Machine) (line : List SegmentView) (log : LogState) : Type 0 where
-  pub rests : fault ≡ None → log ≡ at_rest log.bytes
-  pub same : fault ≡ None → cleared size m line log.bytes ≡ log.bytes
+-- The log file of a log that keeps no failure is at rest.
+abbrev pub RestsWhole : Option IoError → LogState → Type 0
+RestsWhole fault log = fault ≡ None → log ≡ at_rest log.bytes

@@ -15,14 +15,12 @@ use Rattle.sled_core.proofs.Logged.Alike.{table_alike}
 use Rattle.sled_core.proofs.Logged.Messages.{logged_below, logged_twice}
 use Rattle.sled_core.proofs.PublicLaws.{ready_with_less}
 use Rattle.sled_core.specs.Logged.{logged}
-use Rattle.sled_core.specs.Recoverable.{LeavesRecoverable, ReadsOnlyOwn, RecoverableIfOwn}
+use Rattle.sled_core.specs.Recoverable.{LeavesRecoverable, RecoverableIfOwn}
 use Rattle.sled_core.specs.invariants.Recoverable.{Recoverable}
 use Rattle.sled_core.proofs.Blobs.FirmContent.{read_recoverable}
 use Rattle.sled_core.specs.invariants.Running.{Ready}
 use Rattle.sled_core.specs.Running.{end_below}
 use Rattle.sled_core.proofs.Holds.ReachLemmas.{fits_holds}
-use Rattle.sled_core.proofs.Line.NumbersKept.{fits_leaves}
-use Rattle.sled_core.proofs.Line.OfLog.{fits_reads_own}
 use Rattle.sled_core.proofs.Read.ReadingLemmas.{if_ok}
 use Rattle.sled_log.specs.Orderly.{CanRecover}
 use Rattle.sled_log.specs.Restarts.{FlushFails, HasRestarted}
@@ -47,7 +45,7 @@ returns-in-Ok-clause-ready g c = λ H A f U can.
     let now_size : segment_size_of log ≡ size = c.flush-flushed.ensures.keeps.position.size in
     let sizes : config.config.segment_size ≡ size = ap (λ (x : RunningConfig _ _). x.config.segment_size) is ∙ now_size in
     let same : old ≡ trace (device_of log) = ap (λ (x : RunningConfig _ _). trace x.device) is in
-    let there : CanRecover sum size (state_of old) H end f = can_recover trace sum c.args.log log config.device H A end f U now_size same c.in-Ok.ensures.answers.3 can (c.in-Ok.ensures.acknowledges H A f U can.fits) in
+    let there : CanRecover sum size (state_of old) H end f = can_recover trace sum c.args.log log config.device H A end f U now_size same (same ∙ c.in-Ok.ensures.calls) c.in-Ok.ensures.answers.2 can (c.in-Ok.ensures.acknowledges H A f U can.fits) in
     let kept : IsKept sum size log.segments.first.site log.segments.first.buffer.written_len (state_of old) (logged H) =
     subst (λ (t : Trace). IsKept sum size log.segments.first.site log.segments.first.buffer.written_len (state_of t) (logged H)) (sym same)
     (subst (λ n. IsKept sum n log.segments.first.site log.segments.first.buffer.written_len (state_of (trace (device_of log))) (logged H)) now_size (c.in-Ok.ensures.records H (fits_holds trace sum c.args.log H A f U can.fits))) in
@@ -83,7 +81,7 @@ returns-in-Ok-clause-undamaged g c = λ H A f U can.
     let now_size : segment_size_of log ≡ size = c.flush-flushed.ensures.keeps.position.size in
     let sizes : config.config.segment_size ≡ size = ap (λ (x : RunningConfig _ _). x.config.segment_size) is ∙ now_size in
     let same : old ≡ trace (device_of log) = ap (λ (x : RunningConfig _ _). trace x.device) is in
-    let there : CanRecover sum size (state_of old) H end f = can_recover trace sum c.args.log log config.device H A end f U now_size same c.in-Ok.ensures.answers.3 can (c.in-Ok.ensures.acknowledges H A f U can.fits) in
+    let there : CanRecover sum size (state_of old) H end f = can_recover trace sum c.args.log log config.device H A end f U now_size same (same ∙ c.in-Ok.ensures.calls) c.in-Ok.ensures.answers.2 can (c.in-Ok.ensures.acknowledges H A f U can.fits) in
     let reads = read_recoverable sum size old there.own H end f there.left in
     (c.read_snapshot_or_default-snapshot.ensures.read H end f can.orderly (subst (λ n. Recoverable sum n (content_of (state_of old)) H end f) (sym sizes) reads)).0
 
@@ -125,13 +123,9 @@ returns-in-Ok-clause-crash g c = λ H A f U restarts.
     let sizes : config.config.segment_size ≡ size = ap (λ (x : RunningConfig _ _). x.config.segment_size) is ∙ c.flush-flushed.ensures.keeps.position.size in
     let same : trace config.device ≡ trace (device_of log) = ap (λ (x : RunningConfig _ _). trace x.device) is in
     let keeps = c.flush-flushed.ensures.keeps.preserves in
-    let left = fits_leaves trace sum log H A f U (keeps.fits H A f U fits) in
-    let there : LeavesRecoverable sum size H A f (state_of (trace config.device)) =
-    subst (λ (t : Trace). LeavesRecoverable sum size H A f (state_of t)) (sym same) (subst (λ n. LeavesRecoverable sum n H A f (state_of (trace (device_of log)))) c.flush-flushed.ensures.keeps.position.size left) in
-    let own : ReadsOnlyOwn sum size (state_of (trace config.device)) =
-    subst (λ (t : Trace). ReadsOnlyOwn sum size (state_of t)) (sym same) (subst (λ n. ReadsOnlyOwn sum n (state_of (trace (device_of log)))) c.flush-flushed.ensures.keeps.position.size (fits_reads_own trace sum log H A f U (keeps.fits H A f U fits) c.in-Ok.ensures.answers.3 restarts.zeros)) in
     let can : CanRecover sum size (state_of (trace config.device)) H A f =
-    record { orderly = restarts.orderly; left = there; own = own } in
+    can_recover trace sum c.args.log log config.device H A A f U c.flush-flushed.ensures.keeps.position.size same (same ∙ c.in-Ok.ensures.calls)
+    c.in-Ok.ensures.answers.2 restarts (keeps.fits H A f U fits) in
     let later = c.read_snapshot_or_default-snapshot.ensures.recoverable H A f (subst (λ n. CanRecover sum n (state_of (trace config.device)) H A f) (sym sizes) can) in
     joined (LeavesRecoverable sum size H A f) (trace (device_of c.args.log)) (trace config.device) (trace new.device)
     (subst (λ (t : Trace). LeavesOnly (RecoverableIfOwn sum size H A f) (trace (device_of c.args.log)) t) (sym same) (keeps.goes_on.crash H A f U fits))

@@ -1,12 +1,15 @@
 use Rattle.std.proofs.Common.{◌∙◌, ℤ, Option, IfNone, refl, ap, sym, subst}
+use Rattle.std.specs.declared.io.Error.{Error as IoError}
 use Rattle.std.specs.Int.{w64}
 use Rattle.std.proofs.lemmas.Int.{to_z-of_z}
 use Rattle.sled_codec.specs.declared.result.Error.{Error}
-use Rattle.sled_core.specs.Fits.{machine_at, segment_size_of}
+use Rattle.sled_store.specs.Device.{state_of}
+use Rattle.sled_core.specs.Fits.{device_of, line_of, machine_at, noted_in, pins_of, segment_size_of}
+use Rattle.sled_core.specs.inside.Running.{FitsWith}
+use Rattle.sled_core.specs.inside.Shown.{shown}
 use Rattle.sled_core.specs.Iterators.{GivesMessages, GoesOver}
 use Rattle.sled_core.specs.invariants.Running.{Fits}
 use Rattle.sled_core.specs.LogSegments.{AreSegments, begins_from}
-use Rattle.sled_core.proofs.Line.Shown.{fits_real}
 use Rattle.sled_core.proofs.Iterated.OfLog.{gives_messages}
 use Rattle.sled_core.proofs.Iterates.AheadLemmas.{goes_over}
 use Rattle.sled_core.proofs.logger.Log.iter_from.Goals as goal
@@ -29,8 +32,10 @@ unfolding Fits
 returns-in-Ok-clause-messages g c = λ H A f U fits zeros.
     let log = c.args.self.now in
     let none = c.in-Ok.ensures.answers.1 in
-    -- as yet what is shown is the device itself
-    let real = fits_real _ _ _ _ _ _ _ _ H A f U fits in
+    let size = segment_size_of log in
+    let shows = subst (λ (o : Option IoError). FitsWith g.C.Checksum.sum_of (noted_in log) size
+    (shown size o (machine_at log) (line_of log) (state_of (g.D.Device.trace (device_of log)))) o (line_of log) (machine_at log) (pins_of log) H A f U) none
+    fits.shows in
     let here = subst (λ (o : Option Error). IfNone o (GoesOver g.D.Device.trace g.C.Checksum.sum_of log c.args.lsn c.over_log.result)) c.over_log.ensures.begun (over g c) in
     subst (λ (o : Option Error). IfNone o (GivesMessages g.D.Device.trace g.C.Checksum.sum_of log H c.args.lsn c.over_log.result)) (sym c.over_log.ensures.begun)
-    (gives_messages g.D.Device.trace g.C.Checksum.sum_of log H A f U real none zeros c.args.lsn c.over_log.result here)
+    (gives_messages g.D.Device.trace g.C.Checksum.sum_of log H A f U shows zeros c.args.lsn c.over_log.result here)
