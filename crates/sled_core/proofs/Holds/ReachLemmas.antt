@@ -23,22 +23,20 @@ use Rattle.sled_core.specs.declared.reservation.Reservation.{Reservation}
 use Rattle.sled_core.specs.Logged.{logged}
 use Rattle.sled_core.specs.Tickets.{index_of, len_of, place_of, pointer_of, is_manifest_of}
 use Rattle.sled_core.specs.Manifests.{is_manifest}
-use Rattle.sled_core.specs.inside.Begun.{AreFilled}
+use Rattle.sled_core.specs.inside.Begun.{AreFilled, line_end}
 use Rattle.sled_core.specs.Begun.{SegmentView, segment_view}
 use Rattle.sled_core.specs.inside.Buffers.{IsChain, IsHeaded, Stands, completed_in}
 use Rattle.sled_core.specs.Buffers.{message_in, pointer_as}
 use Rattle.sled_core.specs.Fits.{Awaits, current_of, line_of, next_place, noted_in, reserved_end, stable_end, synced_end, IsKept}
 use Rattle.sled_core.specs.inside.Fits.{HoldBehind, HoldsLine, HoldsNext, log_parts, parts_in, HoldsSegment}
-use Rattle.sled_core.specs.inside.Begun.{line_end}
 use Rattle.sled_core.specs.invariants.Fits.{Holds}
 use Rattle.sled_core.specs.inside.LogFile.{StaysBelow}
 use Rattle.sled_core.specs.Positions.{is_short, next_segment_at, position_in}
 use Rattle.sled_core.specs.Waiting.{last_of}
 use Rattle.sled_core.specs.invariants.Running.{Fits}
 use Rattle.sled_core.specs.Running.{IsStored, KeepsItem}
-use Rattle.sled_core.specs.Reading.{IsInline}
+use Rattle.sled_core.specs.Reading.{IsInline, BlobIsBelow}
 use Rattle.sled_core.specs.inside.Recoverable.{LiesInSegment}
-use Rattle.sled_core.specs.Reading.{BlobIsBelow}
 use Rattle.sled_core.proofs.Holds.FitsBatches.{stable_noted}
 use Rattle.sled_core.proofs.Logged.Messages.{all_in_log, logged_apart}
 use Rattle.sled_core.proofs.Reached.StableBelow.{stable_low, stable_rises}

@@ -3,7 +3,7 @@ use Rattle.std.proofs.Common.{◌≡◌, ◌∙◌, ◌⊎◌, ◌≤◌, ◌<�
 use Rattle.std.specs.List.{Contains}
 use Rattle.std.specs.declared.io.Error.{Error as IoError}
 use Rattle.std.proofs.lemmas.Bool.Decides.{nat_tests}
-use Rattle.std.proofs.lemmas.List.{append-nil}
+use Rattle.std.proofs.lemmas.List.{append-nil, length-map}
 use Rattle.sled_codec.specs.declared.result.Error.{Error}
 use Rattle.sled_codec.specs.declared.result.Error.TheVariants.{Io, OutOfMemory}
 use Rattle.sled_store.specs.Device.{Event, Trace}
@@ -31,7 +31,6 @@ use Rattle.sled_core.proofs.Line.Current.{current_free, current_holds}
 use Rattle.sled_core.proofs.Line.LogSpans.{IsLeft, left_all, left_further, written_starts}
 use Rattle.sled_core.proofs.Line.Lying.{end_of, promoted_end, set_end}
 use Rattle.sled_core.proofs.Line.Segments.{line_segments}
-use Rattle.std.proofs.lemmas.List.{length-map}
 use Rattle.sled_core.proofs.Line.AccountBehind.{free_further, front_further, many_further}
 use Rattle.sled_core.proofs.Line.LedgerBehind.{ledger_further, one_counted, writings_further, writings_joined, writings_one}
 

@@ -36,9 +36,8 @@ use Rattle.sled_core.proofs.Cleared.Shown.{ShowsSame}
 use Rattle.sled_core.proofs.Line.KeptCalls.{goes_on_quietly}
 use Rattle.sled_core.proofs.Line.Moves.{holds_as}
 use Rattle.sled_core.proofs.Line.Shown.{fits_shown}
-use Rattle.sled_core.proofs.Line.LineEnds.{end_set}
+use Rattle.sled_core.proofs.Line.LineEnds.{end_set, kept_same, noted_later, noted_same}
 use Rattle.sled_core.proofs.Numbers.HidesAs.{from_as}
-use Rattle.sled_core.proofs.Line.LineEnds.{kept_same, noted_later, noted_same}
 use Rattle.sled_core.proofs.Line.EndedLine.{over_bytes}
 use Rattle.sled_core.proofs.Line.Ends.{set_keeps}
 use Rattle.sled_core.proofs.Holds.Facts.{nth_facts}

@@ -16,7 +16,7 @@ use Rattle.sled_store.proofs.Traces.MomentLemmas.{at_last}
 use Rattle.sled_store.proofs.Traces.ScriptLemmas.{performs_throughout}
 use Rattle.sled_core.specs.Logged.{logged}
 use Rattle.sled_core.specs.OpenBatches.{not_whole, stable_below}
-use Rattle.sled_core.specs.inside.Begun.{AreFilled, LieWithin, open_segments, with_nth}
+use Rattle.sled_core.specs.inside.Begun.{AreFilled, LieWithin, open_segments, with_nth, first_place, line_end}
 use Rattle.sled_core.specs.Begun.{SegmentView, line_at, line_in, segment_view, view_at}
 use Rattle.sled_core.specs.declared.iobuf.IoBuf.{IoBuf}
 use Rattle.sled_core.specs.declared.iobuf.SegmentPosition.{SegmentPosition}
@@ -26,7 +26,6 @@ use Rattle.sled_core.specs.declared.logger.io_bufs.SegmentBuffer.{SegmentBuffer}
 use Rattle.sled_core.specs.inside.Fits.{FitsBatches, HoldsLine, HoldsShown, written_to}
 use Rattle.sled_core.specs.invariants.Fits.{Holds}
 use Rattle.sled_core.specs.Fits.{device_of, fault_of, line_of, noted_in, segment_size_of}
-use Rattle.sled_core.specs.inside.Begun.{first_place, line_end}
 use Rattle.sled_core.specs.inside.Cleared.{is_stale}
 use Rattle.sled_core.specs.inside.FreeSlots.{HasSlots}
 use Rattle.sled_core.specs.inside.OwnLog.{HasPlacedFile, IsOwnFile}

@@ -13,7 +13,7 @@ use Rattle.sled_store.proofs.Traces.MomentLemmas.{joined}
 use Rattle.sled_core.specs.Fits.{IsKept, IsUsedUpBelow, device_of, fault_of, flushing, holding_below, reserved_end, segment_size_of, synced_end}
 use Rattle.sled_core.proofs.Logged.Alike.{table_alike}
 use Rattle.sled_core.proofs.Logged.Messages.{logged_below, logged_twice}
-use Rattle.sled_core.proofs.PublicLaws.{ready_with_less}
+use Rattle.sled_core.proofs.PublicLaws.{ready_with_less, none_holding}
 use Rattle.sled_core.specs.Logged.{logged}
 use Rattle.sled_core.specs.Recoverable.{LeavesRecoverable, RecoverableIfOwn}
 use Rattle.sled_core.specs.invariants.Recoverable.{Recoverable}
@@ -26,7 +26,6 @@ use Rattle.sled_log.specs.Orderly.{CanRecover}
 use Rattle.sled_log.specs.Restarts.{FlushFails, HasRestarted}
 use Rattle.sled_log.specs.Restores.{Restores}
 use Rattle.sled_log.proofs.Ready.ComesBack.{ready_kept}
-use Rattle.sled_core.proofs.PublicLaws.{none_holding}
 use Rattle.sled_log.proofs.Sessions.RunLogs.{end_rises}
 use Rattle.sled_log.proofs.WriteBack.RestartCauses.{can_recover, flush_fails, some_of}
 use Rattle.sled_log.proofs.restart.restart.Goals as goal
