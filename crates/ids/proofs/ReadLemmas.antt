@@ -24,9 +24,11 @@ use Rattle.sled_core.specs.declared.logger.Log.{Log}
 use Rattle.sled_core.specs.declared.logger.read_message.LogRead.{LogRead}
 use Rattle.sled_core.specs.declared.logger.read_message.LogRead.TheVariants as read
 use Rattle.sled_core.specs.Reading.{GivesMessage, IsInline, IsNoPlace}
-use Rattle.sled_core.specs.ReadBuffer.{IsUsedUpAt, ReadAnswers, RefusesPlace, Settles, held_at}
+use Rattle.sled_core.specs.ReadBuffer.{IsUsedUpAt, ReadAnswers, RefusesPlace, Settles, WritesAround, held_at}
 use Rattle.sled_core.specs.Causes.{IsFault}
-use Rattle.sled_core.specs.Fits.{FirstWaits, HasRecordOf, current_begin, device_of, fault_of, reserved_end, segment_size_of, synced_end}
+use Rattle.sled_core.specs.Fits.{FirstWaits, HasRecordOf, current_begin, device_of, fault_of, machine_at, position_of, position_with, reserved_end}
+use Rattle.sled_core.specs.Fits.{segment_size_of, synced_end}
+use Rattle.sled_core.specs.Freeing.{Ledger}
 use Rattle.sled_core.proofs.PublicLaws.{first_waits, kept_still, place_still}
 use Rattle.sled_log.specs.Replaces.{HasLast}
 use Rattle.sled_log.proofs.PublicLaws.{table_has_last, table_has_page}
@@ -152,6 +154,22 @@ module _ {D C : Type 0} (trace : D → Trace) (sum : List ℕ → ℕ) (lsn : �
         elim (no_place (segment_size_of old) lsn lid) [
           | inl none ↦ ap (λ x. trace (device_of x)) (refuses.no_place idle.fault none).1
           | inr place ↦ ap (λ x. trace (device_of x)) (refuses.unchanged (refuses.not_reserved idle.fault place (omega (arith, ints, up, end)) up))
+        ]
+
+  -- The next record goes where it would have gone.
+  pub read_goes_on : (result : Result LogRead Error) → WritesAround sum result lsn old new → RefusesPlace result lsn (ptr.Inline lid) old new
+      → position_of new ≡ position_of old
+  read_goes_on result writes refuses = by (int_lt lsn (pos (synced_end old))) refl where
+    by : (b : Bool) → int_lt lsn (pos (synced_end old)) ≡ b → position_of new ≡ position_of old
+    by true is =
+        let still = writes.still (below_read lsn (pos (synced_end old)) is) in
+        still.3 (machine_at new) ∙ ap (λ (l : Ledger). position_with old l.machine) still.2
+    by false is =
+        let end = idle.reserved in
+        let up : pos (synced_end old) ≤ℤ lsn = not_below_read lsn (pos (synced_end old)) is in
+        elim (no_place (segment_size_of old) lsn lid) [
+          | inl none ↦ ap position_of (refuses.no_place idle.fault none).1
+          | inr place ↦ ap position_of (refuses.unchanged (refuses.not_reserved idle.fault place (omega (arith, ints, up, end)) up))
         ]
 
   current_synced : current_begin old ≡ synced_end old
