@@ -96,6 +96,7 @@ pub mod Unchanged
 pub mod WholeBuffers
 pub mod WithoutBlob
 pub mod WriteHides
+pub mod WriteMarks
 pub mod Writes
 pub mod WrittenHides
 pub mod WrittenSlots

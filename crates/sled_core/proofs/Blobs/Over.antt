@@ -9,6 +9,8 @@ use Rattle.sled_core.specs.declared.iobuf.Reserved.{Reserved}
 use Rattle.sled_core.specs.declared.iobuf.Sealed.{Sealed}
 use Rattle.sled_core.specs.declared.iobuf.SegmentPosition.{SegmentPosition}
 use Rattle.sled_core.specs.Begun.{SegmentParts, SegmentView}
+use Rattle.sled_core.specs.declared.logger.joined_marks.JoinedMarks.{JoinedMarks}
+use Rattle.sled_core.specs.inside.Cleared.{cleared}
 use Rattle.sled_core.specs.inside.Fits.{HoldBehind, HoldsIn, HoldsLine, HoldsSegment, HoldsShown, HoldsWith, log_parts, parts_in}
 use Rattle.sled_core.specs.inside.LogFile.{StaysBelow}
 use Rattle.sled_core.specs.LogFile.{StaysFrom}
@@ -16,6 +18,7 @@ use Rattle.sled_core.specs.Logged.{logged}
 use Rattle.sled_core.specs.OpenBatches.{stable_below}
 use Rattle.sled_core.specs.inside.Begun.{line_end}
 use Rattle.sled_core.specs.inside.Lasting.{LeavesRecovering}
+use Rattle.sled_core.specs.inside.MarksFit.{MarksFitFrom}
 use Rattle.sled_core.specs.inside.Numbers.{HaveSlotsFrom}
 use Rattle.sled_core.specs.inside.Running.{FitsIn, FitsLine, FitsShown, FitsWith, HaveItems, HaveNames}
 use Rattle.sled_core.specs.inside.Shown.{shown}
@@ -167,9 +170,10 @@ module _ (sum : List ℕ → ℕ) (size : ℕ) (device : State) (blobs snapshots
   }
 
   pub shown_fits_over : (p : ℤ) (changes : ChangesAt sum p device blobs snapshots) (H : History) (unnamed : IsUnnamed H p) (A f : ℕ) (U : List Message)
-      (noted : List Batch) (line : List SegmentView) (m : Machine) (pins : ℕ)
-      → FitsShown sum noted size device fault line m pins H A f U → FitsShown sum noted size (with_names device blobs snapshots) fault line m pins H A f U
-  shown_fits_over p changes H unnamed A f U noted line m pins fits =
+      (marks : JoinedMarks) (noted : List Batch) (line : List SegmentView) (m : Machine) (pins : ℕ)
+      → FitsShown sum marks noted size device fault line m pins H A f U
+      → FitsShown sum marks noted size (with_names device blobs snapshots) fault line m pins H A f U
+  shown_fits_over p changes H unnamed A f U marks noted line m pins fits =
       let sees : State = shown size fault m line device in
       let same : ChangesAt sum p sees blobs snapshots = record {
         of_blobs = changes.of_blobs;
@@ -184,4 +188,6 @@ module _ (sum : List ℕ → ℕ) (size : ℕ) (device : State) (blobs snapshots
         file = fits.file;
         hides = λ none zeros.
             from_names sum size device (with_names device blobs snapshots) m line (logged H) refl refl changes.same_files (fits.hides none zeros);
+        marked = λ none zeros. subst (λ (file : ℤ → Option (List ℕ)). MarksFitFrom sum size file (cleared size m line device.log.bytes) marks)
+            (sym changes.same_files) (fits.marked none zeros);
       }

@@ -121,4 +121,5 @@ module _ (sum : List ℕ → ℕ) (H : History) (A less f lower : ℕ) (U : List
     };
     file = fits.file;
     hides = fits.hides;
+    marked = fits.marked;
   }

@@ -244,11 +244,11 @@ module _ {D C : Type 0} (trace : D → Trace) (sum : List ℕ → ℕ) (old mid 
           noted_history H b,
           subst (λ (x : Batch). AddsBatch H x (noted_history H b)) (λ j. record { low = (sym begins ∙ low_is) j; peg = peg }) (noted_adds H b later),
           fits_as trace sum old new now_config (rest.fault ∙ ended.fault) (with_batch b (noted_in old)) now_noted (set (line_of old) n (ended_now i r (marking sum v.parts.bytes r peg) Manifest v)) (noted_line mid new rest ∙ line) (machine_of old.accountant)
-              (ap machine_of (rest.accountant ∙ ended.accountant)) same_shown fits.file (noted_history H b) A f' U (rest.pins ∙ ended.pins)
+              (ap machine_of (rest.accountant ∙ ended.accountant)) same_shown fits.file (noted_history H b) A f' U (rest.pins ∙ ended.pins) (rest.marks ∙ ended.marks)
               (λ whole zeros. from_as sum size (omega (arith, old.config.config.least))
               (state_of (trace old.config.device)) (machine_of old.accountant) (machine_of old.accountant)
               (line_of old) (set (line_of old) n (ended_now i r (marking sum v.parts.bytes r peg) Manifest v)) (logged H) (logged (noted_history H b))
               (λ j. refl) (λ j. refl) (same_shown (state_of (trace old.config.device)).log.bytes)
               (omega (arith, end_set size (line_of old) n v (ended_now i r (marking sum v.parts.bytes r peg) Manifest v) f.among refl))
-              (fits.hides whole zeros)) now,
+              (fits.hides whole zeros)) fits.marked now,
         )

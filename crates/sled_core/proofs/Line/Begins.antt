@@ -511,9 +511,9 @@ module _ {D C : Type 0} (trace : D → Trace) (sum : List ℕ → ℕ) (old new 
             (ap (λ (x : RunningConfig D C). trace x.device) rest.config) (let same = begins_synced in omega (arith, same)) (λ none. sym rest.fault ∙ none);
         history = λ H holds. holds_as trace sum old new rest.config rest.fault (noted_in old) begins_noted _ line _ machine same_shown holds.file H
             (holds_next sum its_size device (fault_of old) (machine_at old) big old.account.slots first behind closes g.short small lies f.place_small (noted_in old) (logged H) holds.shows);
-        fits = λ H A f' U fits. fits_as trace sum old new rest.config rest.fault (noted_in old) begins_noted _ line _ machine same_shown fits.file H A f' U rest.pins
+        fits = λ H A f' U fits. fits_as trace sum old new rest.config rest.fault (noted_in old) begins_noted _ line _ machine same_shown fits.file H A f' U rest.pins rest.marks
             (λ none zeros. from_next sum its_size device (fault_of old) (machine_at old) big old.account.slots first behind closes g.short small lies
-            f.place_small (noted_in old) (state_of (trace (device_of old))) (logged H) fits.shows.slots same_shown (fits.hides none zeros))
+            f.place_small (noted_in old) (state_of (trace (device_of old))) (logged H) fits.shows.slots same_shown (fits.hides none zeros)) fits.marked
             (fits_next sum its_size device (fault_of old) (machine_at old) big old.account.slots first behind closes g.short small lies f.place_small (noted_in old) (pins_of old) H A f' U fits.shows);
         noted = noted_later old new rest.noted (let same = begins_synced in omega (arith, same));
         kept = kept_same old new rest.noted;

@@ -96,9 +96,9 @@ module _ {D C : Type 0} (trace : D → Trace) (sum : List ℕ → ℕ) (old new 
   fits_on : (H : History) (A f : ℕ) (U : List Message) → Fits trace sum old H A f U → Fits trace sum new H A f U
   unfolding Fits
   fits_on H A f U fits =
-      let P : State → Type 0 = λ s. FitsShown sum (noted_in old) (segment_size_of old) s (fault_of old) (line_of old) (machine_at old) (pins_of old) H A f U in
+      let P : State → Type 0 = λ s. FitsShown sum old.marks (noted_in old) (segment_size_of old) s (fault_of old) (line_of old) (machine_at old) (pins_of old) H A f U in
       device_fits old new rest trace sum kept H A f U (at_last P (trace (device_of old)) (trace (device_of new))
-      (fits_made sum (segment_size_of old) p H (trace (device_of old)) (trace (device_of new)) bytes (reads H A f U fits) calls (unnamed H A f U fits) (noted_in old) (fault_of old) (line_of old) (machine_at old) (pins_of old) A f U fits))
+      (fits_made sum (segment_size_of old) p H (trace (device_of old)) (trace (device_of new)) bytes (reads H A f U fits) calls (unnamed H A f U fits) old.marks (noted_in old) (fault_of old) (line_of old) (machine_at old) (pins_of old) A f U fits))
 
   items : fault_of new ≡ None → (m : Message) → IsStored trace sum old m → IsStored trace sum new m
   items well m stored = elim (whole well) [

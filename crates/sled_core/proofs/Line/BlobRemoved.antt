@@ -82,9 +82,9 @@ module _ {D C : Type 0} (trace : D → Trace) (sum : List ℕ → ℕ) (old new 
   fits_on : (H : History) (A f : ℕ) (U : List Message) → Fits trace sum old H A f U → AreBeside (Some p) H → Fits trace sum new H A f U
   unfolding Fits
   fits_on H A f U fits beside =
-      let P : State → Type 0 = λ s. FitsShown sum (noted_in old) (segment_size_of old) s (fault_of old) (line_of old) (machine_at old) (pins_of old) H A f U in
+      let P : State → Type 0 = λ s. FitsShown sum old.marks (noted_in old) (segment_size_of old) s (fault_of old) (line_of old) (machine_at old) (pins_of old) H A f U in
       device_fits old new rest trace sum kept H A f U (at_last P (trace (device_of old)) (trace (device_of new))
-      (fits_removed sum (segment_size_of old) p H (trace (device_of old)) (trace (device_of new)) calls beside (noted_in old) (fault_of old) (line_of old) (machine_at old) (pins_of old) A f U fits))
+      (fits_removed sum (segment_size_of old) p H (trace (device_of old)) (trace (device_of new)) calls beside old.marks (noted_in old) (fault_of old) (line_of old) (machine_at old) (pins_of old) A f U fits))
 
   items : fault_of new ≡ None → (m : Message) → IsBeside (Some p) m → IsStored trace sum old m → IsStored trace sum new m
   items well m beside stored = record {

@@ -9,6 +9,7 @@ use Rattle.sled_store.specs.SegmentStates.{Machine}
 use Rattle.sled_store.proofs.Traces.MomentLemmas.{at_last}
 use Rattle.sled_store.proofs.Traces.ScriptLemmas.{performs_throughout}
 use Rattle.sled_core.specs.Begun.{SegmentView}
+use Rattle.sled_core.specs.declared.logger.joined_marks.JoinedMarks.{JoinedMarks}
 use Rattle.sled_core.specs.inside.Fits.{HoldsLine, HoldsShown, HoldsWith}
 use Rattle.sled_core.specs.inside.FreeSlots.{HasSlots}
 use Rattle.sled_core.specs.NoForeign.{NoHeaderOfZeros}
@@ -54,12 +55,12 @@ holds_faulty sum noted size device new fault now line m H holds e is names = rec
   file = as_shown_faulty size e now is m line new.log;
 }
 
-pub fits_shown_faulty : (sum : List ℕ → ℕ) (noted : List Batch) (size : ℕ) (device new : State) (fault now : Option IoError) (line : List SegmentView)
+pub fits_shown_faulty : (sum : List ℕ → ℕ) (marks : JoinedMarks) (noted : List Batch) (size : ℕ) (device new : State) (fault now : Option IoError) (line : List SegmentView)
     (m : Machine) (pins : ℕ) (H : History) (A f : ℕ) (U : List Message) (fits : FitsWith sum noted size device fault line m pins H A f U)
     → (e : IoError) → now ≡ Some e → new.blobs ≡ device.blobs → new.snapshots ≡ device.snapshots
     → LeavesRecovering sum size H (stable_below fits.reach H.batches) f new
-    → (NoHeaderOfZeros sum → HasNumbers sum size 0 new m (line_end size line)) → FitsShown sum noted size new now line m pins H A f U
-fits_shown_faulty sum noted size device new fault now line m pins H A f U fits e is blobs names left numbers =
+    → (NoHeaderOfZeros sum → HasNumbers sum size 0 new m (line_end size line)) → FitsShown sum marks noted size new now line m pins H A f U
+fits_shown_faulty sum marks noted size device new fault now line m pins H A f U fits e is blobs names left numbers =
     let sees : State = shown size now m line new in
     let same : sees ≡ new = shown_faulty size e now is m line new in
     record {
@@ -77,6 +78,7 @@ fits_shown_faulty sum noted size device new fault now line m pins H A f U fits e
       };
       file = as_shown_faulty size e now is m line new.log;
       hides = λ none zeros. cc;
+      marked = λ none zeros. cc;
     }
 
 -- The same, where all that it says is of equal parts.
@@ -85,20 +87,20 @@ pub holds_with_same : (sum : List ℕ → ℕ) (noted noted' : List Batch) (size
 holds_with_same sum noted noted' size size' device fault line line' m m' H b s l a holds =
     subst (λ (bs : List Batch). HoldsShown sum bs size' device fault line' m' H) (sym b) (subst (λ n. HoldsShown sum noted n device fault line' m' H) (sym s) (subst (λ (x : List SegmentView). HoldsShown sum noted size device fault x m' H) (sym l) (subst (λ (x : Machine). HoldsShown sum noted size device fault line x H) (sym a) holds)))
 
-pub fits_with_same : (sum : List ℕ → ℕ) (noted noted' : List Batch) (size size' : ℕ) (device : State) (fault : Option IoError) (line line' : List SegmentView) (m m' : Machine) (pins pins' : ℕ) (H : History) (A f : ℕ) (U : List Message) → noted' ≡ noted → size' ≡ size → line' ≡ line → m' ≡ m → pins' ≡ pins
-    → FitsShown sum noted size device fault line m pins H A f U → FitsShown sum noted' size' device fault line' m' pins' H A f U
-fits_with_same sum noted noted' size size' device fault line line' m m' pins pins' H A f U b s l a p fits =
-    subst (λ (bs : List Batch). FitsShown sum bs size' device fault line' m' pins' H A f U) (sym b) (subst (λ n. FitsShown sum noted n device fault line' m' pins' H A f U) (sym s) (subst (λ (x : List SegmentView). FitsShown sum noted size device fault x m' pins' H A f U) (sym l)
-    (subst (λ (x : Machine). FitsShown sum noted size device fault line x pins' H A f U) (sym a) (subst (λ n. FitsShown sum noted size device fault line m n H A f U) (sym p) fits))))
+pub fits_with_same : (sum : List ℕ → ℕ) (marks marks' : JoinedMarks) (noted noted' : List Batch) (size size' : ℕ) (device : State) (fault : Option IoError) (line line' : List SegmentView) (m m' : Machine) (pins pins' : ℕ) (H : History) (A f : ℕ) (U : List Message) → marks' ≡ marks → noted' ≡ noted → size' ≡ size → line' ≡ line → m' ≡ m → pins' ≡ pins
+    → FitsShown sum marks noted size device fault line m pins H A f U → FitsShown sum marks' noted' size' device fault line' m' pins' H A f U
+fits_with_same sum marks marks' noted noted' size size' device fault line line' m m' pins pins' H A f U k b s l a p fits =
+    subst (λ (x : JoinedMarks). FitsShown sum x noted' size' device fault line' m' pins' H A f U) (sym k) (subst (λ (bs : List Batch). FitsShown sum marks bs size' device fault line' m' pins' H A f U) (sym b) (subst (λ n. FitsShown sum marks noted n device fault line' m' pins' H A f U) (sym s) (subst (λ (x : List SegmentView). FitsShown sum marks noted size device fault x m' pins' H A f U) (sym l)
+    (subst (λ (x : Machine). FitsShown sum marks noted size device fault line x pins' H A f U) (sym a) (subst (λ n. FitsShown sum marks noted size device fault line m n H A f U) (sym p) fits)))))
 
 pub holds_with_device : (sum : List ℕ → ℕ) (noted : List Batch) (size : ℕ) (device new : State) (fault now : Option IoError) (line : List SegmentView) (m : Machine) (H : History) → new ≡ device → now ≡ fault → HoldsShown sum noted size device fault line m H → HoldsShown sum noted size new now line m H
 holds_with_device sum noted size device new fault now line m H d o holds =
     subst (λ (s : State). HoldsShown sum noted size s now line m H) (sym d) (subst (λ (x : Option IoError). HoldsShown sum noted size device x line m H) (sym o) holds)
 
-pub fits_with_device : (sum : List ℕ → ℕ) (noted : List Batch) (size : ℕ) (device new : State) (fault now : Option IoError) (line : List SegmentView) (m : Machine) (pins : ℕ) (H : History) (A f : ℕ) (U : List Message) → new ≡ device → now ≡ fault → FitsShown sum noted size device fault line m pins H A f U
-    → FitsShown sum noted size new now line m pins H A f U
-fits_with_device sum noted size device new fault now line m pins H A f U d o fits =
-    subst (λ (s : State). FitsShown sum noted size s now line m pins H A f U) (sym d) (subst (λ (x : Option IoError). FitsShown sum noted size device x line m pins H A f U) (sym o) fits)
+pub fits_with_device : (sum : List ℕ → ℕ) (marks : JoinedMarks) (noted : List Batch) (size : ℕ) (device new : State) (fault now : Option IoError) (line : List SegmentView) (m : Machine) (pins : ℕ) (H : History) (A f : ℕ) (U : List Message) → new ≡ device → now ≡ fault → FitsShown sum marks noted size device fault line m pins H A f U
+    → FitsShown sum marks noted size new now line m pins H A f U
+fits_with_device sum marks noted size device new fault now line m pins H A f U d o fits =
+    subst (λ (s : State). FitsShown sum marks noted size s now line m pins H A f U) (sym d) (subst (λ (x : Option IoError). FitsShown sum marks noted size device x line m pins H A f U) (sym o) fits)
 
 -- A call that reads its device alone, and keeps what failure there was, or one more.
 
@@ -120,15 +122,15 @@ pub line_leaves : (sum : List ℕ → ℕ) (size : ℕ) (device : State) (fault 
 line_leaves sum size device fault [] reach pins H A f U fits = absurd fits
 line_leaves sum size device fault (v ∷ vs) reach pins H A f U fits = fits.left
 
-pub fits_with_kept : (sum : List ℕ → ℕ) (noted : List Batch) (size size' : ℕ) (device new : State) (fault now : Option IoError) (line line' : List SegmentView) (m m' : Machine) (pins pins' : ℕ) (H : History) (A f : ℕ) (U : List Message) → size' ≡ size → line' ≡ line → m' ≡ m → pins' ≡ pins → new ≡ device
-    → (now ≡ fault) ⊎ ((e : IoError) × (now ≡ Some e)) → (fits : FitsShown sum noted size device fault line m pins H A f U)
-    → LeavesRecovering sum size H (stable_below fits.shows.reach H.batches) f device → FitsShown sum noted size' new now line' m' pins' H A f U
-fits_with_kept sum noted size size' device new fault now line line' m m' pins pins' H A f U s l a p d kept fits left = fits_with_same sum noted noted size size' new now line line' m m' pins pins' H A f U refl s l a p (elim kept [
-  | inl still ↦ fits_with_device sum noted size device new fault now line m pins H A f U d still fits
+pub fits_with_kept : (sum : List ℕ → ℕ) (marks marks' : JoinedMarks) (noted : List Batch) (size size' : ℕ) (device new : State) (fault now : Option IoError) (line line' : List SegmentView) (m m' : Machine) (pins pins' : ℕ) (H : History) (A f : ℕ) (U : List Message) → marks' ≡ marks → size' ≡ size → line' ≡ line → m' ≡ m → pins' ≡ pins → new ≡ device
+    → (now ≡ fault) ⊎ ((e : IoError) × (now ≡ Some e)) → (fits : FitsShown sum marks noted size device fault line m pins H A f U)
+    → LeavesRecovering sum size H (stable_below fits.shows.reach H.batches) f device → FitsShown sum marks' noted size' new now line' m' pins' H A f U
+fits_with_kept sum marks marks' noted size size' device new fault now line line' m m' pins pins' H A f U k s l a p d kept fits left = fits_with_same sum marks marks' noted noted size size' new now line line' m m' pins pins' H A f U k refl s l a p (elim kept [
+  | inl still ↦ fits_with_device sum marks noted size device new fault now line m pins H A f U d still fits
   | inr (e, is) ↦ (
       let sees : State = shown size fault m line device in
       let stable : ℕ = stable_below fits.shows.reach H.batches in
-      fits_shown_faulty sum noted size sees new fault now line m pins H A f U fits.shows e is (ap (λ (x : State). x.blobs) d)
+      fits_shown_faulty sum marks noted size sees new fault now line m pins H A f U fits.shows e is (ap (λ (x : State). x.blobs) d)
       (ap (λ (x : State). x.snapshots) d)
       (subst (LeavesRecovering sum size H stable f) (sym d) left)
       (λ zeros. numbers_placed sum size sees new m (line_end size line) (ap (λ (x : State). x.placed) d) (fits.shows.numbers zeros)))

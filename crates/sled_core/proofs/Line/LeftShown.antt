@@ -12,6 +12,7 @@ use Rattle.sled_core.specs.Logged.{logged}
 use Rattle.sled_core.specs.OpenBatches.{stable_below}
 use Rattle.sled_core.specs.Recoverable.{NoHeaderOfZeros}
 use Rattle.sled_core.specs.declared.logger.Log.{Log}
+use Rattle.sled_core.specs.declared.logger.joined_marks.JoinedMarks.{JoinedMarks}
 use Rattle.sled_core.specs.inside.Cleared.{cleared}
 use Rattle.sled_core.specs.inside.Begun.{line_end}
 use Rattle.sled_core.specs.inside.Fits.{begun_segment, parts_in}
@@ -34,11 +35,11 @@ use Rattle.sled_core.proofs.Logged.Messages.{logged_twice}
 use Rattle.sled_core.proofs.OwnLog.NoneForeign.{WasPlaced}
 use Rattle.sled_core.proofs.Reserve.Ranges.{at_there}
 
-module _ (sum : List ℕ → ℕ) (noted : List Batch) (size : ℕ) (big : 256 ≤ size) (device : State) (fault : Option IoError) (m : Machine) (pins : ℕ)
+module _ (sum : List ℕ → ℕ) (marks : JoinedMarks) (noted : List Batch) (size : ℕ) (big : 256 ≤ size) (device : State) (fault : Option IoError) (m : Machine) (pins : ℕ)
     (H : History) (A f : ℕ) (U : List Message) where
   -- Where no failure is kept.
   left_real : fault ≡ None → (place : ℕ) (line : List SegmentView) → AreSegments size place line
-      → (fits : FitsShown sum noted size device fault line m pins H A f U)
+      → (fits : FitsShown sum marks noted size device fault line m pins H A f U)
       → (NoHeaderOfZeros sum → ReadsPlaced sum size (shown size fault m line device))
       → LeavesRecovering sum size H (stable_below fits.shows.reach H.batches) f device
   left_real whole place [] are fits placed left leaves own_left = absurd fits.shows.parts
@@ -66,10 +67,10 @@ module _ (sum : List ℕ → ℕ) (noted : List Batch) (size : ℕ) (big : 256 �
 
 -- So it is of a log over a device, whether it keeps a failure or not.
 pub log_leaves : {D C : Type 0} (sum : List ℕ → ℕ) (log : Log D C) (H : History) (A f : ℕ) (U : List Message) (device : State)
-    → (fits : FitsShown sum (noted_in log) (segment_size_of log) device (fault_of log) (line_of log) (machine_at log) (pins_of log) H A f U)
+    → (fits : FitsShown sum log.marks (noted_in log) (segment_size_of log) device (fault_of log) (line_of log) (machine_at log) (pins_of log) H A f U)
     → LeavesRecovering sum (segment_size_of log) H (stable_below fits.shows.reach H.batches) f device
 log_leaves sum log H A f U device fits = elim (fault_or_none log.fault.kept) [
-  | inl none ↦ left_real sum (noted_in log) (segment_size_of log) log.config.config.least device (fault_of log) (machine_at log) (pins_of log) H A f U none
+  | inl none ↦ left_real sum log.marks (noted_in log) (segment_size_of log) log.config.config.least device (fault_of log) (machine_at log) (pins_of log) H A f U none
       log.segments.first.site.place (line_of log) (line_segments log) fits
       (λ zeros. reads_placed sum log H A f U (shown (segment_size_of log) (fault_of log) (machine_at log) (line_of log) device) fits.shows none zeros)
   | inr some ↦ subst (LeavesRecovering sum (segment_size_of log) H (stable_below fits.shows.reach H.batches) f)

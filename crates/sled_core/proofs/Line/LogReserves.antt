@@ -225,11 +225,11 @@ module _ {D C : Type 0} (trace : D → Trace) (sum : List ℕ → ℕ) (old new 
               (let same = end_last its_size (reserved_now more r) (λ _. refl) v vs in omega (arith, same)) holds.shows.batches;
           slots = slots_reserved sum its_size more r (line_of old) (shown_of trace old).log.bytes (fault_of old) (machine_at old) holds.shows.slots;
         });
-    fits = λ H A f U its. fits_as trace sum old new rest.config rest.fault (noted_in old) kept_noted (at_last (reserved_now more r) (line_of old)) line (machine_at old) machine same_shown its.file H A f U rest.pins
+    fits = λ H A f U its. fits_as trace sum old new rest.config rest.fault (noted_in old) kept_noted (at_last (reserved_now more r) (line_of old)) line (machine_at old) machine same_shown its.file H A f U rest.pins rest.marks
         (λ none zeros. from_as sum its_size (omega (arith, old.config.config.least)) (state_of (trace (device_of old))) (machine_at old) (machine_at old)
         (line_of old) (at_last (reserved_now more r) (line_of old)) (logged H) (logged H) (λ k. refl) (λ k. refl)
         (same_shown (state_of (trace (device_of old))).log.bytes)
-        (omega (arith, end_at_last its_size (reserved_now more r) (λ _. refl) (line_of old))) (its.hides none zeros))
+        (omega (arith, end_at_last its_size (reserved_now more r) (λ _. refl) (line_of old))) (its.hides none zeros)) its.marked
         (record {
           reach = its.shows.reach;
           parts = line_fits_reserved sum its_size more r (shown_of trace old) (fault_of old) its.shows.reach (pins_of old) H A f U v vs fits its.shows.parts;

@@ -22,6 +22,7 @@ use Rattle.sled_core.specs.declared.iobuf.SegmentPosition.{SegmentPosition}
 use Rattle.sled_core.specs.declared.logger.Log.{Log}
 use Rattle.sled_core.specs.declared.logger.io_bufs.IoBufs.{IoBufs}
 use Rattle.sled_core.specs.declared.logger.io_bufs.SegmentBuffer.{SegmentBuffer}
+use Rattle.sled_core.specs.declared.logger.joined_marks.JoinedMarks.{JoinedMarks}
 use Rattle.sled_core.specs.inside.Fits.{FitsBatches, HoldsLine, HoldsShown, written_to}
 use Rattle.sled_core.specs.invariants.Fits.{Holds}
 use Rattle.sled_core.specs.Fits.{device_of, fault_of, line_of, noted_in, segment_size_of}
@@ -35,8 +36,11 @@ use Rattle.sled_core.specs.invariants.Running.{Fits}
 use Rattle.sled_core.specs.inside.Running.{FitsLine, FitsShown}
 use Rattle.sled_core.specs.inside.Numbers.{HasNumbers}
 use Rattle.sled_core.specs.inside.Slots.{AreWhole}
-use Rattle.sled_core.proofs.Cleared.Shown.{shown_is}
-use Rattle.sled_core.specs.inside.Turned.{ChangesDevice, IsReadyIn, promoted, write_in, written_now}
+use Rattle.sled_core.specs.HeaderMark.{greater_mark}
+use Rattle.sled_core.specs.inside.Cleared.{cleared}
+use Rattle.sled_core.specs.inside.MarksFit.{MarkStands}
+use Rattle.sled_core.proofs.Cleared.Shown.{shown_bytes, shown_is}
+use Rattle.sled_core.specs.inside.Turned.{ChangesDevice, IsReadyIn, mark_of, promoted, write_in, written_now}
 use Rattle.sled_core.proofs.Flush.FlushLemmas.{fault_or_none}
 use Rattle.sled_core.proofs.Holds.FitsBatches.{batches_left, batches_up}
 use Rattle.sled_core.proofs.Holds.BufferEnds.{written_behind}
@@ -58,7 +62,8 @@ use Rattle.sled_core.proofs.Line.NumbersWritten.{numbers_along, numbers_behind}
 use Rattle.sled_core.proofs.Numbers.Lasting.{lasts_leaves}
 use Rattle.sled_core.proofs.Reached.StartedStands.{both_along}
 use Rattle.sled_core.proofs.Start.StartedMoments.{along_if}
-use Rattle.sled_core.proofs.Line.PlacedWrite.{placed_left}
+use Rattle.sled_core.proofs.Line.PlacedWrite.{placed_left, written_so}
+use Rattle.sled_core.proofs.Line.WriteMarks.{marks_written}
 
 module _ {D C : Type 0} (log : Log D C) (n k : ℕ) (r : IsReadyIn (line_of log) n k) where
   abbrev line : List SegmentView
@@ -209,7 +214,7 @@ module _ {D C : Type 0} (log : Log D C) (n k : ℕ) (r : IsReadyIn (line_of log)
     abbrev Numbered : State → Type 0
     Numbered s = HasNumbers sum size 0 s slots (line_end size line)
 
-    module _ (H : History) (A f : ℕ) (U : List Message) (fits : FitsShown sum (noted_in log) size device log.fault.kept line slots log.pins H A f U)
+    module _ (H : History) (A f : ℕ) (U : List Message) (fits : FitsShown sum log.marks (noted_in log) size device log.fault.kept line slots log.pins H A f U)
         (zeros : NoHeaderOfZeros sum) where
       held : HoldsLine sum size sees log.fault.kept line (logged H)
       held = line_holds sum size sees log.fault.kept line fits.shows.reach log.pins H A f U fits.shows.parts
@@ -223,7 +228,7 @@ module _ {D C : Type 0} (log : Log D C) (n k : ℕ) (r : IsReadyIn (line_of log)
           (line_segments log) n r.among slots fits.shows.slots (logged H) held zeros (fits.shows.own whole zeros) (fits.shows.numbers zeros)))
 
     numbers_left : (new : Trace) → Performs (write_in line n k) before new → (H : History) (A f : ℕ) (U : List Message)
-        → FitsShown sum (noted_in log) size device log.fault.kept line slots log.pins H A f U → NoHeaderOfZeros sum → Numbered (state_of new)
+        → FitsShown sum log.marks (noted_in log) size device log.fault.kept line slots log.pins H A f U → NoHeaderOfZeros sum → Numbered (state_of new)
     numbers_left new came H A f U fits zeros =
         at_last Numbered before new (performs_throughout Numbered (write_in line n k) before new came (write_numbers H A f U fits zeros))
 
@@ -247,12 +252,12 @@ module _ {D C : Type 0} (log : Log D C) (n k : ℕ) (r : IsReadyIn (line_of log)
         (along_if (NoHeaderOfZeros sum) Numbered (write_in line n k) device (λ zeros. write_numbers H A f U fits zeros)))
 
     pub fits_failed : (new : Trace) → Performs (write_in line n k) before new → (now : Option IoError) → (now ≡ None → new ≡ before) → (H : History)
-        (A f : ℕ) (U : List Message) → Fits trace sum log H A f U → FitsShown sum (noted_in log) size (state_of new) now line slots log.pins H A f U
+        (A f : ℕ) (U : List Message) → Fits trace sum log H A f U → FitsShown sum log.marks (noted_in log) size (state_of new) now line slots log.pins H A f U
     unfolding Fits
     fits_failed new came now same H A f U fits = elim (fault_or_none now) [
-      | inl none ↦ fits_with_device sum (noted_in log) size device (state_of new) log.fault.kept now line slots log.pins H A f U (ap state_of (same none)) (none ∙ sym whole) fits
+      | inl none ↦ fits_with_device sum log.marks (noted_in log) size device (state_of new) log.fault.kept now line slots log.pins H A f U (ap state_of (same none)) (none ∙ sym whole) fits
       | inr some ↦
-          fits_shown_faulty sum (noted_in log) size sees (state_of new) log.fault.kept now line slots log.pins H A f U fits.shows some.0 some.1
+          fits_shown_faulty sum log.marks (noted_in log) size sees (state_of new) log.fault.kept now line slots log.pins H A f U fits.shows some.0 some.1
           (names new came).0 (names new came).1
           (at_last (LeavesRecovering sum size H (stable_below fits.shows.reach H.batches) f) before new
           (left new came fits.file fits.shows.reach H A f U fits.shows.parts))
@@ -305,10 +310,12 @@ module _ {D C : Type 0} (log : Log D C) (n k : ℕ) (r : IsReadyIn (line_of log)
           file = shown_after has holds.file log.fault.kept;
         }))
 
-    pub fits_done : (new : Trace) → new ≡ after_all (write_in line n k) before → (now : Option IoError) → now ≡ None → (H : History) (A f : ℕ)
-        (U : List Message) → Fits trace sum log H A f U → FitsShown sum noted_left size (state_of new) now line_left slots log.pins H A f U
+    -- (with the greatest mark that is on the device then)
+    pub fits_done : (new : Trace) → new ≡ after_all (write_in line n k) before → (now : Option IoError) → now ≡ None → (marks : JoinedMarks)
+        → marks.durable ≡ greater_mark (mark_of k v) log.marks.durable → (H : History) (A f : ℕ)
+        (U : List Message) → Fits trace sum log H A f U → FitsShown sum marks noted_left size (state_of new) now line_left slots log.pins H A f U
     unfolding Fits
-    fits_done new came now none H A f U fits =
+    fits_done new came now none marks durable H A f U fits =
         let has = fits.shows.slots in
         let after = fits_write sum size log.config.config.least sees log.fault.kept whole v k r.buffer r.there r.ready log.pins H A f U
         (log_recorded log n v r.among) log.reserved_to log.segments.first.site.place fits.shows.reach line (line_segments log) n r.among filled_now first_waits fits.shows.parts in
@@ -317,8 +324,8 @@ module _ {D C : Type 0} (log : Log D C) (n k : ℕ) (r : IsReadyIn (line_of log)
         -- as yet what is shown behind the calls is what they make of what was shown, also in what was placed
         let settled : sees_now ≡ sees_behind = settled_same sum size log.config.config.least device log.fault.kept whole v k r.buffer r.there r.ready
         log.segments.first.site.place line (line_segments log) n r.among slots sees.log.bytes has None fits.file in
-        subst (λ (o : Option IoError). FitsShown sum noted_left size (state_of new) o line_left slots log.pins H A f U) (sym none)
-        (subst (λ (t : Trace). FitsShown sum noted_left size (state_of t) None line_left slots log.pins H A f U) (sym (made new came)) (record {
+        subst (λ (o : Option IoError). FitsShown sum marks noted_left size (state_of new) o line_left slots log.pins H A f U) (sym none)
+        (subst (λ (t : Trace). FitsShown sum marks noted_left size (state_of t) None line_left slots log.pins H A f U) (sym (made new came)) (record {
           shows = record {
             reach = after.0;
             parts = fits_moved sum size log.config.config.least device log.fault.kept whole v k r.buffer r.there r.ready log.segments.first.site.place line
@@ -348,6 +355,19 @@ module _ {D C : Type 0} (log : Log D C) (n k : ℕ) (r : IsReadyIn (line_of log)
           file = shown_after has fits.file None;
           hides = λ none zeros. hides_behind sum (noted_in log) size log.config.config.least device log.fault.kept whole zeros slots log.pins H A f U
               log.segments.first.site.place line (line_segments log) fits.shows (fits.hides whole zeros) n v r.among k r.buffer r.there r.ready;
+          marked = λ none zeros first begins. record {
+            joined = marks.ordered;
+            stands = subst (MarkStands sum size (cleared size slots line_left behind_calls.log.bytes) first) (sym durable)
+                (subst (λ (l : List ℕ). MarkStands sum size l first (greater_mark (mark_of k v) log.marks.durable))
+                (sym (ap (λ (l : LogState). l.bytes) log_now))
+                (marks_written sum size log.config.config.least sees log.fault.kept whole v k r.buffer r.there r.ready log.segments.first.site.place line
+                (line_segments log) n r.among slots has (logged H) (held H A f U fits zeros) zeros
+                (written_so sum size log.config.config.least sees log.fault.kept whole v k r.buffer r.there r.ready log.segments.first.site.place line
+                (line_segments log) n r.among slots has (logged H) (held H A f U fits zeros) zeros (fits.shows.own whole zeros))
+                first begins log.marks.durable
+                (subst (λ (l : List ℕ). MarkStands sum size l first log.marks.durable) (sym (shown_bytes size log.fault.kept slots line device whole))
+                (fits.marked whole zeros first begins).stands)));
+          };
         }))
 
 -- A call that changed the device alone left the line as it was.

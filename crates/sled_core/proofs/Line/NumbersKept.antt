@@ -40,7 +40,7 @@ module _ {D C : Type 0} (trace : D → Trace) (sum : List ℕ → ℕ) (log : Lo
   pub fits_ascends : Fits trace sum log H A f U → Ascends H.messages
   fits_ascends fits = apart_ascends H.messages (fits_apart trace sum log H A f U fits)
 
-  pub fits_numbers : (fits : FitsShown sum (noted_in log) (segment_size_of log) (state_of (trace (device_of log))) (fault_of log) (line_of log) (machine_at log)
+  pub fits_numbers : (fits : FitsShown sum log.marks (noted_in log) (segment_size_of log) (state_of (trace (device_of log))) (fault_of log) (line_of log) (machine_at log)
       (pins_of log) H A f U) → NoHeaderOfZeros sum
       → NumbersStay sum (segment_size_of log) (state_of (trace (device_of log))) H (stable_below fits.shows.reach H.batches)
   unfolding Fits

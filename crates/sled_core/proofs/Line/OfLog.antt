@@ -90,4 +90,4 @@ fits_reads_own trace sum log H A f U fits none zeros =
     let device : State = state_of (trace (device_of log)) in
     -- as yet what is shown is the device itself
     reads_own sum log H A f U device
-    (fits_real sum (noted_in log) (segment_size_of log) device log.fault.kept (machine_at log) (line_of log) log.pins H A f U fits) none zeros
+    (fits_real sum (noted_in log) (segment_size_of log) device log.fault.kept (machine_at log) (line_of log) log.marks log.pins H A f U fits) none zeros

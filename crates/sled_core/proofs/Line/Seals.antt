@@ -189,11 +189,11 @@ module _ {D C : Type 0} (trace : D → Trace) (sum : List ℕ → ℕ) (old new 
               (let same = end_last size sealed_now (λ _. refl) v vs in omega (arith, same)) holds.shows.batches;
           slots = slots_sealed size (line_of old) (shown_of trace old).log.bytes (fault_of old) (machine_at old) holds.shows.slots;
         });
-    fits = λ H A f U fits. fits_as trace sum old new rest.config rest.fault (noted_in old) kept_noted (at_last sealed_now (line_of old)) line (machine_at old) machine same_shown fits.file H A f U rest.pins
+    fits = λ H A f U fits. fits_as trace sum old new rest.config rest.fault (noted_in old) kept_noted (at_last sealed_now (line_of old)) line (machine_at old) machine same_shown fits.file H A f U rest.pins rest.marks
         (λ none zeros. from_as sum size (omega (arith, old.config.config.least)) (state_of (trace (device_of old))) (machine_at old) (machine_at old)
         (line_of old) (at_last sealed_now (line_of old)) (logged H) (logged H) (λ k. refl) (λ k. refl)
         (same_shown (state_of (trace (device_of old))).log.bytes) (omega (arith, end_at_last size sealed_now (λ _. refl) (line_of old)))
-        (fits.hides none zeros))
+        (fits.hides none zeros)) fits.marked
         (record {
           reach = fits.shows.reach;
           parts = line_fits_sealed sum size (shown_of trace old) (fault_of old) fits.shows.reach (pins_of old) H A f U v vs its fits.shows.parts;

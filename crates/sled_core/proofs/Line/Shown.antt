@@ -1,15 +1,19 @@
 -- What a log shows of its device: where a call leaves that, what is held and fitted over it is held and fitted by the log behind the call. As yet it is the
 -- device itself.
 use Rattle.std.specs.declared.io.Error.{Error as IoError}
-use Rattle.std.proofs.Common.{◌≡◌, ◌≢◌, ◌∙◌, ◌+◌, ◌*◌, ◌<◌, ℕ, zero, suc, max, List, [], ◌∷◌, Option, Some, None, refl, sym, ap, subst, arith, inl, inr}
+use Rattle.std.proofs.Common.{◌≡◌, ◌≢◌, ◌∙◌, ◌+◌, ◌*◌, ◌<◌, ℕ, zero, suc, pos, max, List, [], ◌∷◌, Option, Some, None, refl, sym, ap, subst, arith, inl, inr}
 use Rattle.std.specs.List.{slice_get}
 use Rattle.std.proofs.Math.Nat.{suc-mul}
 use Rattle.std.proofs.lemmas.Bool.{cases_order}
+use Rattle.std.proofs.lemmas.Int.{ints}
 use Rattle.sled_codec.specs.History.{Batch, History, Message}
+use Rattle.sled_codec.specs.Snapshots.{SnapshotModel, stable_place}
 use Rattle.sled_store.specs.Device.{LogState, State, Trace, at_rest, state_of}
 use Rattle.sled_store.specs.SegmentStates.{Machine}
+use Rattle.sled_store.specs.SnapshotFiles.{BeginsFrom}
 use Rattle.sled_store.proofs.Segments.FilledLemmas.{slot_before}
 use Rattle.sled_core.specs.Begun.{SegmentView}
+use Rattle.sled_core.specs.declared.logger.joined_marks.JoinedMarks.{JoinedMarks}
 use Rattle.sled_core.specs.Logged.{logged}
 use Rattle.sled_core.specs.Recoverable.{NoHeaderOfZeros}
 use Rattle.sled_core.specs.OpenBatches.{stable_below}
@@ -17,7 +21,9 @@ use Rattle.sled_core.specs.Running.{end_below}
 use Rattle.sled_core.specs.inside.Fits.{HoldsLine, HoldsShown, HoldsWith}
 use Rattle.sled_core.specs.inside.FreeSlots.{HasSlot, HasSlots}
 use Rattle.sled_core.specs.inside.Running.{FitsLine, FitsShown, FitsWith}
+use Rattle.sled_core.specs.inside.Cleared.{cleared}
 use Rattle.sled_core.specs.inside.Hides.{HidesFrom}
+use Rattle.sled_core.specs.inside.MarksFit.{MarksFitFrom}
 use Rattle.sled_core.specs.inside.Shown.{IsAsShown, shown}
 use Rattle.sled_core.specs.inside.Tail.{least_place}
 use Rattle.sled_core.proofs.Cleared.Offsets.{LineRises, OthersBeside, cleared_itself, segments_apart}
@@ -70,13 +76,17 @@ module _ (sum : List ℕ → ℕ) (noted : List Batch) (size : ℕ) (device : St
     file = as_shown_same size fault m m' line line' same device.log file;
   }
 
-  pub fits_shown : (pins : ℕ) (H : History) (A f : ℕ) (U : List Message)
+  pub fits_shown : (marks : JoinedMarks) (pins : ℕ) (H : History) (A f : ℕ) (U : List Message)
       → (fault ≡ None → NoHeaderOfZeros sum → HidesFrom sum size device m' line' (logged H))
-      → FitsWith sum noted size (shown size fault m line device) fault line' m' pins H A f U → FitsShown sum noted size device fault line' m' pins H A f U
-  fits_shown pins H A f U hides fits = record {
+      → (fault ≡ None → NoHeaderOfZeros sum → MarksFitFrom sum size device.snapshots.file (cleared size m line device.log.bytes) marks)
+      → FitsWith sum noted size (shown size fault m line device) fault line' m' pins H A f U
+      → FitsShown sum marks noted size device fault line' m' pins H A f U
+  fits_shown marks pins H A f U hides marked fits = record {
     shows = subst (λ (d : State). FitsWith sum noted size d fault line' m' pins H A f U) (sym (shown_same size fault m m' line line' same device)) fits;
     file = as_shown_same size fault m m' line line' same device.log file;
     hides = hides;
+    marked = λ none zeros.
+        subst (λ (l : List ℕ). MarksFitFrom sum size device.snapshots.file l marks) (sym (same device.log.bytes)) (marked none zeros);
   }
 
 -- As yet it is so over the device itself.
@@ -84,9 +94,9 @@ module _ (sum : List ℕ → ℕ) (noted : List Batch) (size : ℕ) (device : St
   pub holds_real : (H : History) → HoldsShown sum noted size device fault line m H → HoldsWith sum noted size device fault line m H
   holds_real H holds = subst (λ (d : State). HoldsWith sum noted size d fault line m H) (shown_is size fault m line device holds.file) holds.shows
 
-  pub fits_real : (pins : ℕ) (H : History) (A f : ℕ) (U : List Message) → FitsShown sum noted size device fault line m pins H A f U
+  pub fits_real : (marks : JoinedMarks) (pins : ℕ) (H : History) (A f : ℕ) (U : List Message) → FitsShown sum marks noted size device fault line m pins H A f U
       → FitsWith sum noted size device fault line m pins H A f U
-  fits_real pins H A f U fits =
+  fits_real marks pins H A f U fits =
       subst (λ (d : State). FitsWith sum noted size d fault line m pins H A f U) (shown_is size fault m line device fits.file) fits.shows
 
 -- A log that holds a history over its device, as one does that begins, shows the device itself, and hides nothing.
@@ -113,9 +123,10 @@ module _ (sum : List ℕ → ℕ) (size : ℕ) (some : 0 < size) (t : Trace) (m 
         let file = begins_shown H holds.holds holds.slots in
         record { shows = subst (λ (d : State). HoldsWith sum noted size d None line m H) (sym (shown_is size None m line device file)) holds; file = file }
 
-    pub fits_begun : (pins : ℕ) (H : History) (A f : ℕ) (U : List Message) → FitsWith sum noted size device None line m pins H A f U
-        → FitsShown sum noted size device None line m pins H A f U
-    fits_begun pins H A f U fits =
+    pub fits_begun : (marks : JoinedMarks) (pins : ℕ) (H : History) (A f : ℕ) (U : List Message)
+        → ((first : SnapshotModel) → BeginsFrom sum device.snapshots.file first → marks.durable ≡ pos (stable_place first.stable))
+        → FitsWith sum noted size device None line m pins H A f U → FitsShown sum marks noted size device None line m pins H A f U
+    fits_begun marks pins H A f U at fits =
         let file = begins_shown (logged H) (line_holds sum size device None line fits.reach pins H A f U fits.parts) fits.slots in
         record {
           shows = subst (λ (d : State). FitsWith sum noted size d None line m pins H A f U) (sym (shown_is size None m line device file)) fits;
@@ -123,14 +134,17 @@ module _ (sum : List ℕ → ℕ) (size : ℕ) (some : 0 < size) (t : Trace) (m 
           hides = λ none zeros first begins.
               hides_at_rest sum size t m line (file.same refl) (file.rests refl) (fits.numbers zeros) fits.slots.own
               (least_place size first) 0 (logged H) (omega arith);
+          -- the marks are the place with which it began
+          marked = λ none zeros first begins.
+              record { joined = marks.ordered; stands = inl (let same = at first begins in omega (arith, ints, same)) };
         }
 
 -- Of segments of which there is one: another count of pins fits, where one is out while there are messages that aren't marked,
-module _ (sum : List ℕ → ℕ) (noted : List Batch) (size : ℕ) (device : State) (fault : Option IoError) (v : SegmentView) (vs : List SegmentView) (m : Machine)
-    (pins : ℕ) (H : History) (A f : ℕ) (U : List Message) (fits : FitsShown sum noted size device fault (v ∷ vs) m pins H A f U) where
+module _ (sum : List ℕ → ℕ) (marks : JoinedMarks) (noted : List Batch) (size : ℕ) (device : State) (fault : Option IoError) (v : SegmentView) (vs : List SegmentView) (m : Machine)
+    (pins : ℕ) (H : History) (A f : ℕ) (U : List Message) (fits : FitsShown sum marks noted size device fault (v ∷ vs) m pins H A f U) where
   -- (as what the segments fit over what is shown is all that changes)
   fits_line : (now B : ℕ) → FitsLine sum size (shown size fault m (v ∷ vs) device) fault (v ∷ vs) fits.shows.reach now H B f U
-      → FitsShown sum noted size device fault (v ∷ vs) m now H B f U
+      → FitsShown sum marks noted size device fault (v ∷ vs) m now H B f U
   fits_line now B parts = record {
     shows = record {
       reach = fits.shows.reach;
@@ -145,12 +159,13 @@ module _ (sum : List ℕ → ℕ) (noted : List Batch) (size : ℕ) (device : St
     };
     file = fits.file;
     hides = fits.hides;
+    marked = fits.marked;
   }
 
-  pub fits_pins : (now : ℕ) → (U ≢ [] → 0 < now) → FitsShown sum noted size device fault (v ∷ vs) m now H A f U
+  pub fits_pins : (now : ℕ) → (U ≢ [] → 0 < now) → FitsShown sum marks noted size device fault (v ∷ vs) m now H A f U
   fits_pins now out = fits_line now A (fits-pinned _ _ _ _ _ _ _ _ _ _ H A f U fits.shows.parts now U out)
 
   -- and all below the stable end counts as acknowledged.
-  pub fits_acknowledges : FitsShown sum noted size device fault (v ∷ vs) m pins H
+  pub fits_acknowledges : FitsShown sum marks noted size device fault (v ∷ vs) m pins H
       (max A (end_below (stable_below (v.parts.site.place + v.parts.written_len) noted) H)) f U
   fits_acknowledges = fits_line pins _ (fits-acknowledged _ _ _ _ _ _ _ _ _ _ H A f U fits.shows.parts _ _ fits.shows.batches)

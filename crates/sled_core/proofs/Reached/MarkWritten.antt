@@ -1,5 +1,5 @@
 -- A buffer is written and synced: a mark that stood on the device stands, and so does that of the header with which the buffer begins.
-use Rattle.std.proofs.Common.{◌≡◌, ◌⊎◌, ◌∙◌, ◌+◌, ◌-◌, ◌*◌, ◌/◌, ◌%◌, ◌<◌, ◌≤◌, ◌≤ℤ◌, ◌++◌, ℕ, ℤ, pos, Bool, true, false, if◌then◌else◌, List, length, take, drop, Option, None, Some, refl, sym, ap, subst}
+use Rattle.std.proofs.Common.{◌≡◌, ◌⊎◌, ◌∙◌, ◌+◌, ◌-◌, ◌*◌, ◌/◌, ◌%◌, ◌≤◌, ◌≤ℤ◌, ◌++◌, ℕ, ℤ, pos, Bool, true, false, if◌then◌else◌, List, length, take, drop, Option, None, Some, sym, ap, subst}
 use Rattle.std.proofs.Common.{arith, inl, inr, length-append}
 use Rattle.std.specs.Prelude.{int_lt}
 use Rattle.std.proofs.Math.Nat.{mul-mod_left}

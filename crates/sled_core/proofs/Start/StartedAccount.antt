@@ -301,11 +301,17 @@ module _ (sum : List ℕ → ℕ) (size : ℕ) (some : 0 < size) (old : State) (
     not_above = low;
   }
 
+  -- The log begins at the place of the snapshot.
+  pub start_place : (snapshots : ℤ → Option (List ℕ)) → snapshots ≡ old.snapshots.file → (first : SnapshotModel) → BeginsFrom sum snapshots first
+      → stable_place first.stable ≡ stable_place s.stable
+  start_place snapshots names first begins =
+      let one : first ≡ ready.ready.first = one_begin sum old.snapshots.file first ready.ready.first (subst (λ (file : ℤ → Option (List ℕ)). BeginsFrom sum file first) names begins) ready.ready.begins in
+      ap (λ (x : SnapshotModel). stable_place x.stable) one ∙ ap stable_place ready.ready.same_place
+
   pub start_in_slots : {size' : ℕ} → size' ≡ size → (snapshots : ℤ → Option (List ℕ)) → snapshots ≡ old.snapshots.file → {m : Machine} → m ≡ begun_machine size (length old.log.bytes) s
       → (A' : ℕ) → ((first : SnapshotModel) → BeginsFrom sum snapshots first → NoHeaderOfZeros sum → stable_place first.stable ≤ A') → HaveSlotsFrom sum size' snapshots H A' m
   start_in_slots same snapshots names {m} machine A' low first begins =
-      let one : first ≡ ready.ready.first = one_begin sum old.snapshots.file first ready.ready.first (subst (λ (file : ℤ → Option (List ℕ)). BeginsFrom sum file first) names begins) ready.ready.begins in
-      let place : stable_place first.stable ≡ stable_place s.stable = ap (λ (x : SnapshotModel). stable_place x.stable) one ∙ ap stable_place ready.ready.same_place in
+      let place : stable_place first.stable ≡ stable_place s.stable = start_place snapshots names first begins in
       subst (λ n. HaveSlots sum n (stable_place first.stable) H A' m) (sym same)
       (subst (λ (x : Machine). HaveSlots sum size (stable_place first.stable) H A' x) (sym machine)
       (subst (λ n. HaveSlots sum size n H A' (begun_machine size (length old.log.bytes) s)) (sym place)

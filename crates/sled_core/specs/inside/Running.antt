@@ -10,11 +10,14 @@ use Rattle.sled_store.specs.Foreign.{NoForeignNames}
 use Rattle.sled_store.specs.SegmentStates.{Machine}
 use Rattle.sled_store.specs.SnapshotFiles.{IsSnapshotFile}
 use Rattle.sled_core.specs.Begun.{SegmentParts, SegmentView}
+use Rattle.sled_core.specs.declared.logger.joined_marks.JoinedMarks.{JoinedMarks}
 use Rattle.sled_core.specs.inside.Begun.{first_place, line_end}
+use Rattle.sled_core.specs.inside.Cleared.{cleared}
 use Rattle.sled_core.specs.inside.Fits.{FitsBatches, LogParts, begun_segment, log_parts, parts_in, HoldsIn, written_to}
 use Rattle.sled_core.specs.inside.FreeSlots.{HasSlots}
 use Rattle.sled_core.specs.inside.Hides.{HidesFrom}
 use Rattle.sled_core.specs.Logged.{logged}
+use Rattle.sled_core.specs.inside.MarksFit.{MarksFitFrom}
 use Rattle.sled_core.specs.inside.Numbers.{HasNumbers, HaveSlotsFrom, NumbersStay}
 use Rattle.sled_core.specs.OpenBatches.{stable_below}
 use Rattle.sled_core.specs.inside.OwnLog.{HasPlacedFile, ReadsPlaced}
@@ -116,12 +119,14 @@ pub record FitsWith (sum : List ℕ → ℕ) (noted : List Batch) (size : ℕ) (
   pub in_slots : HaveSlotsFrom sum size device.snapshots.file H (stable_below reach H.batches) m
 
 -- So do those over a device of which so much is shown. What was placed, blobs and snapshots are those of the device itself.
-pub record FitsShown (sum : List ℕ → ℕ) (noted : List Batch) (size : ℕ) (device : State) (fault : Option IoError) (line : List SegmentView) (m : Machine)
+pub record FitsShown (sum : List ℕ → ℕ) (marks : JoinedMarks) (noted : List Batch) (size : ℕ) (device : State) (fault : Option IoError) (line : List SegmentView) (m : Machine)
     (pins : ℕ) (H : History) (A f : ℕ) (U : List Message) : Type 0 where
   pub shows : FitsWith sum noted size (shown size fault m line device) fault line m pins H A f U
   pub file : IsAsShown size fault m line device.log
   -- and this is what the file has besides
   pub hides : fault ≡ None → NoHeaderOfZeros sum → HidesFrom sum size device m line (logged H)
+  -- the marks stand in the headers that are shown
+  pub marked : fault ≡ None → NoHeaderOfZeros sum → MarksFitFrom sum size device.snapshots.file (cleared size m line device.log.bytes) marks
 
 -- Snapshot and device are ready for a log that fits this history, the end of what was acknowledged and the floor. Log file and snapshots have records and
 -- tables, so they are ready for the history as the log has it; the blobs have the items of the history itself.

@@ -1,4 +1,4 @@
-use Rattle.std.proofs.Common.{◌≡◌, ◌∙◌, ◌<◌, ◌≤◌, ◌+◌, IfOk, OnErr, OnOk, List, [], ◌∷◌, ℕ, max, ap, subst, sym, arith, inl, inr, Option, None, Some, Result, Ok, Err}
+use Rattle.std.proofs.Common.{◌≡◌, ◌∙◌, ◌<◌, ◌≤◌, ◌+◌, IfOk, OnErr, OnOk, List, ℕ, max, ap, subst, sym, arith, inl, inr, Option, None, Some, Result, Ok, Err}
 use Rattle.std.specs.declared.io.Error.{Error as IoError}
 use Rattle.sled_codec.specs.declared.result.Error.{Error}
 use Rattle.sled_codec.specs.declared.result.Error.TheVariants.{Held, Io, OutOfMemory, PlacesUsedUp}
@@ -6,13 +6,12 @@ use Rattle.sled_store.specs.declared.config.RunningConfig.{RunningConfig}
 use Rattle.sled_store.specs.Device.{Trace, state_of}
 use Rattle.sled_store.specs.Moments.{LeavesOnly}
 use Rattle.sled_core.specs.Causes.{HeldAnswers}
-use Rattle.sled_core.specs.Fits.{FirstWaits, IsUsedUpBelow, current_begin, device_of, fault_of, holding_below, reserved_end, segment_size_of, stable_end, start_of, synced_end, waiting_of}
+use Rattle.sled_core.specs.Fits.{IsUsedUpBelow, device_of, fault_of, holding_below, reserved_end, segment_size_of, stable_end, synced_end}
 use Rattle.sled_core.specs.Fronts.{CameTo, ClosedAt, IsIo, UnlessIo}
 use Rattle.sled_core.specs.Keeps.{LeavesAbove}
 use Rattle.sled_core.specs.Recoverable.{LeavesRecoverable, RecoverableIfOwn}
 use Rattle.sled_core.specs.Running.{end_below}
 use Rattle.sled_core.specs.Stable.{CloseAnswers, SyncsAll, first_begin, stable_behind}
-use Rattle.sled_core.specs.Waiting.{BufferAt}
 use Rattle.sled_core.specs.declared.logger.Log.{Log}
 use Rattle.sled_core.proofs.Holds.LessClaimed.{leaves_claimed}
 use Rattle.sled_core.proofs.Holds.LastEnds.{acknowledged_up}

@@ -104,7 +104,7 @@ returns-clause-fits g c = λ H A f U m fits awaits stored may out.
     (apart_ascends H.messages (fits_apart g.D.Device.trace g.C.Checksum.sum_of old H A f U fits)) fits.shows.account.outdated m may) (sym its.own.manifest ∙ c.requires.message) old.pins H A f U old.config.config.least c.in_default.is out fits.shows in (
       done.0,
       done.1,
-      ticket_fits e c.complete_in.ensures.rest g.D.Device.trace g.C.Checksum.sum_of H done.0 A f _ fits.hides fits.file done.2,
+      ticket_fits e c.complete_in.ensures.rest g.D.Device.trace g.C.Checksum.sum_of H done.0 A f _ fits.hides fits.marked fits.file done.2,
     )
 
 -- Other tickets stay, and nothing else changes.

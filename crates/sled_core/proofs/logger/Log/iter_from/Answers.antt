@@ -30,7 +30,7 @@ returns-in-Ok-clause-messages g c = λ H A f U fits zeros.
     let log = c.args.self.now in
     let none = c.in-Ok.ensures.answers.1 in
     -- as yet what is shown is the device itself
-    let real = fits_real _ _ _ _ _ _ _ _ H A f U fits in
+    let real = fits_real _ _ _ _ _ _ _ _ _ H A f U fits in
     let here = subst (λ (o : Option Error). IfNone o (GoesOver g.D.Device.trace g.C.Checksum.sum_of log c.args.lsn c.over_log.result)) c.over_log.ensures.begun (over g c) in
     subst (λ (o : Option Error). IfNone o (GivesMessages g.D.Device.trace g.C.Checksum.sum_of log H c.args.lsn c.over_log.result)) (sym c.over_log.ensures.begun)
     (gives_messages g.D.Device.trace g.C.Checksum.sum_of log H A f U real none zeros c.args.lsn c.over_log.result here)

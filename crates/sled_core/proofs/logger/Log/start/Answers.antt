@@ -17,6 +17,7 @@ use Rattle.sled_store.specs.declared.segment.start.Beginning.{Beginning}
 use Rattle.sled_store.specs.Script.{after_all}
 use Rattle.sled_store.specs.Begin.{IsStartable, beginning_of, offset_at, place_at, slots_of, unused}
 use Rattle.sled_store.specs.SegmentStates.{Machine}
+use Rattle.sled_store.specs.SnapshotFiles.{BeginsFrom}
 use Rattle.sled_store.specs.Started.{started}
 use Rattle.std.proofs.lemmas.Bool.Decides.{nat_tests}
 use Rattle.std.proofs.lemmas.List.{take_all}
@@ -64,7 +65,7 @@ use Rattle.sled_core.proofs.OwnLog.Started.{started_own}
 use Rattle.sled_core.proofs.OwnLog.StartedDevice.{started_placed}
 use Rattle.sled_core.proofs.Start.BegunSlots.{begun_slots}
 use Rattle.sled_core.proofs.Start.OlderStarted.{start_whole}
-use Rattle.sled_core.proofs.Start.StartedAccount.{start_account, start_in_slots}
+use Rattle.sled_core.proofs.Start.StartedAccount.{start_account, start_in_slots, start_place}
 use Rattle.sled_core.proofs.Start.StartedMoments.{started_throughout}
 use Rattle.sled_core.proofs.Start.ReadyStarts.{ready_starts}
 use Rattle.sled_core.proofs.Start.StartFits.{start_fits}
@@ -226,7 +227,11 @@ returns-in-Ok-clause-fits g c = λ H A f ready.
     (start_fits g.C.Checksum.sum_of size (state_of old) now s H A f c.args.config.config.least ready c.in-Ok.ensures.answers.0
     log_now (ap (λ (t : Trace). (state_of t).blobs) c.in-Ok.ensures.made ∙ started-blobs size some (state_of old).log.bytes s old) (ap (λ (t : Trace). (state_of t).snapshots) c.in-Ok.ensures.made ∙ started-snapshots size some (state_of old).log.bytes s old)
     c.in-Ok.beginning c.in-Ok.ensures.beginning c.in-Ok.buffer.bytes.items c.in-Ok.buffer.written_len c.in-Ok.buffer.sealed.items c.in-Ok.buffer.reserved.items first.header first.resumed first.from first.sealed first.reserved)) in
-    fits_begun g.C.Checksum.sum_of _ (omega (arith, some, same)) (g.D.Device.trace c.begin.new.config.device) _ _ _ _ H A f [] (record {
+    let place : to_z w64 c.stable_place.result ≡ pos (stable_place s.stable) = to_z_pos w64 c.stable_place.result c.stable_place.ensures.small ∙ ap pos c.stable_place.ensures.place in
+    let durable = (λ (first : SnapshotModel) (begins : BeginsFrom g.C.Checksum.sum_of now.snapshots.file first).
+    c.from_place.ensures.durable ∙ place
+    ∙ ap pos (sym (start_place g.C.Checksum.sum_of size some (state_of old) s H A f ready c.in-Ok.ensures.answers.0 now.snapshots.file names first begins))) in
+    fits_begun g.C.Checksum.sum_of _ (omega (arith, some, same)) (g.D.Device.trace c.begin.new.config.device) _ _ _ _ _ H A f [] durable (record {
       reach = c.in-Ok.beginning.place + c.in-Ok.beginning.offset;
       parts = parts;
       batches = started_batches c.begin.new.config.config.segment_size (view_at (record { place = c.in-Ok.beginning.place; slot = c.in-Ok.beginning.slot }) c.in-Ok.buffer) (map segment_view c.no_segments.result.items) (logged H) c.new-in-Ok.ensures.noted

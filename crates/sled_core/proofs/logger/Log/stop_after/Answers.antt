@@ -22,7 +22,7 @@ returns-clause-keeps g c = record {
       record {
         goes_on = goes_on_asked trace g.C.Checksum.sum_of old _ stopped c.args.n (record { config = refl; checksum = refl }) asked (omega arith) (λ none. none);
         history = λ H holds. holds_with_device g.C.Checksum.sum_of _ _ _ _ _ _ _ _ (logged H) same refl holds;
-        fits = λ H A f U fits. fits_with_device g.C.Checksum.sum_of _ _ _ _ _ _ _ _ _ H A f U same refl fits;
+        fits = λ H A f U fits. fits_with_device g.C.Checksum.sum_of _ _ _ _ _ _ _ _ _ _ H A f U same refl fits;
         noted = noted_still old;
         kept = omega arith;
       }

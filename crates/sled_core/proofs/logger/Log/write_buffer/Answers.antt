@@ -109,7 +109,7 @@ returns-in_err-write_bytes-clause-keeps g c = record {
         };
         history = λ H holds. holds_with_same g.C.Checksum.sum_of _ _ _ _ _ _ _ _ _ _ (logged H) kept_noted sizes (same_line old mid rest) slots
             (holds_failed old c.args.n c.args.k r g.D.Device.trace g.C.Checksum.sum_of c.requires.fault (g.D.Device.trace mid.config.device) did.at_most mid.fault.kept did.refused H holds);
-        fits = λ H A f U fits. fits_with_same g.C.Checksum.sum_of _ _ _ _ _ _ _ _ _ _ _ _ H A f U kept_noted sizes (same_line old mid rest) slots rest.pins
+        fits = λ H A f U fits. fits_with_same g.C.Checksum.sum_of _ _ _ _ _ _ _ _ _ _ _ _ _ _ H A f U rest.marks kept_noted sizes (same_line old mid rest) slots rest.pins
             (fits_failed old c.args.n c.args.k r g.D.Device.trace g.C.Checksum.sum_of c.requires.fault (g.D.Device.trace mid.config.device) did.at_most mid.fault.kept did.refused H A f U fits);
         noted = noted_later old mid items (let same = ap written_to (same_line old mid rest) in omega (arith, same));
         kept = kept_same old mid items;
@@ -209,6 +209,7 @@ returns-clause-keeps g c = record {
       let sizes : segment_size_of mid ≡ segment_size_of old = ap (λ (x : Config). x.segment_size) rest.config in
       let slots = ap machine_of rest.accountant in
       let line = returns-clause-line g c r.segment r.among in
+      let mark = c.mark_of-mark.ensures r.segment (ap (λ (l : List SegmentView). slice_get l c.args.n) (same_line old mid rest) ∙ r.among) in
       record {
         goes_on = record {
           config = record { config = rest.config; checksum = rest.checksum };
@@ -220,8 +221,9 @@ returns-clause-keeps g c = record {
         };
         history = λ H holds. holds_with_same g.C.Checksum.sum_of _ _ _ _ _ _ _ _ _ _ (logged H) (noted_left_is old c.args.n c.args.k r (noted_items old mid rest) line) sizes line slots
             (holds_done old c.args.n c.args.k r g.D.Device.trace g.C.Checksum.sum_of c.requires.fault (g.D.Device.trace mid.config.device) did.calls mid.fault.kept did.answers.1 H holds);
-        fits = λ H A f U fits. fits_with_same g.C.Checksum.sum_of _ _ _ _ _ _ _ _ _ _ _ _ H A f U (noted_left_is old c.args.n c.args.k r (noted_items old mid rest) line) sizes line slots rest.pins
-            (fits_done old c.args.n c.args.k r g.D.Device.trace g.C.Checksum.sum_of c.requires.fault (g.D.Device.trace mid.config.device) did.calls mid.fault.kept did.answers.1 H A f U fits);
+        fits = λ H A f U fits. fits_with_same g.C.Checksum.sum_of _ _ _ _ _ _ _ _ _ _ _ _ _ _ H A f U refl (noted_left_is old c.args.n c.args.k r (noted_items old mid rest) line) sizes line slots rest.pins
+            (fits_done old c.args.n c.args.k r g.D.Device.trace g.C.Checksum.sum_of c.requires.fault (g.D.Device.trace mid.config.device) did.calls mid.fault.kept did.answers.1 _
+            (c.note_mark.ensures.durable ∙ (λ j. greater_mark (mark j) (rest.marks j).durable)) H A f U fits);
         noted = noted_left_is old c.args.n c.args.k r (noted_items old mid rest) line ∙ ap (λ e. not_whole e (noted_in old)) (sym (ap written_to line));
         kept = kept_same old mid (noted_items old mid rest);
       }

@@ -1,5 +1,5 @@
 -- The mark is read off the last eight bytes of the header.
-use Rattle.std.proofs.Common.{◌≡◌, ◌∙◌, ap, ◌-◌, ◌^◌, bit_xor, FitsSigned}
+use Rattle.std.proofs.Common.{◌∙◌, ap, ◌-◌, ◌^◌, bit_xor, FitsSigned}
 use Rattle.std.specs.Int.{w64, cast_signed, from_le_bytes}
 use Rattle.std.proofs.lemmas.Int.{to_z-of_z}
 use Rattle.sled_core.specs.HeaderMark.{mark_in}
