@@ -10,7 +10,9 @@ pub mod CompletedLemmas
 pub mod Facts
 pub mod Filled
 pub mod FitsBatches
+pub mod HeldFrom
 pub mod HoldsLemmas
+pub mod HoldsRaised
 pub mod LastEnds
 pub mod LessClaimed
 pub mod MarkedLemmas

@@ -48,6 +48,7 @@ pub mod MadeAnswers
 pub mod MarkCalls
 pub mod MarkedSlots
 pub mod Marks
+pub mod MarksJoin
 pub mod Moves
 pub mod NeededSlots
 pub mod Nexts

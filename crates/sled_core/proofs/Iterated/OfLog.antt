@@ -37,6 +37,7 @@ use Rattle.sled_core.specs.Tail.{place_of_mark}
 use Rattle.sled_core.proofs.Blobs.FirmContent.{blobs_read, firm_files, firm_leaves, firm_own}
 use Rattle.sled_core.proofs.Holds.BufferEnds.{written_behind}
 use Rattle.sled_core.proofs.Holds.FitsBatches.{stable_noted}
+use Rattle.sled_core.proofs.Holds.HeldFrom.{held_least}
 use Rattle.sled_core.proofs.Holds.WholeHistory.{whole_apart}
 use Rattle.sled_core.proofs.Iterated.OnFile.{AreSlotsOf, gives_on_file}
 use Rattle.sled_core.proofs.Iterated.ReadHere.{IsReadHere, read_held, read_whole}
@@ -45,7 +46,8 @@ use Rattle.sled_core.proofs.Logged.Messages.{logged_apart, logged_there, logged_
 use Rattle.sled_core.proofs.Logged.Stands.{among_alike, whole_alike}
 use Rattle.sled_core.proofs.Reached.StableBelow.{stable_closed, stable_low}
 use Rattle.sled_core.proofs.Start.ReadyLemmas.{raised_same}
-use Rattle.sled_core.proofs.Tail.Multiples.{apart, put_down, raised_within}
+use Rattle.sled_core.proofs.Tail.Multiples.{apart, put_down, raised_within, lower_multiple}
+use Rattle.sled_core.specs.inside.LogSegments.{held_since}
 
 -- the last of segments that follow one another ends below 2^63
 follow_end : (size place : ℕ) (ss : List SegmentBuffer) → place < 2 ^ 63 → FollowOn size place ss → place + length ss * size < 2 ^ 63
@@ -93,11 +95,11 @@ module _ {D C : Type 0} (trace : D → Trace) (sum : List ℕ → ℕ) (log : Lo
   abbrev some : 256 ≤ size
   some = log.config.config.least
 
-  module _ (fits : FitsWith sum (noted_in log) size state log.fault.kept line m log.pins H A f U) (none : log.fault.kept ≡ None) (zeros : NoHeaderOfZeros sum) where
+  module _ (fits : FitsWith sum log.marks (noted_in log) size state log.fault.kept line m log.pins H A f U) (none : log.fault.kept ≡ None) (zeros : NoHeaderOfZeros sum) where
     abbrev first : SnapshotModel
     first = fits.parts.holds.begun.first
 
-    among : StandsAmong sum size state.log.bytes log.segments.first.site log.segments.first.buffer.written_len (map begun_segment (map parts_in (map segment_view log.segments.behind.items))) fits.reach H first
+    among : StandsAmong sum (held_since size log.marks first) size state.log.bytes log.segments.first.site log.segments.first.buffer.written_len (map begun_segment (map parts_in (map segment_view log.segments.behind.items))) fits.reach H first
     among = among_alike (logged H) H (logged_twice H) sum size state.log.bytes log.segments.first.site log.segments.first.buffer.written_len (map begun_segment (map parts_in (map segment_view log.segments.behind.items))) fits.reach first (fits.parts.among none zeros)
 
     -- the stable end is that of the history
@@ -124,7 +126,7 @@ module _ {D C : Type 0} (trace : D → Trace) (sum : List ℕ → ℕ) (log : Lo
     first_header k taken at some_written =
         let h = All-head (HasSlot size m) _ _ fits.slots.taken in
         let same : h.number ≡ k = fits.slots.own.one h.number k h.taken taken (h.is ∙ sym at) in
-        let has : HasHeader sum state.log.bytes log.segments.first.site = headers_line sum size state log.fault.kept none line 0 _ (logged H) fits.parts.holds refl some_written in
+        let has : HasHeader sum state.log.bytes log.segments.first.site = headers_line sum size _ state log.fault.kept none line 0 _ (logged H) fits.parts.holds refl some_written in
         let slot : log.segments.first.site.slot ≡ k * size = h.lies ∙ ap (λ n. n * size) same in (
           has.mark,
           subst (λ n. IsHeader sum (part state.log.bytes n 20) (pos (slot_at m k).lsn) has.mark) slot (subst (λ n. IsHeader sum (part state.log.bytes log.segments.first.site.slot 20) (pos n) has.mark) (sym at) has.header),
@@ -171,8 +173,8 @@ module _ {D C : Type 0} (trace : D → Trace) (sum : List ℕ → ℕ) (log : Lo
     reads k taken low = elim (older_or_first k taken low) [
       | inl at ↦ (
           let header = begun k taken low in
-          let least = fits.parts.holds.begun.least in
-          let from = ap (λ (n : ℕ). n / size * size) among.held in
+          let least = held_least log.marks.ordered fits.parts.holds.begun some in
+          let from = lower_multiple size some among.stands.from (held_since size log.marks first) among.low in
           read_held sum size state.log.bytes some H (apart_ascends H.messages apart_messages) (stable_below fits.reach H.batches) first fits.reach among.stands
           (stable_end log) all_reached k (slot_at m k).lsn (fits.slots.own.aligned k taken) (omega (arith, from, least, at)) (near k taken low) header.0 header.1)
       | inr lower ↦ read_whole sum size state.log.bytes H fits.reach (stable_end log) (k * size) (slot_at m k).lsn (whole k taken lower)

@@ -129,11 +129,11 @@ module _ {D C : Type 0} (old new : Log D C) (n : ℕ) (v : SegmentView) (there :
 
   pub holds_ended : (trace : D → Trace) (sum : List ℕ → ℕ) (H : History)
       → IsAsShown old.config.config.segment_size old.fault.kept (machine_of old.accountant) (line_of old) (state_of (trace old.config.device)).log
-      → HoldsWith sum (noted_in old) old.config.config.segment_size (shown_of trace old) old.fault.kept (set (line_of old) n e)
+      → HoldsWith sum old.marks (noted_in old) old.config.config.segment_size (shown_of trace old) old.fault.kept (set (line_of old) n e)
       (machine_of old.accountant) (logged H)
       → Holds trace sum new H
   holds_ended trace sum H file holds =
-      holds_as trace sum old new rest.config rest.fault (noted_in old) noted_ended (set (line_of old) n e) line (machine_of old.accountant)
+      holds_as trace sum old new rest.config rest.fault rest.marks (noted_in old) noted_ended (set (line_of old) n e) line (machine_of old.accountant)
       (ap machine_of rest.accountant) shows_ended file H holds
 
   pub fits_ended : (trace : D → Trace) (sum : List ℕ → ℕ) (H' H : History) (A f : ℕ) (U : List Message)
@@ -141,12 +141,12 @@ module _ {D C : Type 0} (old new : Log D C) (n : ℕ) (v : SegmentView) (there :
       (machine_of old.accountant) (line_of old) (logged H'))
       → MarksStand trace sum old
       → IsAsShown old.config.config.segment_size old.fault.kept (machine_of old.accountant) (line_of old) (state_of (trace old.config.device)).log
-      → FitsWith sum (noted_in old) old.config.config.segment_size (shown_of trace old) old.fault.kept (set (line_of old) n e) (machine_of old.accountant)
+      → FitsWith sum old.marks (noted_in old) old.config.config.segment_size (shown_of trace old) old.fault.kept (set (line_of old) n e) (machine_of old.accountant)
       old.pins H A f U
       → Fits trace sum new H A f U
   fits_ended trace sum H' H A f U hides marked file =
-      fits_as trace sum old new rest.config rest.fault (noted_in old) noted_ended (set (line_of old) n e) line (machine_of old.accountant)
-      (ap machine_of rest.accountant) shows_ended file H A f U rest.pins rest.marks
+      fits_as trace sum old new rest.config rest.fault rest.marks (noted_in old) noted_ended (set (line_of old) n e) line (machine_of old.accountant)
+      (ap machine_of rest.accountant) shows_ended file H A f U rest.pins
       (λ none zeros. from_as sum old.config.config.segment_size (omega (arith, old.config.config.least)) (state_of (trace old.config.device))
       (machine_of old.accountant) (machine_of old.accountant) (line_of old) (set (line_of old) n e) (logged H') (logged H) (λ j. refl) (λ j. refl)
       (shows_ended (state_of (trace old.config.device)).log.bytes)

@@ -34,6 +34,7 @@ use Rattle.sled_core.proofs.Line.Segments.{AreSegments, line_segments}
 use Rattle.sled_core.proofs.Logged.Messages.{logged_twice}
 use Rattle.sled_core.proofs.OwnLog.NoneForeign.{WasPlaced}
 use Rattle.sled_core.proofs.Reserve.Ranges.{at_there}
+use Rattle.sled_core.specs.inside.LogSegments.{held_since}
 
 module _ (sum : List ℕ → ℕ) (marks : JoinedMarks) (noted : List Batch) (size : ℕ) (big : 256 ≤ size) (device : State) (fault : Option IoError) (m : Machine) (pins : ℕ)
     (H : History) (A f : ℕ) (U : List Message) where
@@ -52,8 +53,8 @@ module _ (sum : List ℕ → ℕ) (marks : JoinedMarks) (noted : List Batch) (si
       let file : List ℕ = cleared size m line device.log.bytes in
       let bytes = shown_bytes size fault m line device whole in
       let here : AreSegments size v.parts.site.place line = subst (λ p. AreSegments size p line) (sym are.0.at) are in
-      let among : StandsAmong sum size file v.parts.site v.parts.written_len (map begun_segment (map parts_in vs)) fits.shows.reach (logged H) first =
-      subst (λ (l : List ℕ). StandsAmong sum size l v.parts.site v.parts.written_len (map begun_segment (map parts_in vs)) fits.shows.reach (logged H) first)
+      let among : StandsAmong sum (held_since size marks first) size file v.parts.site v.parts.written_len (map begun_segment (map parts_in vs)) fits.shows.reach (logged H) first =
+      subst (λ (l : List ℕ). StandsAmong sum (held_since size marks first) size l v.parts.site v.parts.written_len (map begun_segment (map parts_in vs)) fits.shows.reach (logged H) first)
       bytes (its.among whole zeros) in
       let reads : ReadsShown sum size m file device.log.bytes =
       quiet_shown sum zeros size big m v vs here (λ j w at_j. at_there (HasSlot size m) line j w at_j fits.shows.slots.taken) fits.shows.slots.own device
@@ -75,6 +76,6 @@ log_leaves sum log H A f U device fits = elim (fault_or_none log.fault.kept) [
       (λ zeros. reads_placed sum log H A f U (shown (segment_size_of log) (fault_of log) (machine_at log) (line_of log) device) fits.shows none zeros)
   | inr some ↦ subst (LeavesRecovering sum (segment_size_of log) H (stable_below fits.shows.reach H.batches) f)
       (shown_faulty (segment_size_of log) some.0 (fault_of log) some.1 (machine_at log) (line_of log) device)
-      (line_leaves sum (segment_size_of log) (shown (segment_size_of log) (fault_of log) (machine_at log) (line_of log) device) (fault_of log) (line_of log)
+      (line_leaves sum _ (segment_size_of log) (shown (segment_size_of log) (fault_of log) (machine_at log) (line_of log) device) (fault_of log) (line_of log)
       fits.shows.reach (pins_of log) H A f U fits.shows.parts)
 ]

@@ -95,7 +95,7 @@ all_ended trace sum log all H holds = all_from_in (λ (b : Batch). (b.low < sync
   begins b there = elim (holds.shows.batches.rising b there) [ inl pegged ↦ (let low = ends b there in omega (arith, low, pegged)) | inr low ↦ low ]
 
 module _ {D C : Type 0} (trace : D → Trace) (sum : List ℕ → ℕ) (log : Log D C) (all : reserved_end log ≤ synced_end log) (whole : fault_of log ≡ None) (H : History)
-    (holds : HoldsWith sum (noted_in log) (segment_size_of log) (state_of (trace (device_of log))) (fault_of log) (line_of log) (machine_at log) (logged H)) (closed : CloseBelow (synced_end log) H.batches) where
+    (holds : HoldsWith sum log.marks (noted_in log) (segment_size_of log) (state_of (trace (device_of log))) (fault_of log) (line_of log) (machine_at log) (logged H)) (closed : CloseBelow (synced_end log) H.batches) where
   abbrev its_size : ℕ
   its_size = segment_size_of log
 
@@ -144,5 +144,5 @@ unfolding Holds
 all_written trace sum log all whole H holds =
     -- as yet what is shown is on the device itself
     all_there trace sum log all whole H
-    (holds_real sum (noted_in log) (segment_size_of log) (state_of (trace (device_of log))) (fault_of log) (machine_at log) (line_of log) (logged H) holds)
+    (holds_real sum (noted_in log) (segment_size_of log) (state_of (trace (device_of log))) (fault_of log) (machine_at log) (line_of log) log.marks (logged H) holds)
     (all_ended trace sum log all H holds)

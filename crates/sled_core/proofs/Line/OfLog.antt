@@ -12,6 +12,7 @@ use Rattle.sled_core.specs.Fits.{device_of, fault_of, line_of, machine_at, noted
 use Rattle.sled_core.specs.Logged.{logged}
 use Rattle.sled_core.specs.inside.OwnLog.{HasOwnSlot, IsOwnSegment, ReadsPlaced}
 use Rattle.sled_core.specs.Recoverable.{NoHeaderOfZeros, ReadsOnlyOwn}
+use Rattle.sled_core.specs.declared.logger.joined_marks.JoinedMarks.{JoinedMarks}
 use Rattle.sled_core.specs.invariants.Running.{Fits}
 use Rattle.sled_core.specs.inside.Running.{FitsWith}
 use Rattle.sled_core.proofs.Line.Ends.{line_holds, with_part}
@@ -48,18 +49,18 @@ module _ {D C : Type 0} (sum : List ℕ → ℕ) (log : Log D C) (H : History) (
   abbrev Own : ℕ → ℕ → List ℕ → Type 0
   Own = RecordWasPlaced sum size state.placed
 
-  module _ (fits : FitsWith sum (noted_in log) size state log.fault.kept line (machine_at log) log.pins H A f U) (none : log.fault.kept ≡ None) (zeros : NoHeaderOfZeros sum) where
-    holds : HoldsLine sum size state log.fault.kept line (logged H)
-    holds = line_holds sum size state log.fault.kept line fits.reach log.pins H A f U fits.parts
+  module _ {marks : JoinedMarks} (fits : FitsWith sum marks (noted_in log) size state log.fault.kept line (machine_at log) log.pins H A f U) (none : log.fault.kept ≡ None) (zeros : NoHeaderOfZeros sum) where
+    holds : HoldsLine sum marks size state log.fault.kept line (logged H)
+    holds = line_holds sum size state log.fault.kept _ line fits.reach log.pins H A f U fits.parts
 
     -- A slot in which one of its segments lies.
     slot_at_nth : (n : ℕ) (v : SegmentView) → slice_get line n ≡ Some v → (slot : ℕ) → v.parts.site.slot ≡ slot * size → HasOwnSlot sum size Header Own state.log.bytes slot
     slot_at_nth n v there slot lies =
         let is : IsSegment size v.parts.site.place v = nth_segment size log.segments.first.site.place line (line_segments log) n v there in
         let least = log.config.config.least in
-        with_part sum size state log.fault.kept line n v (logged H) holds there (λ stays its segment.
+        with_part sum size state log.fault.kept _ line n v (logged H) holds there (λ stays its segment.
         slot_of_segment sum size Header Own zeros (omega (arith, least)) state.log.bytes v.parts.site slot v.parts.written_len v.parts.reserved v.parts.sealed v.parts.bytes lies is.fresh is.are
-        (all_long sum size (v.parts.site.place / size) v.parts.bytes v.parts.reserved segment.records.stand) (segment.laid none) (λ some. headers_line sum size state log.fault.kept none line n v (logged H) holds there some)
+        (all_long sum size (v.parts.site.place / size) v.parts.bytes v.parts.reserved segment.records.stand) (segment.laid none) (λ some. headers_line sum size _ state log.fault.kept none line n v (logged H) holds there some)
         (at_there (λ (u : SegmentView). IsOwnSegment sum size Header Own state.log.bytes u.parts.site u.parts.written_len u.parts.sealed) line n v there (fits.own none zeros).segments))
 
     -- Each slot.
@@ -74,7 +75,7 @@ module _ {D C : Type 0} (sum : List ℕ → ℕ) (log : Log D C) (H : History) (
 
     -- The log file is settled.
     settled : state.log ≡ at_rest state.log.bytes
-    settled = with_part sum size state log.fault.kept line 0 (segment_view log.segments.first) (logged H) holds refl (λ stays its segment. let on = segment.written none in rests state.log on.log on.settled)
+    settled = with_part sum size state log.fault.kept _ line 0 (segment_view log.segments.first) (logged H) holds refl (λ stays its segment. let on = segment.written none in rests state.log on.log on.settled)
 
     none_in_log : NoForeignLog sum size state.log state.placed state.log.bytes
     none_in_log = subst (λ (l : LogState). NoForeignLog sum size l state.placed state.log.bytes) (sym settled) (none_foreign sum size state.placed state.log.bytes reads_placed)

@@ -16,19 +16,17 @@ use Rattle.sled_codec.specs.declared.result.DiskPtr.TheVariants.{Inline, Blob}
 use Rattle.sled_codec.specs.History.{Message, History, table}
 use Rattle.sled_codec.specs.Places.{MayBegin}
 use Rattle.sled_codec.specs.Pointers.{lid_of}
-use Rattle.sled_codec.specs.Snapshots.{SnapshotModel, stable_place}
+use Rattle.sled_core.proofs.Holds.HeldFrom.{held_marked}
 use Rattle.sled_store.specs.Answers.{is_fault_kind}
-use Rattle.sled_store.specs.Device.{NamesState, State, Trace, state_of}
+use Rattle.sled_store.specs.Device.{State, Trace, state_of}
 use Rattle.sled_store.specs.Script.{Performs, after_all}
-use Rattle.sled_store.specs.SnapshotFiles.{BeginsFrom}
-use Rattle.sled_store.proofs.Names.OneBegin.{one_begin}
 use Rattle.sled_store.proofs.Traces.ScriptLemmas.{performs_whole}
 use Rattle.sled_core.specs.inside.Shown.{shown_of}
 use Rattle.sled_core.specs.Begun.{segment_view}
 use Rattle.sled_core.specs.Causes.{HeldAnswers, IsFault, IsFaultAt, IsHeld, OnDone}
 use Rattle.sled_core.specs.inside.Causes.{RecordAnswers}
 use Rattle.sled_core.specs.declared.logger.Log.{Log}
-use Rattle.sled_core.specs.Fits.{HasRecordOf, current_begin, device_of, fault_of, line_of, machine_at, noted_in, reserved_end, segment_size_of, start_of, synced_end, waiting_of}
+use Rattle.sled_core.specs.Fits.{HasRecordOf, current_begin, device_of, fault_of, held_of, line_of, machine_at, noted_in, reserved_end, segment_size_of, start_of, synced_end, waiting_of}
 use Rattle.sled_core.specs.invariants.Fits.{Holds}
 use Rattle.sled_core.specs.inside.Fits.{HoldsLine}
 use Rattle.sled_core.specs.LogFile.{StaysFrom}
@@ -91,18 +89,18 @@ none_is None is = refl
 none_is (Some b) is = cc
 
 -- Of a log whose device has not failed.
-module _ {D C : Type 0} (sum : List ℕ → ℕ) (log : Log D C) (device : State) (H : History) (holds : HoldsLine sum (segment_size_of log) device None (line_of log) H) where
+module _ {D C : Type 0} (sum : List ℕ → ℕ) (log : Log D C) (device : State) (H : History) (holds : HoldsLine sum log.marks (segment_size_of log) device None (line_of log) H) where
   -- what the log has the record of lies in one of its segments, or stays
   has_record : (m : Message) → Contains H.messages m → HasRecordOf log H m
-      → (log.segments.first.site.place ≤ m.place) ⊎ StaysFrom H (first_stable sum (segment_size_of log) device 0 log.segments.first.site.place (segment_view log.segments.first) (map segment_view log.segments.behind.items) (line_segments log) H holds) m
+      → (log.segments.first.site.place ≤ m.place) ⊎ StaysFrom H (first_stable sum (segment_size_of log) device 0 log.segments.first.site.place (segment_view log.segments.first) (map segment_view log.segments.behind.items) (line_segments log) H _ holds) m
   has_record m there has = elim has [
     | inl above ↦ inl above
-    | inr (cut, far, entry) ↦ inr (entry_stays sum (segment_size_of log) device 0 log.segments.first.site.place (segment_view log.segments.first) (map segment_view log.segments.behind.items) (line_segments log) H holds log.line.lies.in_segment m there cut (let reached = holds.begun.reached in omega (arith, reached, far)) entry)
+    | inr (cut, far, entry) ↦ inr (entry_stays sum (segment_size_of log) device 0 log.segments.first.site.place (segment_view log.segments.first) (map segment_view log.segments.behind.items) (line_segments log) H _ holds log.line.lies.in_segment m there cut (held_marked log.marks.ordered holds.begun cut far) entry)
   ]
 
-  its_record : (m : Message) → Contains H.messages m → (log.segments.first.site.place ≤ m.place) ⊎ StaysFrom H (stable_place holds.begun.first.stable) m → IsWrittenPlace log m.place → (lid : ℕ) → m.pointer ≡ Inline lid → IsHeldAt sum (segment_size_of log) device.log.bytes lid m
+  its_record : (m : Message) → Contains H.messages m → (log.segments.first.site.place ≤ m.place) ⊎ StaysFrom H (held_of holds.begun) m → IsWrittenPlace log m.place → (lid : ℕ) → m.pointer ≡ Inline lid → IsHeldAt sum (segment_size_of log) device.log.bytes lid m
   its_record m there has written lid pointer =
-      line_record sum (segment_size_of log) device log.reserved_to log.segments.first.site.place (segment_view log.segments.first) (map segment_view log.segments.behind.items) (line_segments log) H holds log.line.filled m there has written.0
+      line_record sum (segment_size_of log) device log.reserved_to log.segments.first.site.place (segment_view log.segments.first) (map segment_view log.segments.behind.items) (line_segments log) H _ holds log.line.filled m there has written.0
       (none_is _ (sym (none_found m.place (waiting_of log)) ∙ written.1)) lid pointer
 
 -- A log has the record of a message with its item in it in what it has of the history, too.
@@ -119,32 +117,29 @@ unfolding Fits
 fits_begins trace sum log H A f U fits none m there has lid pointer =
     let size : ℕ = segment_size_of log in
     let device : State = shown_of trace log in
-    let holds : HoldsLine sum size device None (line_of log) (logged H) = subst (λ (o : Option IoError). HoldsLine sum size device o (line_of log) (logged H)) none fits.shows.parts.holds in
+    let holds : HoldsLine sum log.marks size device None (line_of log) (logged H) = subst (λ (o : Option IoError). HoldsLine sum log.marks size device o (line_of log) (logged H)) none fits.shows.parts.holds in
     let known : Contains (logged H).messages m = inline_there H m lid pointer there in
-    line_begins sum size device 0 log.segments.first.site.place (segment_view log.segments.first) (map segment_view log.segments.behind.items) (line_segments log) (logged H) holds m known (has_record sum log device (logged H) holds m known (inline_record log H m lid pointer has)) lid pointer
+    line_begins sum size device 0 log.segments.first.site.place (segment_view log.segments.first) (map segment_view log.segments.behind.items) (line_segments log) (logged H) _ holds m known (has_record sum log device (logged H) holds m known (inline_record log H m lid pointer has)) lid pointer
 
 -- The record of a message of the history stands where its pointer says, once its place was brought to the device.
 pub settled_record : {D C : Type 0} (trace : D → Trace) (sum : List ℕ → ℕ) (old mid : Log D C) (H : History) (m : Message) → Holds trace sum old H → Holds trace sum mid H → fault_of old ≡ None → fault_of mid ≡ None → Contains H.messages m → HasRecordOf old H m
-    → IsWrittenPlace mid m.place → (m.place < synced_end old → mid ≡ old) → (state_of (trace (device_of mid))).snapshots ≡ (state_of (trace (device_of old))).snapshots → (lid : ℕ) → m.pointer ≡ Inline lid
+    → IsWrittenPlace mid m.place → (m.place < synced_end old → mid ≡ old) → mid.marks.joined ≤ℤ pos (synced_end old) → (lid : ℕ) → m.pointer ≡ Inline lid
     → IsHeldAt sum (segment_size_of mid) (state_of (trace (device_of mid))).log.bytes lid m
 unfolding Holds
-settled_record {D} {C} trace sum old mid H m before after whole whole_now there has written still names lid pointer =
+settled_record {D} {C} trace sum old mid H m before after whole whole_now there has written still lower lid pointer =
     let device : State = state_of (trace (device_of old)) in
     let now : State = state_of (trace (device_of mid)) in
     -- as yet what is shown is on the device itself
-    let had = holds_real sum (noted_in old) (segment_size_of old) device (fault_of old) (machine_at old) (line_of old) (logged H) before in
-    let has_now = holds_real sum (noted_in mid) (segment_size_of mid) now (fault_of mid) (machine_at mid) (line_of mid) (logged H) after in
-    let first : HoldsLine sum (segment_size_of old) device None (line_of old) (logged H) = subst (λ (o : Option IoError). HoldsLine sum (segment_size_of old) device o (line_of old) (logged H)) whole had.holds in
-    let later : HoldsLine sum (segment_size_of mid) now None (line_of mid) (logged H) = subst (λ (o : Option IoError). HoldsLine sum (segment_size_of mid) now o (line_of mid) (logged H)) whole_now has_now.holds in
-    let reached = first.begun.reached in
+    let had = holds_real sum (noted_in old) (segment_size_of old) device (fault_of old) (machine_at old) (line_of old) old.marks (logged H) before in
+    let has_now = holds_real sum (noted_in mid) (segment_size_of mid) now (fault_of mid) (machine_at mid) (line_of mid) mid.marks (logged H) after in
+    let first : HoldsLine sum old.marks (segment_size_of old) device None (line_of old) (logged H) = subst (λ (o : Option IoError). HoldsLine sum old.marks (segment_size_of old) device o (line_of old) (logged H)) whole had.holds in
+    let later : HoldsLine sum mid.marks (segment_size_of mid) now None (line_of mid) (logged H) = subst (λ (o : Option IoError). HoldsLine sum mid.marks (segment_size_of mid) now o (line_of mid) (logged H)) whole_now has_now.holds in
     let known : Contains (logged H).messages m = inline_there H m lid pointer there in
     elim (cases_lt m.place (synced_end old)) [
       | inl below ↦ subst (λ (l : Log D C). IsHeldAt sum (segment_size_of l) (state_of (trace (device_of l))).log.bytes lid m) (sym (still below))
           (its_record sum old device (logged H) first m known (has_record sum old device (logged H) first m known (inline_record old H m lid pointer has)) (stable_written old m.place below) lid pointer)
-      | inr above ↦ (
-          let same : later.begun.first ≡ first.begun.first = one_begin sum _ later.begun.first first.begun.first later.begun.begins (subst (λ (s : NamesState). BeginsFrom sum s.file first.begun.first) (sym names) first.begun.begins) in
-          let low : stable_place later.begun.first.stable ≡ stable_place first.begun.first.stable = ap (λ (x : SnapshotModel). stable_place x.stable) same in
-          its_record sum mid now (logged H) later m known (inr (inr (omega (arith, low, reached, above), known))) written lid pointer)
+      | inr above ↦ its_record sum mid now (logged H) later m known
+          (inr (inr (held_marked mid.marks.ordered later.begun m.place (omega (arith, ints, lower, above)), known))) written lid pointer
     ]
 
 -- What a read answers where its place isn't brought to the device.

@@ -69,20 +69,20 @@ others_beside size some m place line are taken n u at j w at_j differs =
 -- Where the same counts for nothing, what is held and fitted over what was shown is so over what is shown.
 module _ (sum : List ℕ → ℕ) (noted : List Batch) (size : ℕ) (device : State) (fault : Option IoError) (m m' : Machine) (line line' : List SegmentView)
     (same : ShowsSame size m m' line line') (file : IsAsShown size fault m line device.log) where
-  pub holds_shown : (H : History) → HoldsWith sum noted size (shown size fault m line device) fault line' m' H
-      → HoldsShown sum noted size device fault line' m' H
-  holds_shown H holds = record {
-    shows = subst (λ (d : State). HoldsWith sum noted size d fault line' m' H) (sym (shown_same size fault m m' line line' same device)) holds;
+  pub holds_shown : (marks : JoinedMarks) (H : History) → HoldsWith sum marks noted size (shown size fault m line device) fault line' m' H
+      → HoldsShown sum marks noted size device fault line' m' H
+  holds_shown marks H holds = record {
+    shows = subst (λ (d : State). HoldsWith sum marks noted size d fault line' m' H) (sym (shown_same size fault m m' line line' same device)) holds;
     file = as_shown_same size fault m m' line line' same device.log file;
   }
 
   pub fits_shown : (marks : JoinedMarks) (pins : ℕ) (H : History) (A f : ℕ) (U : List Message)
       → (fault ≡ None → NoHeaderOfZeros sum → HidesFrom sum size device m' line' (logged H))
       → (fault ≡ None → NoHeaderOfZeros sum → MarksFitFrom sum size device.snapshots.file (cleared size m line device.log.bytes) marks)
-      → FitsWith sum noted size (shown size fault m line device) fault line' m' pins H A f U
+      → FitsWith sum marks noted size (shown size fault m line device) fault line' m' pins H A f U
       → FitsShown sum marks noted size device fault line' m' pins H A f U
   fits_shown marks pins H A f U hides marked fits = record {
-    shows = subst (λ (d : State). FitsWith sum noted size d fault line' m' pins H A f U) (sym (shown_same size fault m m' line line' same device)) fits;
+    shows = subst (λ (d : State). FitsWith sum marks noted size d fault line' m' pins H A f U) (sym (shown_same size fault m m' line line' same device)) fits;
     file = as_shown_same size fault m m' line line' same device.log file;
     hides = hides;
     marked = λ none zeros.
@@ -91,45 +91,45 @@ module _ (sum : List ℕ → ℕ) (noted : List Batch) (size : ℕ) (device : St
 
 -- As yet it is so over the device itself.
 module _ (sum : List ℕ → ℕ) (noted : List Batch) (size : ℕ) (device : State) (fault : Option IoError) (m : Machine) (line : List SegmentView) where
-  pub holds_real : (H : History) → HoldsShown sum noted size device fault line m H → HoldsWith sum noted size device fault line m H
-  holds_real H holds = subst (λ (d : State). HoldsWith sum noted size d fault line m H) (shown_is size fault m line device holds.file) holds.shows
+  pub holds_real : (marks : JoinedMarks) (H : History) → HoldsShown sum marks noted size device fault line m H → HoldsWith sum marks noted size device fault line m H
+  holds_real marks H holds = subst (λ (d : State). HoldsWith sum marks noted size d fault line m H) (shown_is size fault m line device holds.file) holds.shows
 
   pub fits_real : (marks : JoinedMarks) (pins : ℕ) (H : History) (A f : ℕ) (U : List Message) → FitsShown sum marks noted size device fault line m pins H A f U
-      → FitsWith sum noted size device fault line m pins H A f U
+      → FitsWith sum marks noted size device fault line m pins H A f U
   fits_real marks pins H A f U fits =
-      subst (λ (d : State). FitsWith sum noted size d fault line m pins H A f U) (shown_is size fault m line device fits.file) fits.shows
+      subst (λ (d : State). FitsWith sum marks noted size d fault line m pins H A f U) (shown_is size fault m line device fits.file) fits.shows
 
 -- A log that holds a history over its device, as one does that begins, shows the device itself, and hides nothing.
 module _ (sum : List ℕ → ℕ) (size : ℕ) (some : 0 < size) (t : Trace) (m : Machine) (line : List SegmentView) where
   abbrev device : State
   device = state_of t
 
-  begins_shown : (H : History) → HoldsLine sum size device None line H → HasSlots size line device.log.bytes None m
+  begins_shown : (marks : JoinedMarks) (H : History) → HoldsLine sum marks size device None line H → HasSlots size line device.log.bytes None m
       → IsAsShown size None m line device.log
-  begins_shown H holds slots = record {
-    rests = λ none. settled line holds;
+  begins_shown marks H holds slots = record {
+    rests = λ none. settled _ line holds;
     same = λ none. cleared_itself size some m line device.log.bytes (slots.zeros refl)
-        (λ n v there. with_part sum size device None line n v H holds there (λ stays own segment. segment.laid refl));
+        (λ n v there. with_part sum size device None _ line n v H holds there (λ stays own segment. segment.laid refl));
   } where
-    settled : (vs : List SegmentView) → HoldsLine sum size device None vs H → device.log ≡ at_rest device.log.bytes
-    settled [] held = absurd held
-    settled (v ∷ vs) held =
+    settled : (marks : JoinedMarks) (vs : List SegmentView) → HoldsLine sum marks size device None vs H → device.log ≡ at_rest device.log.bytes
+    settled marks [] held = absurd held
+    settled marks (v ∷ vs) held =
         let on = held.own.written refl in
         on.settled ∙ ap at_rest (sym (ap (λ (x : LogState). x.bytes) on.settled))
 
   module _ (noted : List Batch) where
-    pub holds_begun : (H : History) → HoldsWith sum noted size device None line m H → HoldsShown sum noted size device None line m H
-    holds_begun H holds =
-        let file = begins_shown H holds.holds holds.slots in
-        record { shows = subst (λ (d : State). HoldsWith sum noted size d None line m H) (sym (shown_is size None m line device file)) holds; file = file }
+    pub holds_begun : (marks : JoinedMarks) (H : History) → HoldsWith sum marks noted size device None line m H → HoldsShown sum marks noted size device None line m H
+    holds_begun marks H holds =
+        let file = begins_shown _ H holds.holds holds.slots in
+        record { shows = subst (λ (d : State). HoldsWith sum marks noted size d None line m H) (sym (shown_is size None m line device file)) holds; file = file }
 
     pub fits_begun : (marks : JoinedMarks) (pins : ℕ) (H : History) (A f : ℕ) (U : List Message)
         → ((first : SnapshotModel) → BeginsFrom sum device.snapshots.file first → marks.durable ≡ pos (stable_place first.stable))
-        → FitsWith sum noted size device None line m pins H A f U → FitsShown sum marks noted size device None line m pins H A f U
+        → FitsWith sum marks noted size device None line m pins H A f U → FitsShown sum marks noted size device None line m pins H A f U
     fits_begun marks pins H A f U at fits =
-        let file = begins_shown (logged H) (line_holds sum size device None line fits.reach pins H A f U fits.parts) fits.slots in
+        let file = begins_shown _ (logged H) (line_holds sum size device None _ line fits.reach pins H A f U fits.parts) fits.slots in
         record {
-          shows = subst (λ (d : State). FitsWith sum noted size d None line m pins H A f U) (sym (shown_is size None m line device file)) fits;
+          shows = subst (λ (d : State). FitsWith sum marks noted size d None line m pins H A f U) (sym (shown_is size None m line device file)) fits;
           file = file;
           hides = λ none zeros first begins.
               hides_at_rest sum size t m line (file.same refl) (file.rests refl) (fits.numbers zeros) fits.slots.own
@@ -143,7 +143,7 @@ module _ (sum : List ℕ → ℕ) (size : ℕ) (some : 0 < size) (t : Trace) (m 
 module _ (sum : List ℕ → ℕ) (marks : JoinedMarks) (noted : List Batch) (size : ℕ) (device : State) (fault : Option IoError) (v : SegmentView) (vs : List SegmentView) (m : Machine)
     (pins : ℕ) (H : History) (A f : ℕ) (U : List Message) (fits : FitsShown sum marks noted size device fault (v ∷ vs) m pins H A f U) where
   -- (as what the segments fit over what is shown is all that changes)
-  fits_line : (now B : ℕ) → FitsLine sum size (shown size fault m (v ∷ vs) device) fault (v ∷ vs) fits.shows.reach now H B f U
+  fits_line : (now B : ℕ) → FitsLine sum marks size (shown size fault m (v ∷ vs) device) fault (v ∷ vs) fits.shows.reach now H B f U
       → FitsShown sum marks noted size device fault (v ∷ vs) m now H B f U
   fits_line now B parts = record {
     shows = record {

@@ -138,7 +138,7 @@ module _ {D C : Type 0} {old new : Log D C} {ticket : Reservation} {n index : �
   ticket_others trace sum H other m holds awaits apart =
       subst (λ (l : List SegmentView). AwaitsIn l other (in_log m)) (sym e.line)
       (others_await old.config.config.segment_size (line_of old) old.segments.first.site.place n v e.at.among (nth_facts old) i r e.at.there
-      e.at.own.open_yet e.text e.short state sum (shown_of trace old) old.fault.kept (logged H) holds.shows.holds ticket other (in_log m)
+      e.at.own.open_yet e.text e.short state sum _ (shown_of trace old) old.fault.kept (logged H) holds.shows.holds ticket other (in_log m)
       e.at.own.place awaits apart)
 
   -- Where nothing else of the log changes, all is kept that isn't of its segment,
@@ -158,7 +158,7 @@ module _ {D C : Type 0} {old new : Log D C} {ticket : Reservation} {n index : �
       -- holds what the changed segments hold,
       pub ticket_holds : (H : History)
           → IsAsShown old.config.config.segment_size old.fault.kept (machine_of old.accountant) (line_of old) (state_of (trace old.config.device)).log
-          → HoldsWith sum (noted_in old) old.config.config.segment_size (shown_of trace old) old.fault.kept
+          → HoldsWith sum old.marks (noted_in old) old.config.config.segment_size (shown_of trace old) old.fault.kept
           (set (line_of old) n (ended_now i r e.text state v)) (machine_of old.accountant) (logged H)
           → Holds trace sum new H
       ticket_holds = holds_ended old new n v e.at.among i r e.at.there e.at.own.open_yet e.text e.short state e.line rest trace sum
@@ -169,7 +169,7 @@ module _ {D C : Type 0} {old new : Log D C} {ticket : Reservation} {n index : �
           (machine_of old.accountant) (line_of old) (logged H'))
           → MarksStand trace sum old
           → IsAsShown old.config.config.segment_size old.fault.kept (machine_of old.accountant) (line_of old) (state_of (trace old.config.device)).log
-          → FitsWith sum (noted_in old) old.config.config.segment_size (shown_of trace old) old.fault.kept
+          → FitsWith sum old.marks (noted_in old) old.config.config.segment_size (shown_of trace old) old.fault.kept
           (set (line_of old) n (ended_now i r e.text state v)) (machine_of old.accountant) old.pins H A f U
           → Fits trace sum new H A f U
       ticket_fits = fits_ended old new n v e.at.among i r e.at.there e.at.own.open_yet e.text e.short state e.line rest trace sum

@@ -72,6 +72,12 @@ module _ (sum : List ℕ → ℕ) (size : ℕ) (log : List ℕ) (some : 256 ≤ 
         ∙ ap (take 20) (overwritten-part log at xs)
         ∙ front
 
+-- A lower mark stands, too.
+pub stands_lower : (sum : List ℕ → ℕ) (size : ℕ) (log : List ℕ) (first : SnapshotModel) (low mark : ℤ) → low ≤ℤ mark → MarkStands sum size log first mark
+    → MarkStands sum size log first low
+stands_lower sum size log first low mark le (inl under) = inl (omega (arith, ints, le, under))
+stands_lower sum size log first low mark le (inr (s, found, up)) = inr (s, found, omega (arith, ints, le, up))
+
 -- where a buffer begins with a header of this mark that header is found
 abbrev pub HasHead : (List ℕ → ℕ) → ℕ → List ℕ → ℕ → Option ℤ → Type 0
 HasHead sum size log least None = Unit {0}

@@ -1,8 +1,7 @@
--- What the marks of a log have to do with its file, and from where what is held counts once marks join.
-use Rattle.std.specs.Prelude.{◌⊎◌, ◌≤ℤ◌, ℕ, ℤ, pos, max, List, Option}
+-- What the marks of a log have to do with its file.
+use Rattle.std.specs.Prelude.{◌⊎◌, ◌≤ℤ◌, ℕ, ℤ, pos, List, Option}
 use Rattle.sled_codec.specs.Snapshots.{SnapshotModel, stable_place}
 use Rattle.sled_store.specs.SnapshotFiles.{BeginsFrom}
-use Rattle.sled_core.specs.LogSegments.{begins_from}
 use Rattle.sled_core.specs.declared.iterator.Segment.{Segment}
 use Rattle.sled_core.specs.declared.logger.joined_marks.JoinedMarks.{JoinedMarks}
 use Rattle.sled_core.specs.inside.Scan.{IsFoundSegment}
@@ -23,7 +22,3 @@ pub record MarksFit (sum : List ℕ → ℕ) (size : ℕ) (log : List ℕ) (firs
 -- So it is from the snapshot on with which the log began.
 abbrev pub MarksFitFrom : (List ℕ → ℕ) → ℕ → (ℤ → Option (List ℕ)) → List ℕ → JoinedMarks → Type 0
 MarksFitFrom sum size snapshots log marks = (first : SnapshotModel) → BeginsFrom sum snapshots first → MarksFit sum size log first marks.joined marks.durable
-
--- from where what is held counts: the beginning of the segment of a mark, or the place with which the log began, where that is greater
-abbrev pub held_from : ℕ → ℕ → ℤ → ℕ
-held_from size began mark = max began (begins_from size mark)

@@ -8,7 +8,7 @@ ghost use Rattle.sled_core.specs.Causes.{HeldAnswers, OnDone};
 ghost use Rattle.sled_core.specs.Fits.{NoneSealed, current_begin, device_of, fault_of, reserved_end, start_of, synced_end, waiting_of};
 ghost use Rattle.sled_core.specs.Fronts.{CameAround, WroteNone};
 ghost use Rattle.sled_core.specs.Keeps.{KeepsLog};
-ghost use Rattle.sled_core.specs.inside.Marked.{KeepsSegment};
+ghost use Rattle.sled_core.specs.inside.Marked.{JoinsBelow, KeepsSegment};
 ghost use Rattle.sled_core.specs.ReadBuffer.{IsUsedUpAt, IsWrittenPlace, SealsAround, WritesAround, held_at, settling};
 ghost use Rattle.sled_core.specs.inside.ReadBuffer.{SettleAnswers};
 ghost use Rattle.sled_core.specs.Stable.{IsNotReserved};
@@ -32,6 +32,7 @@ impl<D: Device, C: Checksum> Log<D, C> {
         ensures answers { SettleAnswers result place (synced_end self.old) (reserved_end self.old) (held_at C.sum_of self.old place) (IsUsedUpAt self.old place)
             (fault_of self.new) (D.faults (device_of self.old)) (D.faults (device_of self.new)) }
         ensures seals { SealsAround result place self.old self.new }
+        ensures joined { JoinsBelow D.trace C.sum_of self.old self.new }
         ensures buffers { WritesAround C.sum_of result place self.old self.new
             × OnErr result (CameAround D.trace C.sum_of place self.old self.new) }
     {
@@ -57,6 +58,7 @@ impl<D: Device, C: Checksum> Log<D, C> {
         ensures answers { HeldAnswers result (held_at C.sum_of self.old (pos place)) (IsUsedUpAt self.old (pos place)) None (fault_of self.new)
             (D.faults (device_of self.old)) (D.faults (device_of self.new)) }
         ensures seals { SealsAround result (pos place) self.old self.new }
+        ensures joined { JoinsBelow D.trace C.sum_of self.old self.new }
         ensures buffers { WritesAround C.sum_of result (pos place) self.old self.new
             × OnErr result (CameAround D.trace C.sum_of (pos place) self.old self.new) }
     {
@@ -86,6 +88,7 @@ impl<D: Device, C: Checksum> Log<D, C> {
         ensures same { OnErr result ((waiting_of self.new ≡ waiting_of self.old) × WroteNone D.trace self.old self.new) }
         ensures one { ((b : BufferAt) → Contains (waiting_of self.old) b → has_place place b ≡ true) → OnOk result (NoneSealed self.new) }
         ensures segment { KeepsSegment self.old self.new }
+        ensures joined { JoinsBelow D.trace C.sum_of self.old self.new }
     {
         let n = self.segment_of(place);
         let (site, buffer) = self.segment(n);

@@ -22,7 +22,7 @@ ghost use Rattle.sled_core.specs.Fronts.{CameTo, WroteFront, WroteNone, syncs};
 ghost use Rattle.sled_core.specs.Keeps.{KeepsLog, LeavesAbove, WritesBelow, sealed_for, start_for, start_sealed};
 ghost use Rattle.sled_core.specs.LogStatus.{flushed, rolled, status_of};
 ghost use Rattle.sled_core.specs.Marked.{BeginsMarked};
-ghost use Rattle.sled_core.specs.inside.Marked.{KeepsSegment};
+ghost use Rattle.sled_core.specs.inside.Marked.{JoinsBelow, KeepsSegment};
 ghost use Rattle.sled_core.specs.invariants.Running.{Fits};
 ghost use Rattle.sled_core.specs.Running.{end_below};
 ghost use Rattle.sled_core.specs.Stable.{SparesDevice, SyncsAll};
@@ -251,6 +251,7 @@ impl<D: Device, C: Checksum> Log<D, C> {
         ensures answers { Answers result None (fault_of self.new) (D.faults (device_of self.old)) (D.faults (device_of self.new)) }
         ensures refused { UnlessFault result (D.trace (device_of self.old)) (D.trace (device_of self.new)) }
         ensures unwritten { OnErr result (WroteNone D.trace self.old self.new) }
+        ensures joined { JoinsBelow D.trace C.sum_of self.old self.new }
     {
         self.write_bytes(n, k)?;
         let mark = self.mark_of(n, k);

@@ -83,7 +83,7 @@ returns-clause-history g c = λ H m holds awaits.
     old.fault.kept (line_of old) n f.segment f.among
     old.segments.first.site.place (nth_facts old) i f.reserved f.there f.own.open_yet (machine_of old.accountant) (noted_in old)
     (sym f.own.manifest ∙ c.requires.message) (logged H) holds.shows in
-    let real = put_real (HoldsWith g.C.Checksum.sum_of (noted_in old) old.config.config.segment_size (shown_of g.D.Device.trace old) old.fault.kept _ (machine_of old.accountant)) H m done.0 (subst (λ (x : Message). AddsMessage (logged H) x done.0) (sym awaits.message) done.1) done.2 in (
+    let real = put_real (HoldsWith g.C.Checksum.sum_of old.marks (noted_in old) old.config.config.segment_size (shown_of g.D.Device.trace old) old.fault.kept _ (machine_of old.accountant)) H m done.0 (subst (λ (x : Message). AddsMessage (logged H) x done.0) (sym awaits.message) done.1) done.2 in (
       real.0,
       real.1,
       ticket_holds e c.complete_in.ensures.rest g.D.Device.trace g.C.Checksum.sum_of real.0 holds.file real.2,
