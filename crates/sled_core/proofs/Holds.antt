@@ -11,7 +11,9 @@ pub mod Facts
 pub mod Filled
 pub mod FitsAnew
 pub mod FitsBatches
+pub mod HeldFrom
 pub mod HoldsLemmas
+pub mod HoldsRaised
 pub mod LastEnds
 pub mod LessClaimed
 pub mod MarkedLemmas

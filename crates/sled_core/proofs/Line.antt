@@ -52,6 +52,7 @@ pub mod MadeAnswers
 pub mod MarkCalls
 pub mod MarkedSlots
 pub mod Marks
+pub mod MarksJoin
 pub mod Moves
 pub mod NeededSlots
 pub mod Nexts
@@ -104,6 +105,7 @@ pub mod Unchanged
 pub mod WholeBuffers
 pub mod WithoutBlob
 pub mod WriteHides
+pub mod WriteMarks
 pub mod Writes
 pub mod WrittenHides
 pub mod WrittenSlots

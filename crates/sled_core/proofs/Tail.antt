@@ -2,6 +2,7 @@ pub mod Covered
 pub mod GreatestMark
 pub mod LogFileLemmas
 pub mod Moved
+pub mod MarkPlaces
 pub mod Multiples
 pub mod OfHistory
 pub mod OneReading

@@ -1,6 +1,6 @@
 -- What a log has to do with the history of what was completed, and with its device. Its segments lie one behind another; the first one isn't wholly on the
 -- device, and the last one is being filled.
-use Rattle.std.specs.Prelude.{◌≡◌, ◌⊎◌, ◌+◌, ◌-◌, ◌*◌, ◌/◌, ◌%◌, ◌^◌, ◌≤◌, ◌<◌, if◌then◌else◌, nat_le, nat_lt, Bool, ℕ, ℤ, pos, true, List, [], ◌∷◌, length}
+use Rattle.std.specs.Prelude.{◌≡◌, ◌⊎◌, ◌+◌, ◌-◌, ◌*◌, ◌/◌, ◌%◌, ◌^◌, ◌≤◌, ◌<◌, ◌≤ℤ◌, if◌then◌else◌, nat_le, nat_lt, Bool, ℕ, ℤ, pos, true, List, [], ◌∷◌, length}
 use Rattle.std.specs.Prelude.{map, drop, take, All, Option, None, Some, slice_get, Contains}
 use Rattle.std.specs.declared.io.Error.{Error as IoError}
 use Rattle.sled_codec.specs.declared.result.DiskPtr.TheVariants.{Blob}
@@ -29,6 +29,7 @@ use Rattle.sled_core.specs.GivenUp.{given_up_along}
 use Rattle.sled_core.specs.Heads.{HeadAt, heads_along}
 use Rattle.sled_core.specs.LogFile.{IsLogFile, StaysFrom}
 use Rattle.sled_core.specs.Ledger.{writings}
+use Rattle.sled_core.specs.LogSegments.{begins_from, held_from}
 use Rattle.sled_core.specs.Logged.{in_log, logged}
 use Rattle.sled_core.specs.OpenBatches.{batch_of, not_whole, stable_below}
 use Rattle.sled_core.specs.OpenPlaces.{open_places_along}
@@ -280,13 +281,23 @@ pub record IsOnDevice (sum : List ℕ → ℕ) (size : ℕ) (device : LogState) 
 
 -- The newest snapshot on the device is the table of the history below its own place, which is where the segment at this site begins, or in it, or in an
 -- earlier one.
-pub record IsBegunFrom (sum : List ℕ → ℕ) (size : ℕ) (snapshots : ℤ → Option (List ℕ)) (site : SegmentPosition) (from : ℕ) (H : History) : Type 0 where
+pub record IsBegunFrom (sum : List ℕ → ℕ) (mark durable : ℤ) (size : ℕ) (snapshots : ℤ → Option (List ℕ)) (site : SegmentPosition) (from : ℕ)
+    (H : History) : Type 0 where
   pub first : SnapshotModel
   pub begins : BeginsFrom sum snapshots first
   pub table : IsTable first.pages H (stable_place first.stable)
   pub fits : CutFits H (stable_place first.stable)
   pub least : stable_place first.stable / size * size ≤ site.place
   pub reached : stable_place first.stable ≤ site.place + from
+  -- the mark that joined isn't below it; the greatest one on the device isn't above what is written, nor is its segment above this one
+  pub joined : pos (stable_place first.stable) ≤ℤ mark
+  pub written : durable ≤ℤ pos (site.place + from)
+  pub marked : begins_from size durable ≤ site.place
+
+-- from where a log has what was written
+abbrev pub held_of : {sum : List ℕ → ℕ} {mark durable : ℤ} {size : ℕ} {snapshots : ℤ → Option (List ℕ)} {site : SegmentPosition} {from : ℕ} {H : History}
+    → IsBegunFrom sum mark durable size snapshots site from H → ℕ
+held_of {mark = mark} {size = size} begun = held_from size (stable_place begun.first.stable) mark
 
 -- messages lie below a place, and end there at most
 abbrev pub EndBelow : ℕ → List Message → Type 0
@@ -296,13 +307,14 @@ EndBelow place = All (λ m. (m.place < place) × (m.place + m.size ≤ place))
 abbrev pub CloseBelow : ℕ → List Batch → Type 0
 CloseBelow place = All (λ b. (b.low < place) × (b.peg < place))
 
--- A log has the record of a message: it is of a segment that isn't wholly on the device, or an entry of the table of all that was written, or of that and more.
+-- A log has the record of a message: it is of a segment that isn't wholly on the device, or an entry of a table from the mark on that joined. (That isn't above
+-- what is written: so it has the record of each entry of the table of all that was written, and of more.)
 abbrev pub HasRecordOf : {D C : Type 0} → Log D C → History → Message → Type 0
-HasRecordOf log H m = (log.segments.first.site.place ≤ m.place) ⊎ ((cut : ℕ) × (synced_end log ≤ cut) × Contains (table H cut m.page) m)
+HasRecordOf log H m = (log.segments.first.site.place ≤ m.place) ⊎ ((cut : ℕ) × (log.marks.joined ≤ℤ pos cut) × Contains (table H cut m.page) m)
 
--- All of a history is on the device and settled: the log file has the messages of the current segment and those that stay: the entries of the newest
--- snapshot's table, which is that of the history below the place where the log began, and all messages from there on.
-pub record IsKept (sum : List ℕ → ℕ) (size : ℕ) (site : SegmentPosition) (from : ℕ) (device : State) (H : History) : Type 0 where
+-- All of a history is on the device and settled: the log file has the messages of the current segment and those that stay: the entries of the table at the
+-- beginning of the mark's segment, or at the place where the log began, where that is greater, and all messages from there on.
+pub record IsKept (sum : List ℕ → ℕ) (mark durable : ℤ) (size : ℕ) (site : SegmentPosition) (from : ℕ) (device : State) (H : History) : Type 0 where
   pub below : EndBelow (site.place + from) H.messages
   pub apart : LieApart H.messages
   pub batches : CloseBelow (site.place + from) H.batches
@@ -310,13 +322,14 @@ pub record IsKept (sum : List ℕ → ℕ) (size : ℕ) (site : SegmentPosition)
   pub slot_begins : site.slot % size ≡ 0
   pub in_reach : site.place + size < 2 ^ 63
   pub inside : from ≤ size
-  pub begun : IsBegunFrom sum size device.snapshots.file site from H
-  pub on_device : IsOnDevice sum size device.log site from H.messages (StaysFrom H (stable_place begun.first.stable))
+  pub begun : IsBegunFrom sum mark durable size device.snapshots.file site from H
+  pub on_device : IsOnDevice sum size device.log site from H.messages (StaysFrom H (held_of begun))
 
 -- all that a log holds is on its device, and settled: the history as the log has it
 abbrev pub IsWritten : {D C : Type 0} → (D → Trace) → (List ℕ → ℕ) → Log D C → History → Type 0
 IsWritten trace sum log H =
-    IsKept sum log.config.config.segment_size log.segments.first.site log.segments.first.buffer.written_len (state_of (trace log.config.device)) (logged H)
+    IsKept sum log.marks.joined log.marks.durable log.config.config.segment_size log.segments.first.site log.segments.first.buffer.written_len
+    (state_of (trace log.config.device)) (logged H)
 
 -- all buffers that aren't on the device, by place, with the current one as it would be sealed
 abbrev pub buffers_of : {D C : Type 0} → (List ℕ → ℕ) → Log D C → List BufferAt

@@ -1,5 +1,5 @@
 -- The segments that a log has, as a reader of its file goes over them.
-use Rattle.std.specs.Prelude.{◌+◌, ◌*◌, ◌/◌, ◌^◌, ◌&&◌, nat_le, nat_lt, not, if◌then◌else◌, ℕ, suc, ℤ, negsuc, List, [], ◌∷◌, ◌++◌}
+use Rattle.std.specs.Prelude.{◌+◌, ◌*◌, ◌/◌, ◌^◌, ◌&&◌, nat_le, nat_lt, max, not, if◌then◌else◌, ℕ, suc, ℤ, negsuc, List, [], ◌∷◌, ◌++◌}
 use Rattle.std.specs.List.Sorted.{IsNonDecreasingBy, IsPermutation}
 use Rattle.sled_store.specs.SegmentStates.{Machine, SlotState, is_free}
 use Rattle.sled_core.specs.declared.iterator.Segment.{Segment}
@@ -8,6 +8,10 @@ use Rattle.sled_core.specs.Tail.{place_of_mark}
 -- the segment that holds the place from which an iterator begins; a negative one counts as 0
 abbrev pub begins_from : ℕ → ℤ → ℕ
 begins_from size lsn = place_of_mark lsn / size * size
+
+-- from where what is held counts: the beginning of the segment of a mark, or the place with which a log began, where that is greater
+abbrev pub held_from : ℕ → ℕ → ℤ → ℕ
+held_from size began mark = max began (begins_from size mark)
 
 -- the segment of the k-th slot as a reader has it, where it begins from one place up to another (and ends below 2^63, as each does): nothing is said of its
 -- mark

@@ -23,6 +23,7 @@ ghost use Rattle.sled_core.specs.invariants.Fits.{Holds};
 ghost use Rattle.sled_codec.specs.Snapshots.{SnapshotModel, empty_model, stable_place};
 ghost use Rattle.sled_store.specs.Begin.{offset_at, place_at};
 ghost use Rattle.sled_codec.specs.Record.{IsHeader};
+ghost use Rattle.sled_core.specs.Account.{account_of};
 ghost use Rattle.sled_core.specs.HeaderMark.{mark_at};
 ghost use Rattle.sled_core.specs.Account.{account_behind};
 ghost use Rattle.sled_core.specs.Freeing.{Ledger};
@@ -275,19 +276,18 @@ pub fn the_first_buffer_waits_behind_what_is_synced<D: Device, C: Checksum>()
 {}
 
 /// A log has the record of each message that begins where what is synced ends, or behind that, and of each that is in the table of all
-/// that is synced, or of more.
+/// that is synced, or of more: the mark that joined isn't above that.
 pub fn what_is_not_synced_has_its_record<D: Device, C: Checksum>()
+    ensures mark { (log : Log D C) (H : History) → Holds D.trace C.sum_of log H → (account_of log).mark ≤ℤ pos (synced_end log) }
     ensures unsynced { (log : Log D C) (H : History) (m : Message) → synced_end log ≤ m.place → HasRecordOf log H m }
-    ensures entry { (log : Log D C) (H : History) (m : Message) (cut : ℕ) → synced_end log ≤ cut → Contains (table H cut m.page) m
-        → HasRecordOf log H m }
+    ensures entry { (log : Log D C) (H : History) (m : Message) (cut : ℕ) → Holds D.trace C.sum_of log H → synced_end log ≤ cut
+        → Contains (table H cut m.page) m → HasRecordOf log H m }
 {}
 
-/// A log that keeps no failure still has the segment of each message that it has the record of: so its iterator passes over none of them for
-/// want of a segment. Twenty zeros must not pass as a header for that (`NoHeaderOfZeros`).
+/// A log still has the segment of each message that it has the record of: so its iterator passes over none of them for want of a segment.
 pub fn what_has_its_record_has_its_segment<D: Device, C: Checksum>()
-    ensures { (log : Log D C) (H : History) (A f : ℕ) (U : List Message) (m : Message) → Fits D.trace C.sum_of log H A f U → fault_of log ≡ None
-        → NoHeaderOfZeros C.sum_of → Contains H.messages m → HasRecordOf log H m
-        → HasSegment (machine_at log) (m.place / segment_size_of log * segment_size_of log) }
+    ensures { (log : Log D C) (H : History) (A f : ℕ) (U : List Message) (m : Message) → Fits D.trace C.sum_of log H A f U → Contains H.messages m
+        → HasRecordOf log H m → HasSegment (machine_at log) (m.place / segment_size_of log * segment_size_of log) }
 {}
 
 /// What can be recovered at each moment of one call and of the next can be at each moment of both.

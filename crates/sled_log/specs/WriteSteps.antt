@@ -168,7 +168,10 @@ pub record HasFlushed (sum : List ℕ → ℕ) (size : ℕ) (a : RunState) (l : 
   pub site : SegmentPosition
   pub from : ℕ
   pub at : site.place + from ≡ stable_from l.end l
-  pub kept : IsKept sum size site from (state_of new.trace) (logged a.history)
+  -- the mark that joined, and the greatest one on the device
+  pub mark : ℤ
+  pub durable : ℤ
+  pub kept : IsKept sum mark durable size site from (state_of new.trace) (logged a.history)
 
 abbrev pub FlushStep : (List ℕ → ℕ) → ℕ → RunState → LogView → Reply → DeviceView → RunState → Type 0
 FlushStep sum size a l (reply.Flushed n) new b = HasFlushed sum size a l n new b

@@ -6,18 +6,19 @@ use Rattle.std.specs.declared.io.Error.{Error as IoError}
 use Rattle.std.proofs.lemmas.List.{map-append}
 use Rattle.std.proofs.lemmas.List.Elements.{All-append, Contains-append_right}
 use Rattle.sled_codec.specs.History.{Message, Batch, History}
-use Rattle.sled_codec.specs.Snapshots.{stable_place}
 use Rattle.sled_store.specs.Device.{State}
 use Rattle.sled_store.proofs.Segments.Elements.{in_cases, in_first, in_nothing}
 use Rattle.sled_core.specs.declared.iobuf.Reserved.{Reserved}
 use Rattle.sled_core.specs.declared.iobuf.Sealed.{Sealed}
 use Rattle.sled_core.specs.declared.iobuf.SegmentPosition.{SegmentPosition}
 use Rattle.sled_core.specs.Begun.{SegmentParts}
+use Rattle.sled_core.specs.Fits.{held_of}
 use Rattle.sled_core.specs.inside.Fits.{HoldBehind, HoldsIn, HoldsNext, HoldsSegment, begun_segment, log_parts}
 use Rattle.sled_core.specs.inside.LogFile.{StaysBelow}
 use Rattle.sled_core.specs.inside.Reached.{BegunSegment, FollowApart}
 use Rattle.sled_core.specs.inside.SealedBuffers.{AreSealed}
 use Rattle.sled_core.specs.SealedBuffers.{sealed_end}
+use Rattle.sled_core.specs.declared.logger.joined_marks.JoinedMarks.{JoinedMarks}
 use Rattle.sled_core.proofs.Behind.FitsMoved.{marks_same}
 use Rattle.sled_core.proofs.Flush.Completed.{all_below}
 use Rattle.sled_core.proofs.Reached.SegmentsBeside.{follow_still, follows}
@@ -134,10 +135,10 @@ module _ (pre : List SegmentParts) (s : SegmentParts) (post : List SegmentParts)
       (follow_still site (map begun_segment pre) (begun_segment s) (map begun_segment post) from s.filled (apart_around site apart))
 
 module _ (sum : List ℕ → ℕ) (size : ℕ) (site : SegmentPosition) (device : State) (fault : Option IoError) (bytes : List ℕ) (from : ℕ) (bs : List Sealed) (rs : List Reserved) (H : History)
-    (pre : List SegmentParts) (s : SegmentParts) (post : List SegmentParts) (holds : HoldsIn sum (log_parts size site device fault bytes from bs rs) (pre ++ s ∷ post) H) where
+    (pre : List SegmentParts) (s : SegmentParts) (post : List SegmentParts) {marks : JoinedMarks} (holds : HoldsIn sum marks (log_parts size site device fault bytes from bs rs) (pre ++ s ∷ post) H) where
   -- what stays of the segments before the first one
   abbrev pub stays_below : Message → Type 0
-  stays_below = StaysBelow H (stable_place holds.begun.first.stable) site.place
+  stays_below = StaysBelow H (held_of holds.begun) site.place
 
   -- what is held behind the first one, around this one
   pub held_around : HoldAround sum size device fault (site.place + size) pre s post stays_below H.batches holds.later
@@ -145,7 +146,7 @@ module _ (sum : List ℕ → ℕ) (size : ℕ) (site : SegmentPosition) (device 
 
   -- Where that one holds its messages with other bytes and buffers, and its header is the same if nothing of it is written, the log holds what it held, begun from the same snapshot.
   abbrev pub holds_with : (bytes' : List ℕ) (from' : ℕ) (bs' : List Sealed) (rs' : List Reserved) → (from' ≡ 0 → (s.written_len ≡ 0) × (take 20 bytes' ≡ take 20 s.bytes))
-      → HoldsNext sum size device fault (behind_place size (site.place + size) pre) (now_with s bytes' from' bs' rs') stays_below H.batches held_around.own → HoldsIn sum (log_parts size site device fault bytes from bs rs) (pre ++ now_with s bytes' from' bs' rs' ∷ post) H
+      → HoldsNext sum size device fault (behind_place size (site.place + size) pre) (now_with s bytes' from' bs' rs') stays_below H.batches held_around.own → HoldsIn sum marks (log_parts size site device fault bytes from bs rs) (pre ++ now_with s bytes' from' bs' rs' ∷ post) H
   holds_with bytes' from' bs' rs' head here = record {
     begun = holds.begun;
     head = holds.head;

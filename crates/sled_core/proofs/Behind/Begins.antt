@@ -7,7 +7,6 @@ use Rattle.std.proofs.lemmas.List.{append-nil, map-append}
 use Rattle.std.proofs.lemmas.List.Elements.{All-contains, All-nil, Contains-append_cases}
 use Rattle.sled_codec.specs.History.{Batch, History, Message}
 use Rattle.sled_codec.specs.Record.{IsHeader}
-use Rattle.sled_codec.specs.Snapshots.{stable_place}
 use Rattle.sled_codec.proofs.Segments.{one_header}
 use Rattle.sled_store.specs.Device.{State}
 use Rattle.sled_store.proofs.Segments.Elements.{in_cases, in_first, in_nothing, in_rest}
@@ -15,12 +14,13 @@ use Rattle.sled_core.specs.declared.iobuf.Reserved.{Reserved}
 use Rattle.sled_core.specs.declared.iobuf.Sealed.{Sealed}
 use Rattle.sled_core.specs.declared.iobuf.SegmentPosition.{SegmentPosition}
 use Rattle.sled_core.specs.Begun.{SegmentParts}
-use Rattle.sled_core.specs.Fits.{CloseBelow}
+use Rattle.sled_core.specs.Fits.{CloseBelow, held_of}
 use Rattle.sled_core.specs.inside.Fits.{HasMark, HoldBehind, HoldsIn, HoldsNext, begun_segment, log_parts}
 use Rattle.sled_core.specs.LogFile.{IsLogFile, MessageStands, StandsElsewhere, StaysFrom}
 use Rattle.sled_core.specs.inside.LogFile.{StaysBelow}
 use Rattle.sled_core.specs.inside.Reached.{BegunSegment, FollowApart}
 use Rattle.sled_core.specs.SealedBuffers.{AreZeros}
+use Rattle.sled_core.specs.declared.logger.joined_marks.JoinedMarks.{JoinedMarks}
 use Rattle.sled_core.proofs.Holds.BatchLemmas.{none_batched}
 use Rattle.sled_core.proofs.Behind.Around.{behind_below, behind_place, together}
 use Rattle.sled_core.proofs.Flush.FlushLemmas.{on_file}
@@ -88,11 +88,11 @@ abbrev pub begun_with : SegmentPosition → List ℕ → SegmentParts
 begun_with site bytes = record { site = site; bytes = bytes; written_len = 0; filled = None; sealed = []; reserved = [] }
 
 module _ (sum : List ℕ → ℕ) (size : ℕ) (site : SegmentPosition) (device : State) (fault : Option IoError) (bytes : List ℕ) (from : ℕ) (bs : List Sealed) (rs : List Reserved) (H : History)
-    (behind : List SegmentParts) (holds : HoldsIn sum (log_parts size site device fault bytes from bs rs) behind H) (big : 256 ≤ size) (short : length bytes ≤ size)
+    (behind : List SegmentParts) {marks : JoinedMarks} (holds : HoldsIn sum marks (log_parts size site device fault bytes from bs rs) behind H) (big : 256 ≤ size) (short : length bytes ≤ size)
     (next : SegmentPosition) (text : List ℕ) (at : next.place ≡ behind_place size (site.place + size) behind) (aligned : next.slot % size ≡ 0) (header_long : length text ≡ 20) (mark : HasMark sum next text H)
     (other : next.slot ≢ site.slot) (others : (y : BegunSegment) → Contains (map begun_segment behind) y → next.slot ≢ y.site.slot) (zeros : fault ≡ None → AreZeros device.log.bytes next.slot (next.slot + size)) (closed : CloseBelow next.place H.batches) where
   abbrev stable : ℕ
-  stable = stable_place holds.begun.first.stable
+  stable = held_of holds.begun
 
   abbrev stays : Message → Type 0
   stays = StaysBelow H stable site.place
@@ -156,7 +156,7 @@ module _ (sum : List ℕ → ℕ) (size : ℕ) (site : SegmentPosition) (device 
   }
 
   -- The log holds what it held, begun from the same snapshot, where the mark of the new segment lies below what is written.
-  abbrev pub behind-begins : mark.mark <ℤ pos (site.place + from) → next.place < 2 ^ 63 → HoldsIn sum (log_parts size site device fault bytes from bs rs) (behind ++ begun_with next text ∷ []) H
+  abbrev pub behind-begins : mark.mark <ℤ pos (site.place + from) → next.place < 2 ^ 63 → HoldsIn sum marks (log_parts size site device fault bytes from bs rs) (behind ++ begun_with next text ∷ []) H
   behind-begins low_mark place_small = record {
     begun = holds.begun;
     head = holds.head;

@@ -23,6 +23,7 @@ use Rattle.sled_core.specs.Begun.{SegmentParts}
 use Rattle.sled_core.specs.inside.Fits.{HoldsIn, HoldsNext, HoldsSegment, log_parts}
 use Rattle.sled_core.specs.inside.SealedBuffers.{AreSealed, one_ended}
 use Rattle.sled_core.specs.SealedBuffers.{seal_at, sealed_count, sealed_end}
+use Rattle.sled_core.specs.declared.logger.joined_marks.JoinedMarks.{JoinedMarks}
 use Rattle.sled_core.proofs.Behind.Around.{behind_place, held_around, holds_with, next_with, now_with, stays_below}
 use Rattle.sled_core.proofs.Behind.Refilled.{filled_at, holds-refilled}
 use Rattle.sled_core.proofs.Flush.Completed.{grows}
@@ -100,7 +101,7 @@ module _ (sum : List ℕ → ℕ) (size : ℕ) (device : State) (fault : Option 
   ended_are state closed are = sealed_ended r (ended state r) refl refl (λ xs j at. open_fewer xs j r (ended state r) at is_open closed) s.written_len s.reserved s.sealed i there are
 
 module _ (sum : List ℕ → ℕ) (size : ℕ) (site : SegmentPosition) (device : State) (fault : Option IoError) (bytes : List ℕ) (from : ℕ) (bs : List Sealed) (rs : List Reserved) (H : History)
-    (pre : List SegmentParts) (s : SegmentParts) (post : List SegmentParts) (holds : HoldsIn sum (log_parts size site device fault bytes from bs rs) (pre ++ s ∷ post) H) where
+    (pre : List SegmentParts) (s : SegmentParts) (post : List SegmentParts) {marks : JoinedMarks} (holds : HoldsIn sum marks (log_parts size site device fault bytes from bs rs) (pre ++ s ∷ post) H) where
   -- its messages
   abbrev own : List Message
   own = (held_around sum size site device fault bytes from bs rs H pre s post holds).own
@@ -134,7 +135,7 @@ module _ (sum : List ℕ → ℕ) (size : ℕ) (site : SegmentPosition) (device 
       (let at = end_one s.written_len s.sealed (seal_at (length s.bytes) rest) in omega (arith, at)) held_here.behind
       (segment-sealed sum size s.site device fault s.bytes s.written_len s.sealed s.reserved rest own_history held_here.inside held_here.held held_here.segment)
 
-  abbrev pub behind-sealed : sealed_end s.written_len s.sealed < length s.bytes → HoldsIn sum (log_parts size site device fault bytes from bs rs) (pre ++ now_with s s.bytes s.written_len sealed_now s.reserved ∷ post) H
+  abbrev pub behind-sealed : sealed_end s.written_len s.sealed < length s.bytes → HoldsIn sum marks (log_parts size site device fault bytes from bs rs) (pre ++ now_with s s.bytes s.written_len sealed_now s.reserved ∷ post) H
   behind-sealed some = holds_with sum size site device fault bytes from bs rs H pre s post holds s.bytes s.written_len sealed_now s.reserved (λ none. (none, refl)) (sealed_next some)
 
   -- A place is reserved in it: its placeholder stands behind what is there.
@@ -150,7 +151,7 @@ module _ (sum : List ℕ → ℕ) (size : ℕ) (site : SegmentPosition) (device 
       (λ k d lt. (chain_within (max 20 s.written_len) (length s.bytes) s.reserved held_here.segment.records.chain k d lt).1) at long is_open has_room its_rise text)
 
   abbrev pub behind-append : (more : List ℕ) (r : Reserved) → r.from ≡ length s.bytes → r.len ≡ length more → r.state ≡ Open → r.from + 32 ≤ size → HasText sum (s.site.place / size) (s.bytes ++ more) r → length (s.bytes ++ more) ≤ size
-      → HoldsIn sum (log_parts size site device fault bytes from bs rs) (pre ++ now_with s (s.bytes ++ more) s.written_len s.sealed (s.reserved ++ r ∷ []) ∷ post) H
+      → HoldsIn sum marks (log_parts size site device fault bytes from bs rs) (pre ++ now_with s (s.bytes ++ more) s.written_len s.sealed (s.reserved ++ r ∷ []) ∷ post) H
   behind-append more r at long is_open has_room text inside =
       holds_with sum size site device fault bytes from bs rs H pre s post holds (s.bytes ++ more) s.written_len s.sealed (s.reserved ++ r ∷ [])
       (λ none. (none, more_head sum size device fault s own_history held_here.segment more)) (append_next more r at long is_open has_room text inside)
@@ -171,12 +172,12 @@ module _ (sum : List ℕ → ℕ) (size : ℕ) (site : SegmentPosition) (device 
       (sealed_more s.written_len s.reserved s.sealed (padding_at size (length s.bytes) ∷ []) held_here.are) (omega (arith, held, long, less)) (omega (arith, behind, long, less))
       (segment-filled sum size s.site device fault s.bytes s.written_len s.sealed s.reserved own_history less small its_rise held_here.segment)
 
-  abbrev pub behind-pad : length s.bytes < size → s.site.place / size < 2 ^ 64 → HoldsIn sum (log_parts size site device fault bytes from bs rs) (pre ++ now_with s filled_bytes s.written_len s.sealed with_padding ∷ post) H
+  abbrev pub behind-pad : length s.bytes < size → s.site.place / size < 2 ^ 64 → HoldsIn sum marks (log_parts size site device fault bytes from bs rs) (pre ++ now_with s filled_bytes s.written_len s.sealed with_padding ∷ post) H
   behind-pad less small = holds_with sum size site device fault bytes from bs rs H pre s post holds filled_bytes s.written_len s.sealed with_padding
       (λ none. (none, more_head sum size device fault s own_history held_here.segment (segment_rest sum size (s.site.place / size) (length s.bytes)))) (pad_next less small)
 
   abbrev pub behind-filled : length s.bytes < size → s.site.place / size < 2 ^ 64
-      → HoldsIn sum (log_parts size site device fault bytes from bs rs) (pre ++ filled_at (Some (length s.bytes)) (now_with s filled_bytes s.written_len s.sealed with_padding) ∷ post) H
+      → HoldsIn sum marks (log_parts size site device fault bytes from bs rs) (pre ++ filled_at (Some (length s.bytes)) (now_with s filled_bytes s.written_len s.sealed with_padding) ∷ post) H
   behind-filled less small = holds-refilled sum size site device fault bytes from bs rs H pre (now_with s filled_bytes s.written_len s.sealed with_padding) post (Some (length s.bytes)) (behind-pad less small)
 
   -- One of its reservations is aborted.
@@ -194,6 +195,6 @@ module _ (sum : List ℕ → ℕ) (size : ℕ) (site : SegmentPosition) (device 
         (ended_are sum size device fault s own_history held_here.segment i r there is_open Canceled refl held_here.are) (omega (arith, held, long, end_ended s.written_len i s.sealed)) (omega (arith, behind, long))
         (segment-aborted sum size s.site device fault s.bytes canceled s.written_len s.written_len s.sealed (one_ended i s.sealed) s.reserved (set s.reserved i (ended Canceled r)) i r own_history refl refl refl refl held_here.segment there is_open behind held_here.are)
 
-    abbrev pub behind-aborted : HoldsIn sum (log_parts size site device fault bytes from bs rs) (pre ++ now_with s canceled s.written_len (one_ended i s.sealed) (set s.reserved i (ended Canceled r)) ∷ post) H
+    abbrev pub behind-aborted : HoldsIn sum marks (log_parts size site device fault bytes from bs rs) (pre ++ now_with s canceled s.written_len (one_ended i s.sealed) (set s.reserved i (ended Canceled r)) ∷ post) H
     behind-aborted = holds_with sum size site device fault bytes from bs rs H pre s post holds canceled s.written_len (one_ended i s.sealed) (set s.reserved i (ended Canceled r))
         (λ none. (none, ended_head sum size device fault s own_history held_here.segment i r there is_open (sum (body_in s.bytes r ++ code_of kind.Canceled ∷ part s.bytes (r.from + 5) (r.header_len - 5))) kind.Canceled)) aborted_next

@@ -3,7 +3,6 @@ use Rattle.std.proofs.Common.{◌≡◌, ◌≤◌, ◌<◌, ◌+◌, ◌∙◌,
 use Rattle.std.specs.List.{All, Contains, slice_get}
 use Rattle.std.specs.declared.io.Error.{Error as IoError}
 use Rattle.std.proofs.lemmas.List.Elements.{All-contains, Contains-append_cases}
-use Rattle.sled_codec.specs.Snapshots.{stable_place}
 use Rattle.sled_codec.specs.Written.{written}
 use Rattle.sled_codec.specs.History.{AddsMessage, Batch, History, Message}
 use Rattle.sled_store.specs.Device.{State}
@@ -16,9 +15,11 @@ use Rattle.sled_core.specs.declared.iobuf.SegmentPosition.{SegmentPosition}
 use Rattle.sled_core.specs.inside.Buffers.{completing, ended}
 use Rattle.sled_core.specs.Buffers.{message_in}
 use Rattle.sled_core.specs.Begun.{SegmentParts}
+use Rattle.sled_core.specs.Fits.{held_of}
 use Rattle.sled_core.specs.inside.Fits.{HoldBehind, HoldsIn, HoldsNext, HoldsSegment, log_parts}
 use Rattle.sled_core.specs.inside.LogFile.{StaysBelow}
 use Rattle.sled_core.specs.LogFile.{StaysFrom}
+use Rattle.sled_core.specs.declared.logger.joined_marks.JoinedMarks.{JoinedMarks}
 use Rattle.sled_core.specs.inside.SealedBuffers.{one_ended}
 use Rattle.sled_core.proofs.Behind.Around.{HoldAround, apart_with, behind_below, behind_place, held_around, now_with, stays_below, together}
 use Rattle.sled_core.proofs.Behind.Calls.{ended_are, ended_head, ended_long, held_here}
@@ -28,6 +29,7 @@ use Rattle.sled_core.proofs.Holds.Added.{was_or_added}
 use Rattle.sled_core.proofs.Holds.BegunLemmas.{begun-adds, stays_adds}
 use Rattle.sled_core.proofs.Holds.BehindKept.{behind_fewer}
 use Rattle.sled_core.proofs.Holds.CompletedLemmas.{behind_head, behind_written, ends_within, segment-complete, segment-fewer}
+use Rattle.sled_core.proofs.Holds.HeldFrom.{held_reached}
 use Rattle.sled_core.proofs.Holds.WholeHistory.{behind_above}
 use Rattle.sled_core.proofs.Sealed.InBuffer.{end_ended}
 
@@ -36,10 +38,10 @@ four : (a b c d : List Message) → a ++ (b ++ (c ++ d)) ≡ (a ++ (b ++ c)) ++ 
 four a b c d = ap (λ (l : List Message). a ++ l) (sym (append_assoc b c d)) ∙ sym (append_assoc a (b ++ c) d)
 
 module _ (sum : List ℕ → ℕ) (size : ℕ) (site : SegmentPosition) (device : State) (fault : Option IoError) (bytes : List ℕ) (from : ℕ) (bs : List Sealed) (rs : List Reserved) (H : History)
-    (pre : List SegmentParts) (s : SegmentParts) (post : List SegmentParts) (holds : HoldsIn sum (log_parts size site device fault bytes from bs rs) (pre ++ s ∷ post) H)
+    (pre : List SegmentParts) (s : SegmentParts) (post : List SegmentParts) {marks : JoinedMarks} (holds : HoldsIn sum marks (log_parts size site device fault bytes from bs rs) (pre ++ s ∷ post) H)
     (short : length bytes ≤ size) (i : ℕ) (r : Reserved) (there : slice_get s.reserved i ≡ Some r) (is_open : r.state ≡ Open) (none : is_manifest r.log_kind r.page ≡ false) where
   abbrev stable : ℕ
-  stable = stable_place holds.begun.first.stable
+  stable = held_of holds.begun
 
   abbrev stays : Message → Type 0
   stays = stays_below sum size site device fault bytes from bs rs H pre s post holds
@@ -103,7 +105,7 @@ module _ (sum : List ℕ → ℕ) (size : ℕ) (site : SegmentPosition) (device 
       omega (arith, first, short, up, at)
 
   past : stable ≤ m.place
-  past = let reached = holds.begun.reached in let at = above_written in omega (arith, at, reached)
+  past = let reached = held_reached marks.ordered holds.begun in let at = above_written in omega (arith, at, reached)
 
   -- all that is held then
   abbrev pub completed_history : History
@@ -194,7 +196,7 @@ module _ (sum : List ℕ → ℕ) (size : ℕ) (site : SegmentPosition) (device 
       (λ x under its. let at = above_written in stays_adds H completed_history m adds_here stable past x (omega (arith, at, under)) its) holds.own)
 
   -- The log holds the history with the message, begun from the same snapshot.
-  abbrev pub behind-complete : HoldsIn sum (log_parts size site device fault bytes from bs rs) (pre ++ now_with s completed s.written_len (one_ended i s.sealed) (set s.reserved i (ended Completed r)) ∷ post) completed_history
+  abbrev pub behind-complete : HoldsIn sum marks (log_parts size site device fault bytes from bs rs) (pre ++ now_with s completed s.written_len (one_ended i s.sealed) (set s.reserved i (ended Completed r)) ∷ post) completed_history
   behind-complete = record {
     begun = begun-adds H completed_history m adds_here sum size device.snapshots.file site from above_written holds.begun;
     head = holds.head;

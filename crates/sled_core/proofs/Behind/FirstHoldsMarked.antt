@@ -13,11 +13,13 @@ use Rattle.sled_core.specs.declared.iobuf.Reserved.{Reserved}
 use Rattle.sled_core.specs.declared.iobuf.Sealed.{Sealed}
 use Rattle.sled_core.specs.declared.iobuf.SegmentPosition.{SegmentPosition}
 use Rattle.sled_core.specs.Begun.{SegmentParts}
+use Rattle.sled_core.specs.Fits.{held_of}
 use Rattle.sled_core.specs.inside.Buffers.{ended, marking}
 use Rattle.sled_core.specs.inside.Fits.{HoldBehind, HoldsIn, HoldsNext, HoldsSegment, log_parts}
 use Rattle.sled_core.specs.inside.LogFile.{StaysBelow}
 use Rattle.sled_core.specs.LogFile.{StaysFrom}
 use Rattle.sled_core.specs.Manifests.{is_manifest}
+use Rattle.sled_core.specs.declared.logger.joined_marks.JoinedMarks.{JoinedMarks}
 use Rattle.sled_core.specs.inside.SealedBuffers.{AreSealed, one_ended}
 use Rattle.sled_core.proofs.Behind.FitsMoved.{MarksBelow}
 use Rattle.sled_core.proofs.Holds.BegunMarks.{begun-marks, stays-marks, stays_below-marks}
@@ -88,7 +90,7 @@ pub marks_higher : (sum : List ℕ → ℕ) (low high : ℕ) (ss : List SegmentP
 marks_higher sum low high ss up marked s among none mark header = less_than mark low high up (marked s among none mark header)
 
 module _ (sum : List ℕ → ℕ) (size : ℕ) (site : SegmentPosition) (device : State) (fault : Option IoError) (bytes : List ℕ) (from : ℕ) (bs : List Sealed) (rs : List Reserved) (H : History)
-    {behind : List SegmentParts} (holds : HoldsIn sum (log_parts size site device fault bytes from bs rs) behind H) (short : length bytes ≤ size) (small_places : All InReach behind)
+    {behind : List SegmentParts} {marks : JoinedMarks} (holds : HoldsIn sum marks (log_parts size site device fault bytes from bs rs) behind H) (short : length bytes ≤ size) (small_places : All InReach behind)
     (i : ℕ) (r : Reserved) (there : slice_get rs i ≡ Some r) (is_open : r.state ≡ Open) (manifest : is_manifest r.log_kind r.page ≡ true) (are : AreSealed from rs bs)
     (peg : ℕ) (small : peg < 2 ^ 63) (later : site.place + r.from < peg) (off : LiesOff size site rs bytes peg) (offs : All (IsOff size peg) behind) where
   -- the batch
@@ -96,7 +98,7 @@ module _ (sum : List ℕ → ℕ) (size : ℕ) (site : SegmentPosition) (device 
   b = record { low = site.place + r.from; peg = peg }
 
   abbrev stable : ℕ
-  stable = stable_place holds.begun.first.stable
+  stable = held_of holds.begun
 
   -- It begins behind what is written of its segment, and in front of the next one.
   pub first_above : site.place + from ≤ b.low
@@ -118,7 +120,7 @@ module _ (sum : List ℕ → ℕ) (size : ℕ) (site : SegmentPosition) (device 
   adds : AddsBatch H b now
   adds = noted_adds H b later
 
-  past : stable ≤ b.low
+  past : stable_place holds.begun.first.stable ≤ b.low
   past = let reached = holds.begun.reached in let above = first_above in omega (arith, above, reached)
 
   own_marked : HoldsSegment sum (log_parts size site device fault (written bytes r.from (marking sum bytes r peg)) from (one_ended i bs) (set rs i (ended Manifest r))) (StaysFrom now stable) (record { messages = holds.head; batches = now.batches })
@@ -135,7 +137,7 @@ module _ (sum : List ℕ → ℕ) (size : ℕ) (site : SegmentPosition) (device 
       (λ s among. (All-contains (IsOff size peg) behind s offs among).off) small_places (marks_higher sum (site.place + from) b.low behind first_above holds.marked) holds.others)
 
   -- The log holds the history with the batch, begun from the same snapshot.
-  pub holds-marked : HoldsIn sum (log_parts size site device fault (written bytes r.from (marking sum bytes r peg)) from (one_ended i bs) (set rs i (ended Manifest r))) behind (noted_history H (record { low = site.place + r.from; peg = peg }))
+  pub holds-marked : HoldsIn sum marks (log_parts size site device fault (written bytes r.from (marking sum bytes r peg)) from (one_ended i bs) (set rs i (ended Manifest r))) behind (noted_history H (record { low = site.place + r.from; peg = peg }))
   holds-marked = record {
     begun = begun-marks H now b adds sum size device.snapshots.file site from holds.begun past;
     head = holds.head;

@@ -9,7 +9,6 @@ use Rattle.std.proofs.lemmas.Bool.{cases_lt}
 use Rattle.std.proofs.lemmas.List.{take-append-drop}
 use Rattle.std.proofs.lemmas.List.Elements.{All-append, All-contains, All-drop, All-take, Contains-append_cases}
 use Rattle.sled_codec.specs.History.{Message, Batch, History}
-use Rattle.sled_codec.specs.Snapshots.{stable_place}
 use Rattle.sled_codec.specs.WellFormed.{LieApart}
 use Rattle.sled_store.specs.Device.{LogState, State, Wrote, Synced, LeavesLog, at_rest, overwritten, step, Placement}
 use Rattle.sled_store.specs.Foreign.{NoForeignLog}
@@ -20,7 +19,7 @@ use Rattle.sled_core.specs.declared.iobuf.SegmentPosition.{SegmentPosition}
 use Rattle.sled_core.specs.inside.Buffers.{IsChain, NoPadding, Stands, batches_in, completed_in, records_end, records_of}
 use Rattle.sled_core.specs.Begun.{SegmentParts}
 use Rattle.sled_core.specs.inside.Fits.{HasBatches, log_parts, HasMark, HoldsIn, HoldsSegment}
-use Rattle.sled_core.specs.Fits.{EndBelow}
+use Rattle.sled_core.specs.Fits.{EndBelow, held_of}
 use Rattle.sled_core.specs.inside.Full.{StandsFull}
 use Rattle.sled_core.specs.LogFile.{IsLogFile, StaysFrom}
 use Rattle.sled_core.specs.inside.LogFile.{padded}
@@ -30,6 +29,7 @@ use Rattle.sled_core.specs.inside.Recoverable.{NoBatchBegins, NoBatchEnds}
 use Rattle.sled_core.specs.Recoverable.{NoHeaderOfZeros}
 use Rattle.sled_core.specs.inside.SealedBuffers.{AreSealed, Laid, now_written, run_end, run_count, behind_run}
 use Rattle.sled_core.specs.SealedBuffers.{bytes_between}
+use Rattle.sled_core.specs.declared.logger.joined_marks.JoinedMarks.{JoinedMarks}
 use Rattle.sled_core.proofs.Behind.FullHead.{first_full, plain_run, torn_head_any}
 use Rattle.sled_core.proofs.Reserve.Entries.{some_long}
 use Rattle.sled_core.proofs.Reserve.Ranges.{chain_grows, completed-append, completed_between}
@@ -168,7 +168,7 @@ module _ (sum : List ℕ → ℕ) (size : ℕ) (site : SegmentPosition) (device 
 
 -- So it is with the history of a log, whose first segment that is.
 module _ (sum : List ℕ → ℕ) (size : ℕ) (site : SegmentPosition) (device : State) (fault : Option IoError) (bytes : List ℕ) (from : ℕ) (b : Sealed) (rest : List Sealed) (rs : List Reserved) (H : History)
-    {behind : List SegmentParts} (holds : HoldsIn sum (log_parts size site device fault bytes from (b ∷ rest) rs) behind H)
+    {behind : List SegmentParts} {marks : JoinedMarks} (holds : HoldsIn sum marks (log_parts size site device fault bytes from (b ∷ rest) rs) behind H)
     (short : length bytes ≤ size) (big : 256 ≤ size) (place_small : site.place + size < 2 ^ 63) (slot_small : site.slot + size < 2 ^ 63)
     (are : AreSealed from rs (b ∷ rest)) (fresh : b.is_written ≡ false) (closed : b.open_count ≡ 0) (rise : EndsRise from (b ∷ rest) (length bytes)) (whole : fault ≡ None) where
   -- what that segment holds
@@ -190,11 +190,11 @@ module _ (sum : List ℕ → ℕ) (size : ℕ) (site : SegmentPosition) (device 
   inside_whole : b.end ≤ length bytes
   inside_whole = let below = ends_below b.end rest (length bytes) rise.1 in omega (arith, below.0, below.1)
 
-  file_whole : IsLogFile sum size old_whole site from holds.own.records.earlier (StaysFrom H (stable_place holds.begun.first.stable))
-  file_whole = on_file sum size device.log site from holds.own.records.earlier (StaysFrom H (stable_place holds.begun.first.stable)) (holds.own.written whole)
+  file_whole : IsLogFile sum size old_whole site from holds.own.records.earlier (StaysFrom H (held_of holds.begun))
+  file_whole = on_file sum size device.log site from holds.own.records.earlier (StaysFrom H (held_of holds.begun)) (holds.own.written whole)
 
   begins_whole : (from ≡ 0) ⊎ (20 ≤ from)
-  begins_whole = none_or_begun sum size old_whole site from holds.own.records.earlier (StaysFrom H (stable_place holds.begun.first.stable)) file_whole
+  begins_whole = none_or_begun sum size old_whole site from holds.own.records.earlier (StaysFrom H (held_of holds.begun)) file_whole
 
   abbrev after_first : State
   after_first = step Synced (step (Wrote (site.slot + from) asked_whole asked_whole) device)
@@ -293,7 +293,7 @@ module _ (sum : List ℕ → ℕ) (size : ℕ) (site : SegmentPosition) (device 
   ]
 
   -- What a crash leaves of the write.
-  pub torn_first : (reach : ℕ) → NoHeaderOfZeros sum → {others : List BegunSegment} → StandsAmong sum size old_whole site from others reach H holds.begun.first → (now left : List ℕ) → length now ≤ length asked_whole
+  pub torn_first : (reach : ℕ) → NoHeaderOfZeros sum → {others : List BegunSegment} → {held : ℕ} → StandsAmong sum held size old_whole site from others reach H holds.begun.first → (now left : List ℕ) → length now ≤ length asked_whole
       → LeavesLog (after_write old_whole (site.slot + from) asked_whole now) left → (placed : List Placement)
       → NoForeignLog sum size (after_write old_whole (site.slot + from) asked_whole now) placed left → StandsTo sum size left H (stable_below reach H.batches) holds.begun.first reach
   torn_first reach zeros alone now left no_more leaves placed only_own =
@@ -301,15 +301,15 @@ module _ (sum : List ℕ → ℕ) (size : ℕ) (site : SegmentPosition) (device 
       header_whole (holds.own.laid whole) reach holds.begun.first alone has_whole no_end_whole now left no_more leaves {placed = placed} only_own
 
   -- All of it, where nothing fills the segment.
-  pub alone_first : All NoPadding done_whole → (reach : ℕ) → NoHeaderOfZeros sum → (end : ℕ) → site.slot ≤ end → {others : List BegunSegment} → StandsAmong sum size (padded end old_whole) site from others reach H holds.begun.first
-      → StandsAmong sum size (padded end (overwritten old_whole (site.slot + from) asked_whole)) site stop_whole others (site.place + stop_whole) H holds.begun.first
+  pub alone_first : All NoPadding done_whole → (reach : ℕ) → NoHeaderOfZeros sum → (end : ℕ) → site.slot ≤ end → {others : List BegunSegment} → {held : ℕ} → StandsAmong sum held size (padded end old_whole) site from others reach H holds.begun.first
+      → StandsAmong sum held size (padded end (overwritten old_whole (site.slot + from) asked_whole)) site stop_whole others (site.place + stop_whole) H holds.begun.first
   alone_first plain reach zeros end far {others} =
       first_alone sum size big old_whole site holds.own.records.place_begins holds.own.records.slot_begins place_small slot_small bytes from begins_whole rs b rest fresh closed are rise_whole inside_whole header_whole file_whole.header (holds.own.laid whole)
       holds.own.records.stand (plain_room sum size (site.place / size) bytes from big begins_whole rs b rest are holds.own.records.stand (run_count rest) plain) plain zeros reach holds.begun.first has_whole no_end_whole (whole_ascends sum size site device fault bytes from (b ∷ rest) rs H holds short) (let least = holds.begun.least in omega (arith, least)) end far {others = others}
 
   -- where it is filled
-  pub full_first : stop_whole ≡ size → (reach : ℕ) → NoHeaderOfZeros sum → (end : ℕ) → site.slot ≤ end → {others : List BegunSegment} → StandsAmong sum size (padded end old_whole) site from others reach H holds.begun.first
-      → StandsFull sum size (padded end (overwritten old_whole (site.slot + from) asked_whole)) (site.place + size) others (site.place + last_whole) H holds.begun.first
+  pub full_first : stop_whole ≡ size → (reach : ℕ) → NoHeaderOfZeros sum → (end : ℕ) → site.slot ≤ end → {others : List BegunSegment} → {held : ℕ} → StandsAmong sum held size (padded end old_whole) site from others reach H holds.begun.first
+      → StandsFull sum held size (padded end (overwritten old_whole (site.slot + from) asked_whole)) (site.place + size) others (site.place + last_whole) H holds.begun.first
   full_first filled reach zeros end far {others} among =
       first_full sum size big old_whole site holds.own.records.place_begins holds.own.records.slot_begins place_small slot_small bytes from begins_whole rs b rest fresh closed are rise_whole inside_whole {H = H} header_whole file_whole.header (holds.own.laid whole)
       holds.own.records.stand zeros reach holds.begun.first has_whole no_end_whole (whole_ascends sum size site device fault bytes from (b ∷ rest) rs H holds short) (let least = holds.begun.least in omega (arith, least)) filled end far {others = others} among

@@ -17,13 +17,15 @@ use Rattle.sled_core.specs.inside.Reached.{BegunSegment, StandsAmong}
 use Rattle.sled_core.specs.Recoverable.{NoHeaderOfZeros}
 use Rattle.sled_core.specs.inside.Running.{FitsIn}
 use Rattle.sled_core.specs.SealedBuffers.{AreZeros}
+use Rattle.sled_core.specs.declared.logger.joined_marks.JoinedMarks.{JoinedMarks}
 use Rattle.sled_core.proofs.Behind.Around.{behind_place}
 use Rattle.sled_core.proofs.Behind.Begins.{begun_with, behind-begins, far, next_above, next_apart}
 use Rattle.sled_core.proofs.Sealed.Padded.{padded_get}
 use Rattle.sled_core.proofs.Reached.NextSegment.{begins_behind}
+use Rattle.sled_core.specs.inside.LogSegments.{held_since}
 
 module _ (sum : List ℕ → ℕ) (size : ℕ) (site : SegmentPosition) (device : State) (fault : Option IoError) (bytes : List ℕ) (from : ℕ) (bs : List Sealed) (rs : List Reserved) (pins : ℕ) (H : History) (A f : ℕ) (U : List Message)
-    (behind : List SegmentParts) {reach : ℕ} (fits : FitsIn sum (log_parts size site device fault bytes from bs rs) behind reach pins H A f U) (big : 256 ≤ size) (short : length bytes ≤ size)
+    (behind : List SegmentParts) {reach : ℕ} {marks : JoinedMarks} (fits : FitsIn sum marks (log_parts size site device fault bytes from bs rs) behind reach pins H A f U) (big : 256 ≤ size) (short : length bytes ≤ size)
     (next : SegmentPosition) (text : List ℕ) (at : next.place ≡ behind_place size (site.place + size) behind) (aligned : next.slot % size ≡ 0) (header_long : length text ≡ 20) (mark : HasMark sum next text (logged H))
     (other : next.slot ≢ site.slot) (others : (y : BegunSegment) → Contains (map begun_segment behind) y → next.slot ≢ y.site.slot) (zeros : fault ≡ None → AreZeros device.log.bytes next.slot (next.slot + size))
     (closed : CloseBelow next.place H.batches) (low_mark : mark.mark <ℤ pos (site.place + from)) (place_small : next.place < 2 ^ 63) where
@@ -37,23 +39,23 @@ module _ (sum : List ℕ → ℕ) (size : ℕ) (site : SegmentPosition) (device 
   begun_is : map begun_segment behind ++ begun_segment begun ∷ [] ≡ all_begun
   begun_is = sym (map-append begun_segment behind (begun ∷ []))
 
-  abbrev holds_begun : HoldsIn sum (log_parts size site device fault bytes from bs rs) (behind ++ begun ∷ []) (logged H)
+  abbrev holds_begun : HoldsIn sum marks (log_parts size site device fault bytes from bs rs) (behind ++ begun ∷ []) (logged H)
   holds_begun = behind-begins sum size site device fault bytes from bs rs (logged H) behind fits.holds big short next text at aligned header_long mark other others zeros closed low_mark place_small
 
   above : site.place + size ≤ next.place
   above = far sum size site device fault bytes from bs rs (logged H) behind fits.holds big short next text at aligned header_long mark other others zeros closed
 
   -- Where a file has zeros in the slot, what is found in it is found still, the new segment being unwritten.
-  stands_begun : NoHeaderOfZeros sum → (log : List ℕ) → AreZeros log next.slot (next.slot + size) → StandsAmong sum size log site from (map begun_segment behind) reach (logged H) fits.holds.begun.first → StandsAmong sum size log site from all_begun reach (logged H) fits.holds.begun.first
+  stands_begun : NoHeaderOfZeros sum → (log : List ℕ) → AreZeros log next.slot (next.slot + size) → StandsAmong sum (held_since size marks fits.holds.begun.first) size log site from (map begun_segment behind) reach (logged H) fits.holds.begun.first → StandsAmong sum (held_since size marks fits.holds.begun.first) size log site from all_begun reach (logged H) fits.holds.begun.first
   stands_begun none log clean among =
-      subst (λ (l : List BegunSegment). StandsAmong sum size log site from l reach (logged H) fits.holds.begun.first) begun_is
+      subst (λ (l : List BegunSegment). StandsAmong sum (held_since size marks fits.holds.begun.first) size log site from l reach (logged H) fits.holds.begun.first) begun_is
       (begins_behind sum none size log site from (map begun_segment behind) reach (logged H) fits.holds.begun.first next (let up = above in omega (arith, up, big))
       (next_above sum size site device fault bytes from bs rs (logged H) behind fits.holds big short next text at aligned header_long mark other others zeros closed)
       (next_apart sum size site device fault bytes from bs rs (logged H) behind fits.holds big short next text at aligned header_long mark other others zeros closed)
       (λ i low high. clean i low (omega (arith, high, big))) among)
 
   -- The log fits the history, with that segment behind the others.
-  pub behind-fits-begun : FitsIn sum (log_parts size site device fault bytes from bs rs) (behind ++ begun ∷ []) reach pins H A f U
+  pub behind-fits-begun : FitsIn sum marks (log_parts size site device fault bytes from bs rs) (behind ++ begun ∷ []) reach pins H A f U
   behind-fits-begun = record {
     holds = holds_begun;
     reached = fits.reached;

@@ -21,6 +21,7 @@ use Rattle.sled_core.specs.Running.{KeepsItem}
 use Rattle.sled_core.specs.inside.SealedBuffers.{FirstUnwritten, one_ended}
 use Rattle.sled_core.specs.SealedBuffers.{seal_at, sealed_count, sealed_end}
 use Rattle.sled_core.specs.Reading.{BlobIsBelow}
+use Rattle.sled_core.specs.declared.logger.joined_marks.JoinedMarks.{JoinedMarks}
 use Rattle.sled_core.proofs.Behind.Around.{behind_place, held_around, now_with, stays_below}
 use Rattle.sled_core.proofs.Behind.Calls.{behind-aborted, behind-append, behind-pad, behind-sealed, held_here}
 use Rattle.sled_core.proofs.Behind.Completes.{adds_here, behind-complete, completed_history}
@@ -31,7 +32,7 @@ use Rattle.sled_core.proofs.Holds.CompletedLemmas.{behind_written, ends_within}
 use Rattle.sled_core.proofs.Logged.Messages.{put_real}
 
 module _ (sum : List ℕ → ℕ) (size : ℕ) (site : SegmentPosition) (device : State) (fault : Option IoError) (bytes : List ℕ) (from : ℕ) (bs : List Sealed) (rs : List Reserved) (pins : ℕ) (H : History) (A f : ℕ) (U : List Message)
-    (pre : List SegmentParts) (s : SegmentParts) (post : List SegmentParts) {reach : ℕ} (its : FitsIn sum (log_parts size site device fault bytes from bs rs) (pre ++ s ∷ post) reach pins H A f U) where
+    (pre : List SegmentParts) (s : SegmentParts) (post : List SegmentParts) {reach : ℕ} {marks : JoinedMarks} (its : FitsIn sum marks (log_parts size site device fault bytes from bs rs) (pre ++ s ∷ post) reach pins H A f U) where
   abbrev own_history : History
   own_history = record { messages = (held_around sum size site device fault bytes from bs rs (logged H) pre s post its.holds).own; batches = H.batches }
 
@@ -40,19 +41,19 @@ module _ (sum : List ℕ → ℕ) (size : ℕ) (site : SegmentPosition) (device 
 
   -- Its current buffer is sealed, which holds something.
   pub behind-fits-sealed : sealed_end s.written_len s.sealed < length s.bytes
-      → FitsIn sum (log_parts size site device fault bytes from bs rs) (pre ++ now_with s s.bytes s.written_len (s.sealed ++ seal_at (length s.bytes) (drop (sealed_count s.sealed) s.reserved) ∷ []) s.reserved ∷ post) reach pins H A f U
+      → FitsIn sum marks (log_parts size site device fault bytes from bs rs) (pre ++ now_with s s.bytes s.written_len (s.sealed ++ seal_at (length s.bytes) (drop (sealed_count s.sealed) s.reserved) ∷ []) s.reserved ∷ post) reach pins H A f U
   behind-fits-sealed some = behind-moved sum size site device fault bytes from bs rs pins H A f U pre s post its (now_with s s.bytes s.written_len (s.sealed ++ seal_at (length s.bytes) (drop (sealed_count s.sealed) s.reserved) ∷ []) s.reserved) refl refl refl
       (behind-sealed sum size site device fault bytes from bs rs (logged H) pre s post its.holds some)
 
   -- A place is reserved in it.
   pub behind-fits-reserved : (more : List ℕ) (r : Reserved) → r.from ≡ length s.bytes → r.len ≡ length more → r.state ≡ Open → r.from + 32 ≤ size → HasText sum (s.site.place / size) (s.bytes ++ more) r → length (s.bytes ++ more) ≤ size
-      → FitsIn sum (log_parts size site device fault bytes from bs rs) (pre ++ now_with s (s.bytes ++ more) s.written_len s.sealed (s.reserved ++ r ∷ []) ∷ post) reach pins H A f U
+      → FitsIn sum marks (log_parts size site device fault bytes from bs rs) (pre ++ now_with s (s.bytes ++ more) s.written_len s.sealed (s.reserved ++ r ∷ []) ∷ post) reach pins H A f U
   behind-fits-reserved more r at long is_open room text inside = behind-moved sum size site device fault bytes from bs rs pins H A f U pre s post its (now_with s (s.bytes ++ more) s.written_len s.sealed (s.reserved ++ r ∷ [])) refl refl refl
       (behind-append sum size site device fault bytes from bs rs (logged H) pre s post its.holds more r at long is_open room text inside)
 
   -- It is filled to its end.
   pub behind-fits-filled : length s.bytes < size → s.site.place / size < 2 ^ 64
-      → FitsIn sum (log_parts size site device fault bytes from bs rs)
+      → FitsIn sum marks (log_parts size site device fault bytes from bs rs)
       (pre ++ filled_at (Some (length s.bytes)) (now_with s (s.bytes ++ segment_rest sum size (s.site.place / size) (length s.bytes)) s.written_len s.sealed (s.reserved ++ padding_at size (length s.bytes) ∷ [])) ∷ post) reach pins H A f U
   behind-fits-filled less small =
       let rest : List ℕ = segment_rest sum size (s.site.place / size) (length s.bytes) in
@@ -65,18 +66,18 @@ module _ (sum : List ℕ → ℕ) (size : ℕ) (site : SegmentPosition) (device 
   -- One of its reservations ends.
   module _ (i : ℕ) (r : Reserved) (there : slice_get s.reserved i ≡ Some r) (is_open : r.state ≡ Open) where
     -- It is aborted,
-    pub behind-fits-aborted : FitsIn sum (log_parts size site device fault bytes from bs rs) (pre ++ now_with s (written s.bytes r.from (canceling sum s.bytes r)) s.written_len (one_ended i s.sealed) (set s.reserved i (ended Canceled r)) ∷ post) reach pins H A f U
+    pub behind-fits-aborted : FitsIn sum marks (log_parts size site device fault bytes from bs rs) (pre ++ now_with s (written s.bytes r.from (canceling sum s.bytes r)) s.written_len (one_ended i s.sealed) (set s.reserved i (ended Canceled r)) ∷ post) reach pins H A f U
     behind-fits-aborted = behind-moved sum size site device fault bytes from bs rs pins H A f U pre s post its (now_with s (written s.bytes r.from (canceling sum s.bytes r)) s.written_len (one_ended i s.sealed) (set s.reserved i (ended Canceled r))) refl refl refl
         (behind-aborted sum size site device fault bytes from bs rs (logged H) pre s post its.holds i r there is_open)
 
     -- or its message is completed: the log fits the history with it.
     pub behind-fits-completed : (m : Message) → in_log m ≡ message_in s.site s.bytes r → BlobIsBelow m m.pointer → KeepsItem sum device.blobs m m.pointer → (none : is_manifest r.log_kind r.page ≡ false) → 256 ≤ size → (short : length bytes ≤ size) → fault ≡ None → FirstUnwritten s.sealed → 0 < pins
         → (H' : History) × AddsMessage H m H'
-        × FitsIn sum (log_parts size site device fault bytes from bs rs) (pre ++ now_with s (written s.bytes r.from (completing r)) s.written_len (one_ended i s.sealed) (set s.reserved i (ended Completed r)) ∷ post) reach pins H' A f (m ∷ U)
+        × FitsIn sum marks (log_parts size site device fault bytes from bs rs) (pre ++ now_with s (written s.bytes r.from (completing r)) s.written_len (one_ended i s.sealed) (set s.reserved i (ended Completed r)) ∷ post) reach pins H' A f (m ∷ U)
     behind-fits-completed m its_message below stored none big short whole fresh out =
         let now : SegmentParts = now_with s (written s.bytes r.from (completing r)) s.written_len (one_ended i s.sealed) (set s.reserved i (ended Completed r)) in
         let real : History = completed_history sum size site device fault bytes from bs rs (logged H) pre s post its.holds short i r there is_open none in
-        let done = put_real (HoldsIn sum (log_parts size site device fault bytes from bs rs) (pre ++ now ∷ post)) H m real
+        let done = put_real (HoldsIn sum marks (log_parts size site device fault bytes from bs rs) (pre ++ now ∷ post)) H m real
         (subst (λ (x : Message). AddsMessage (logged H) x real) (sym its_message) (adds_here sum size site device fault bytes from bs rs (logged H) pre s post its.holds short i r there is_open none))
         (behind-complete sum size site device fault bytes from bs rs (logged H) pre s post its.holds short i r there is_open none) in
         let place = ap (λ (x : Message). x.place) its_message in

@@ -24,6 +24,7 @@ use Rattle.sled_core.specs.inside.Recoverable.{BlobsAreBelow}
 use Rattle.sled_core.specs.inside.Running.{BlobsFit, FitsIn, KeepsEntries, KeepsItems, NamesFit}
 use Rattle.sled_core.specs.Running.{KeepsItem}
 use Rattle.sled_core.specs.SealedBuffers.{AreZeros}
+use Rattle.sled_core.specs.declared.logger.joined_marks.JoinedMarks.{JoinedMarks}
 use Rattle.sled_core.specs.inside.SealedBuffers.{FirstUnwritten}
 use Rattle.sled_core.proofs.Behind.Around.{HoldAround, begun_is, behind_below, behind_place, held_around, stays_below}
 use Rattle.sled_core.proofs.Behind.Calls.{held_here}
@@ -39,10 +40,11 @@ use Rattle.sled_core.proofs.Holds.WholeHistory.{behind_above, which_part, whole_
 use Rattle.sled_core.proofs.Logged.Messages.{adds_logged, below_in_log}
 use Rattle.sled_core.proofs.Reached.StableBelow.{stable_low}
 use Rattle.sled_core.proofs.Sealed.Zeros.{begin_zeros}
+use Rattle.sled_core.specs.inside.LogSegments.{held_since}
 
 -- A message that begins in a segment behind the first one is among those that this holds.
 module _ (sum : List ℕ → ℕ) (size : ℕ) (site : SegmentPosition) (device : State) (fault : Option IoError) (bytes : List ℕ) (from : ℕ) (bs : List Sealed) (rs : List Reserved) (H : History)
-    (pre : List SegmentParts) (s : SegmentParts) (post : List SegmentParts) (holds : HoldsIn sum (log_parts size site device fault bytes from bs rs) (pre ++ s ∷ post) H) (short : length bytes ≤ size) where
+    (pre : List SegmentParts) (s : SegmentParts) (post : List SegmentParts) {marks : JoinedMarks} (holds : HoldsIn sum marks (log_parts size site device fault bytes from bs rs) (pre ++ s ∷ post) H) (short : length bytes ≤ size) where
   abbrev stays : Message → Type 0
   stays = stays_below sum size site device fault bytes from bs rs H pre s post holds
 
@@ -79,9 +81,9 @@ module _ (sum : List ℕ → ℕ) (size : ℕ) (site : SegmentPosition) (device 
       ]
 
 module _ (sum : List ℕ → ℕ) (size : ℕ) (site : SegmentPosition) (device : State) (fault : Option IoError) (bytes : List ℕ) (from : ℕ) (bs : List Sealed) (rs : List Reserved) (pins : ℕ) (H : History) (A f : ℕ) (U : List Message)
-    (pre : List SegmentParts) (s : SegmentParts) (post : List SegmentParts) {reach : ℕ} (fits : FitsIn sum (log_parts size site device fault bytes from bs rs) (pre ++ s ∷ post) reach pins H A f U)
+    (pre : List SegmentParts) (s : SegmentParts) (post : List SegmentParts) {reach : ℕ} {marks : JoinedMarks} (fits : FitsIn sum marks (log_parts size site device fault bytes from bs rs) (pre ++ s ∷ post) reach pins H A f U)
     (s' : SegmentParts) (its_site : s'.site ≡ s.site) (so_far : s'.written_len ≡ s.written_len) (filling : s'.filled ≡ s.filled)
-    (H' : History) (m : Message) (least : 256 ≤ size) (short : length bytes ≤ size) (ok : fault ≡ None) (holds : HoldsIn sum (log_parts size site device fault bytes from bs rs) (pre ++ s' ∷ post) (logged H')) (adds : AddsMessage H m H')
+    (H' : History) (m : Message) (least : 256 ≤ size) (short : length bytes ≤ size) (ok : fault ≡ None) (holds : HoldsIn sum marks (log_parts size site device fault bytes from bs rs) (pre ++ s' ∷ post) (logged H')) (adds : AddsMessage H m H')
     (below : BlobIsBelow m m.pointer) (stored : KeepsItem sum device.blobs m m.pointer)
     (above : s.site.place + s.written_len ≤ m.place) (inside : m.place < s.site.place + size) (fresh : FirstUnwritten s.sealed) where
   abbrev first : SnapshotModel
@@ -138,14 +140,14 @@ module _ (sum : List ℕ → ℕ) (size : ℕ) (site : SegmentPosition) (device 
   among_others = subst (λ (l : List BegunSegment). Contains l (begun_segment s)) (sym (begun_is pre s post)) (Contains-append_right (map begun_segment pre) (begun_segment s ∷ map begun_segment post) (begun_segment s) (in_first (begun_segment s) (map begun_segment post)))
 
   -- A reader finds the same of a file that has these zeros.
-  stands_new : NoHeaderOfZeros sum → (log : List ℕ) → (s.written_len ≡ 0 → AreZeros log s.site.slot (s.site.slot + 20)) → StandsAmong sum size log site from others reach (logged H) first → StandsAmong sum size log site from others' reach (logged H') first
-  stands_new none log zeros among = subst (λ (l : List BegunSegment). StandsAmong sum size log site from l reach (logged H') first) (sym (begun_same pre s s' post its_site so_far filling))
+  stands_new : NoHeaderOfZeros sum → (log : List ℕ) → (s.written_len ≡ 0 → AreZeros log s.site.slot (s.site.slot + 20)) → StandsAmong sum (held_since size marks first) size log site from others reach (logged H) first → StandsAmong sum (held_since size marks first) size log site from others' reach (logged H') first
+  stands_new none log zeros among = subst (λ (l : List BegunSegment). StandsAmong sum (held_since size marks first) size log site from l reach (logged H') first) (sym (begun_same pre s s' post its_site so_far filling))
       (other_adds sum size log site from reach (logged H) (logged H') first least none (begun_segment s) among_others had.segment.records.place_begins zeros (in_log m) put above inside room (lies.lies (below_in_log m below)) among)
 
-  alone_new : NoHeaderOfZeros sum → StandsAmong sum size device.log.bytes site from others' reach (logged H') first
+  alone_new : NoHeaderOfZeros sum → StandsAmong sum (held_since size marks first) size device.log.bytes site from others' reach (logged H') first
   alone_new none = stands_new none device.log.bytes clean (fits.among ok none)
 
-  beyond_new : (to : ℕ) → site.slot ≤ to → NoHeaderOfZeros sum → StandsAmong sum size (padded to device.log.bytes) site from others' reach (logged H') first
+  beyond_new : (to : ℕ) → site.slot ≤ to → NoHeaderOfZeros sum → StandsAmong sum (held_since size marks first) size (padded to device.log.bytes) site from others' reach (logged H') first
   beyond_new to far none = stands_new none (padded to device.log.bytes) (λ first_one i low high. padded_get to device.log.bytes i ∙ clean first_one i low high) (fits.beyond to far ok none)
 
   names_new : NamesFit sum size device.snapshots (logged H') f first
@@ -185,7 +187,7 @@ module _ (sum : List ℕ → ℕ) (size : ℕ) (site : SegmentPosition) (device 
       settled_recoverable sum size least device H' (stable_below reach H'.batches) f first reach (whole_ascends sum size site device fault bytes from bs rs (logged H') holds short) stored_behind (rests device.log on.log on.settled) names_new blobs_new (λ none. (alone_new none).stands)
 
   -- The log fits the history with the message, where a pin is out.
-  pub behind-completed : 0 < pins → FitsIn sum (log_parts size site device fault bytes from bs rs) (pre ++ s' ∷ post) reach pins H' A f (m ∷ U)
+  pub behind-completed : 0 < pins → FitsIn sum marks (log_parts size site device fault bytes from bs rs) (pre ++ s' ∷ post) reach pins H' A f (m ∷ U)
   behind-completed out =
       let same : first ≡ holds.begun.first = one_begin sum device.snapshots.file first holds.begun.first fits.holds.begun.begins holds.begun.begins in
       record {
@@ -196,8 +198,8 @@ module _ (sum : List ℕ → ℕ) (size : ℕ) (site : SegmentPosition) (device 
           no_batch = λ b there. fits.reached.no_batch b (subst (λ (l : List Batch). Contains l b) adds.batches there);
           no_end = λ b there. fits.reached.no_end b (subst (λ (l : List Batch). Contains l b) adds.batches there);
         };
-        among = λ fine none. subst (λ (z : SnapshotModel). StandsAmong sum size device.log.bytes site from others' reach (logged H') z) same (alone_new none);
-        beyond = λ to far fine none. subst (λ (z : SnapshotModel). StandsAmong sum size (padded to device.log.bytes) site from others' reach (logged H') z) same (beyond_new to far none);
+        among = λ fine none. subst (λ (z : SnapshotModel). StandsAmong sum (held_since size marks z) size device.log.bytes site from others' reach (logged H') z) same (alone_new none);
+        beyond = λ to far fine none. subst (λ (z : SnapshotModel). StandsAmong sum (held_since size marks z) size (padded to device.log.bytes) site from others' reach (logged H') z) same (beyond_new to far none);
         items = record {
           blobs = blobs_new;
           stored = stored_behind;

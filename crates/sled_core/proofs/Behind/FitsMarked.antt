@@ -22,6 +22,7 @@ use Rattle.sled_core.specs.Recoverable.{NoHeaderOfZeros}
 use Rattle.sled_core.specs.inside.Lasting.{LeavesRecovering}
 use Rattle.sled_core.specs.inside.Running.{BlobsFit, FitsIn, KeepsEntries, KeepsItems, NamesFit}
 use Rattle.sled_core.specs.SealedBuffers.{AreZeros}
+use Rattle.sled_core.specs.declared.logger.joined_marks.JoinedMarks.{JoinedMarks}
 use Rattle.sled_core.specs.inside.SealedBuffers.{FirstUnwritten}
 use Rattle.sled_core.proofs.Behind.Around.{begun_is, behind_place, held_around, stays_below}
 use Rattle.sled_core.proofs.Behind.Calls.{held_here}
@@ -39,11 +40,12 @@ use Rattle.sled_core.proofs.Holds.WholeHistory.{whole_ascends}
 use Rattle.sled_core.proofs.Logged.Messages.{batch_logged}
 use Rattle.sled_core.proofs.Reached.StableBelow.{stable_one_more}
 use Rattle.sled_core.proofs.Sealed.Zeros.{begin_zeros}
+use Rattle.sled_core.specs.inside.LogSegments.{held_since}
 
 module _ (sum : List ℕ → ℕ) (size : ℕ) (site : SegmentPosition) (device : State) (fault : Option IoError) (bytes : List ℕ) (from : ℕ) (bs : List Sealed) (rs : List Reserved) (pins : ℕ) (H : History) (A f : ℕ) (U : List Message)
-    (pre : List SegmentParts) (s : SegmentParts) (post : List SegmentParts) {reach : ℕ} (fits : FitsIn sum (log_parts size site device fault bytes from bs rs) (pre ++ s ∷ post) reach pins H A f U)
+    (pre : List SegmentParts) (s : SegmentParts) (post : List SegmentParts) {reach : ℕ} {marks : JoinedMarks} (fits : FitsIn sum marks (log_parts size site device fault bytes from bs rs) (pre ++ s ∷ post) reach pins H A f U)
     (s' : SegmentParts) (its_site : s'.site ≡ s.site) (so_far : s'.written_len ≡ s.written_len) (filling : s'.filled ≡ s.filled)
-    (H' : History) (b : Batch) (least : 256 ≤ size) (short : length bytes ≤ size) (ok : fault ≡ None) (holds : HoldsIn sum (log_parts size site device fault bytes from bs rs) (pre ++ s' ∷ post) (logged H')) (adds : AddsBatch H b H')
+    (H' : History) (b : Batch) (least : 256 ≤ size) (short : length bytes ≤ size) (ok : fault ≡ None) (holds : HoldsIn sum marks (log_parts size site device fault bytes from bs rs) (pre ++ s' ∷ post) (logged H')) (adds : AddsBatch H b H')
     (placing : ((c : Batch) → Contains H.batches c → IsPlacedBatch size (logged H) c) → (c : Batch) → Contains H'.batches c → IsPlacedBatch size (logged H') c)
     (later : b.low < b.peg) (offs : All (IsOff size b.peg) (pre ++ s ∷ post)) (above : s.site.place + s.written_len ≤ b.low) (inside : b.low < s.site.place + size) (fresh : FirstUnwritten s.sealed) where
   abbrev first : SnapshotModel
@@ -85,15 +87,15 @@ module _ (sum : List ℕ → ℕ) (size : ℕ) (site : SegmentPosition) (device 
   beside = behind_beside sum size least device fault ok b.peg (site.place + size) (pre ++ s ∷ post) (stays_below sum size site device fault bytes from bs rs (logged H) pre s post fits.holds) H.batches fits.holds.later fits.holds.others offs
 
   -- A reader finds the same of a file that has these zeros.
-  stands_new : NoHeaderOfZeros sum → (log : List ℕ) → (s.written_len ≡ 0 → AreZeros log s.site.slot (s.site.slot + 20)) → ((x : BegunSegment) → Contains others x → LiesBesideFilling size log b.peg x) → StandsAmong sum size log site from others reach (logged H) first
-      → StandsAmong sum size log site from others' reach (logged H') first
-  stands_new none log zeros lies among = subst (λ (l : List BegunSegment). StandsAmong sum size log site from l reach (logged H') first) (sym (begun_same pre s s' post its_site so_far filling))
+  stands_new : NoHeaderOfZeros sum → (log : List ℕ) → (s.written_len ≡ 0 → AreZeros log s.site.slot (s.site.slot + 20)) → ((x : BegunSegment) → Contains others x → LiesBesideFilling size log b.peg x) → StandsAmong sum (held_since size marks first) size log site from others reach (logged H) first
+      → StandsAmong sum (held_since size marks first) size log site from others' reach (logged H') first
+  stands_new none log zeros lies among = subst (λ (l : List BegunSegment). StandsAmong sum (held_since size marks first) size log site from l reach (logged H') first) (sym (begun_same pre s s' post its_site so_far filling))
       (other-marks sum size log site from reach (logged H) (logged H') first least none (begun_segment s) among_others had.segment.records.place_begins zeros b put above inside (placing among.stands.batched) later lies among)
 
-  alone_new : NoHeaderOfZeros sum → StandsAmong sum size device.log.bytes site from others' reach (logged H') first
+  alone_new : NoHeaderOfZeros sum → StandsAmong sum (held_since size marks first) size device.log.bytes site from others' reach (logged H') first
   alone_new none = stands_new none device.log.bytes clean beside (fits.among ok none)
 
-  beyond_new : (to : ℕ) → site.slot ≤ to → NoHeaderOfZeros sum → StandsAmong sum size (padded to device.log.bytes) site from others' reach (logged H') first
+  beyond_new : (to : ℕ) → site.slot ≤ to → NoHeaderOfZeros sum → StandsAmong sum (held_since size marks first) size (padded to device.log.bytes) site from others' reach (logged H') first
   beyond_new to far none = stands_new none (padded to device.log.bytes) (λ first_one i low high. padded_get to device.log.bytes i ∙ clean first_one i low high) (λ x known. beside_padded size to device.log.bytes b.peg x (beside x known)) (fits.beyond to far ok none)
 
   names_new : NamesFit sum size device.snapshots (logged H') f first
@@ -118,7 +120,7 @@ module _ (sum : List ℕ → ℕ) (size : ℕ) (site : SegmentPosition) (device 
       settled_recoverable sum size least device H' (stable_below reach H'.batches) f first reach (whole_ascends sum size site device fault bytes from bs rs (logged H') holds short) stored_behind (rests device.log on.log on.settled) names_new blobs_new (λ none. (alone_new none).stands)
 
   -- The log fits the history with the batch, with no other message to be marked.
-  pub behind-fits-marked : FitsIn sum (log_parts size site device fault bytes from bs rs) (pre ++ s' ∷ post) reach pins H' A f U
+  pub behind-fits-marked : FitsIn sum marks (log_parts size site device fault bytes from bs rs) (pre ++ s' ∷ post) reach pins H' A f U
   behind-fits-marked =
       let same : first ≡ holds.begun.first = one_begin sum device.snapshots.file first holds.begun.first fits.holds.begun.begins holds.begun.begins in
       record {
@@ -130,8 +132,8 @@ module _ (sum : List ℕ → ℕ) (size : ℕ) (site : SegmentPosition) (device 
               reach (site.place + from) (inr past) fits.reached.no_batch;
           no_end = no_end (logged H) (logged H') b put reach (site.place + from) past fits.reached.no_end;
         };
-        among = λ fine none. subst (λ (z : SnapshotModel). StandsAmong sum size device.log.bytes site from others' reach (logged H') z) same (alone_new none);
-        beyond = λ to far fine none. subst (λ (z : SnapshotModel). StandsAmong sum size (padded to device.log.bytes) site from others' reach (logged H') z) same (beyond_new to far none);
+        among = λ fine none. subst (λ (z : SnapshotModel). StandsAmong sum (held_since size marks z) size device.log.bytes site from others' reach (logged H') z) same (alone_new none);
+        beyond = λ to far fine none. subst (λ (z : SnapshotModel). StandsAmong sum (held_since size marks z) size (padded to device.log.bytes) site from others' reach (logged H') z) same (beyond_new to far none);
         items = record {
           blobs = blobs_new;
           stored = stored_behind;

@@ -16,6 +16,8 @@ use Rattle.sled_core.specs.Begun.{SegmentParts}
 use Rattle.sled_core.specs.inside.Fits.{HoldsIn, begun_segment, log_parts}
 use Rattle.sled_core.specs.inside.LogFile.{padded}
 use Rattle.sled_core.specs.Logged.{logged}
+use Rattle.sled_core.specs.declared.logger.joined_marks.JoinedMarks.{JoinedMarks}
+use Rattle.sled_core.specs.inside.LogSegments.{held_since}
 use Rattle.sled_core.specs.inside.Reached.{BegunSegment, StandsAmong}
 use Rattle.sled_core.specs.inside.Running.{FitsIn, NamesFit}
 use Rattle.sled_store.proofs.Names.OneBegin.{one_begin}
@@ -45,7 +47,7 @@ marks_same sum end pre s s' post site head marked x among none mark header = eli
 ]
 
 module _ (sum : List ℕ → ℕ) (size : ℕ) (site : SegmentPosition) (device : State) (fault : Option IoError) (bytes : List ℕ) (from : ℕ) (bs : List Sealed) (rs : List Reserved) (pins : ℕ) (H : History) (A f : ℕ) (U : List Message)
-    (pre : List SegmentParts) (s : SegmentParts) (post : List SegmentParts) {reach : ℕ} (fits : FitsIn sum (log_parts size site device fault bytes from bs rs) (pre ++ s ∷ post) reach pins H A f U)
+    (pre : List SegmentParts) (s : SegmentParts) (post : List SegmentParts) {reach : ℕ} {marks : JoinedMarks} (fits : FitsIn sum marks (log_parts size site device fault bytes from bs rs) (pre ++ s ∷ post) reach pins H A f U)
     (s' : SegmentParts) (its_site : s'.site ≡ s.site) (so_far : s'.written_len ≡ s.written_len) (filling : s'.filled ≡ s.filled) where
   abbrev others : List BegunSegment
   others = map begun_segment (pre ++ s ∷ post)
@@ -54,16 +56,16 @@ module _ (sum : List ℕ → ℕ) (size : ℕ) (site : SegmentPosition) (device 
   others' = map begun_segment (pre ++ s' ∷ post)
 
   -- The log fits the history, where it holds it.
-  pub behind-moved : HoldsIn sum (log_parts size site device fault bytes from bs rs) (pre ++ s' ∷ post) (logged H) → FitsIn sum (log_parts size site device fault bytes from bs rs) (pre ++ s' ∷ post) reach pins H A f U
+  pub behind-moved : HoldsIn sum marks (log_parts size site device fault bytes from bs rs) (pre ++ s' ∷ post) (logged H) → FitsIn sum marks (log_parts size site device fault bytes from bs rs) (pre ++ s' ∷ post) reach pins H A f U
   behind-moved holds =
       let same : fits.holds.begun.first ≡ holds.begun.first = one_begin sum device.snapshots.file fits.holds.begun.first holds.begun.first fits.holds.begun.begins holds.begun.begins in
       let lie : others ≡ others' = sym (begun_same pre s s' post its_site so_far filling) in
       record {
         holds = holds;
         reached = fits.reached;
-        among = λ ok none. subst (λ (first : SnapshotModel). StandsAmong sum size device.log.bytes site from others' reach (logged H) first) same (subst (λ (l : List BegunSegment). StandsAmong sum size device.log.bytes site from l reach (logged H) fits.holds.begun.first) lie (fits.among ok none));
-        beyond = λ to far ok none. subst (λ (first : SnapshotModel). StandsAmong sum size (padded to device.log.bytes) site from others' reach (logged H) first) same
-            (subst (λ (l : List BegunSegment). StandsAmong sum size (padded to device.log.bytes) site from l reach (logged H) fits.holds.begun.first) lie (fits.beyond to far ok none));
+        among = λ ok none. subst (λ (first : SnapshotModel). StandsAmong sum (held_since size marks first) size device.log.bytes site from others' reach (logged H) first) same (subst (λ (l : List BegunSegment). StandsAmong sum (held_since size marks fits.holds.begun.first) size device.log.bytes site from l reach (logged H) fits.holds.begun.first) lie (fits.among ok none));
+        beyond = λ to far ok none. subst (λ (first : SnapshotModel). StandsAmong sum (held_since size marks first) size (padded to device.log.bytes) site from others' reach (logged H) first) same
+            (subst (λ (l : List BegunSegment). StandsAmong sum (held_since size marks fits.holds.begun.first) size (padded to device.log.bytes) site from l reach (logged H) fits.holds.begun.first) lie (fits.beyond to far ok none));
         items = fits.items;
         named = record {
           names = subst (λ (first : SnapshotModel). NamesFit sum size device.snapshots (logged H) f first) same fits.named.names;

@@ -25,6 +25,7 @@ use Rattle.sled_core.specs.inside.Lasting.{LeavesRecovering}
 use Rattle.sled_core.specs.inside.Running.{FitsIn}
 use Rattle.sled_core.specs.inside.SealedBuffers.{AreSealed, FirstUnwritten, behind_run, is_ready, now_written, run_count, run_end, written_at}
 use Rattle.sled_core.specs.SealedBuffers.{bytes_between, sealed_end}
+use Rattle.sled_core.specs.declared.logger.joined_marks.JoinedMarks.{JoinedMarks}
 use Rattle.sled_core.proofs.Behind.Around.{begun_is, now_with}
 use Rattle.sled_core.proofs.Behind.Calls.{held_here}
 use Rattle.sled_core.proofs.Behind.OneWrite.{reaches, some_asked, torn_one, whole_one}
@@ -40,6 +41,7 @@ use Rattle.sled_core.proofs.Reserve.Ranges.{there_split}
 use Rattle.sled_core.proofs.Sealed.Marked.{ready_closed, written_around}
 use Rattle.sled_core.proofs.Sealed.WriteMoments as moments
 use Rattle.sled_core.proofs.Torn.TornLemmas.{after_write}
+use Rattle.sled_core.specs.inside.LogSegments.{held_since}
 
 -- Zeros behind the end of a file that has some there already.
 padded_twice : (to far : ℕ) (log : List ℕ) → to ≤ far → padded far (padded to log) ≡ padded far log
@@ -51,7 +53,7 @@ padded_max : (to slot : ℕ) (log : List ℕ) → slot ≤ length log → padded
 padded_max to slot log there = let same : max to slot - length log ≡ to - length log = omega (arith, there) in ap (λ n. log ++ replicate n 0) same
 
 module _ (sum : List ℕ → ℕ) (size : ℕ) (site : SegmentPosition) (device : State) (fault : Option IoError) (bytes : List ℕ) (from : ℕ) (bs : List Sealed) (rs : List Reserved) (pins : ℕ) (H : History) (A f : ℕ) (U : List Message)
-    (pre : List SegmentParts) (s : SegmentParts) (post : List SegmentParts) {reach : ℕ} (fits : FitsIn sum (log_parts size site device fault bytes from bs rs) (pre ++ s ∷ post) reach pins H A f U)
+    (pre : List SegmentParts) (s : SegmentParts) (post : List SegmentParts) {reach : ℕ} {marks : JoinedMarks} (fits : FitsIn sum marks (log_parts size site device fault bytes from bs rs) (pre ++ s ∷ post) reach pins H A f U)
     (big : 256 ≤ size) (whole : fault ≡ None) (short : length bytes ≤ size) (are : AreSealed from rs bs) (held : sealed_end from bs ≤ length bytes)
     (place_small : s.site.place + size < 2 ^ 63) (slot_small : s.site.slot + size < 2 ^ 63) (fresh : FirstUnwritten s.sealed)
     (k : ℕ) (b : Sealed) (there : slice_get s.sealed k ≡ Some b) (ready : is_ready b ≡ true) (recorded : records_to s.filled (length s.bytes) ≤ records_end s.reserved (length s.bytes)) where
@@ -103,40 +105,40 @@ module _ (sum : List ℕ → ℕ) (size : ℕ) (site : SegmentPosition) (device 
   torn : NoHeaderOfZeros sum → (part left : List ℕ) → length part ≤ length asked → LeavesLog (after_write old (s.site.slot + at) asked part) left → (placed : List Placement)
       → NoForeignLog sum size (after_write old (s.site.slot + at) asked part) placed left → StandsTo sum size left (logged H) (stable_below reach H.batches) first reach
   torn none = torn_one sum size site device fault bytes from bs rs (logged H) pre s post fits.holds big whole short place_small slot_small fresh b rest closed recorded (take k s.sealed) split none reach first
-      (subst (λ (l : List BegunSegment). StandsAmong sum size old site from l reach (logged H) first) (begun_is pre s post) (fits.among whole none))
+      (subst (λ (l : List BegunSegment). StandsAmong sum (held_since size marks first) size old site from l reach (logged H) first) (begun_is pre s post) (fits.among whole none))
 
   -- All of it, where the file with zeros behind its end reaches the slot.
-  written_in : NoHeaderOfZeros sum → (to : ℕ) → s.site.slot ≤ length (padded to old) → StandsAmong sum size (padded to old) site from (map begun_segment (pre ++ s ∷ post)) reach (logged H) first
-      → StandsAmong sum size (padded to new) site from (map begun_segment (pre ++ grown ∷ post)) reach (logged H) first
+  written_in : NoHeaderOfZeros sum → (to : ℕ) → s.site.slot ≤ length (padded to old) → StandsAmong sum (held_since size marks first) size (padded to old) site from (map begun_segment (pre ++ s ∷ post)) reach (logged H) first
+      → StandsAmong sum (held_since size marks first) size (padded to new) site from (map begun_segment (pre ++ grown ∷ post)) reach (logged H) first
   written_in none to reached among =
       let least = fits.holds.begun.least in
       let one = whole_one sum size site device fault bytes from bs rs (logged H) pre s post fits.holds big whole short place_small slot_small fresh b rest closed recorded (take k s.sealed) split none reach first least to reached
-      (subst (λ (l : List BegunSegment). StandsAmong sum size (padded to old) site from l reach (logged H) first) (begun_is pre s post) among) in
-      subst (λ (l : List BegunSegment). StandsAmong sum size (padded to new) site from l reach (logged H) first) (sym (begun_is pre grown post))
-      (subst (λ (cs : List Sealed). StandsAmong sum size (padded to new) site from (map begun_segment pre ++ grown_one (begun_segment s) (run_end s.written_len cs) ∷ map begun_segment post) reach (logged H) first) (sym (written_around k s.sealed b there))
-      (subst (λ (l : List ℕ). StandsAmong sum size l site from (map begun_segment pre ++ grown_one (begun_segment s) (run_end s.written_len (take k s.sealed ++ now_written b ∷ rest)) ∷ map begun_segment post) reach (logged H) first) (overwritten-further to old (s.site.slot + at) asked some) one))
+      (subst (λ (l : List BegunSegment). StandsAmong sum (held_since size marks first) size (padded to old) site from l reach (logged H) first) (begun_is pre s post) among) in
+      subst (λ (l : List BegunSegment). StandsAmong sum (held_since size marks first) size (padded to new) site from l reach (logged H) first) (sym (begun_is pre grown post))
+      (subst (λ (cs : List Sealed). StandsAmong sum (held_since size marks first) size (padded to new) site from (map begun_segment pre ++ grown_one (begun_segment s) (run_end s.written_len cs) ∷ map begun_segment post) reach (logged H) first) (sym (written_around k s.sealed b there))
+      (subst (λ (l : List ℕ). StandsAmong sum (held_since size marks first) size l site from (map begun_segment pre ++ grown_one (begun_segment s) (run_end s.written_len (take k s.sealed ++ now_written b ∷ rest)) ∷ map begun_segment post) reach (logged H) first) (overwritten-further to old (s.site.slot + at) asked some) one))
 
-  beyond_new : NoHeaderOfZeros sum → (to : ℕ) → site.slot ≤ to → StandsAmong sum size (padded to new) site from (map begun_segment (pre ++ grown ∷ post)) reach (logged H) first
+  beyond_new : NoHeaderOfZeros sum → (to : ℕ) → site.slot ≤ to → StandsAmong sum (held_since size marks first) size (padded to new) site from (map begun_segment (pre ++ grown ∷ post)) reach (logged H) first
   beyond_new none to far =
       let both : ℕ = max to s.site.slot in
-      subst (λ (l : List ℕ). StandsAmong sum size l site from (map begun_segment (pre ++ grown ∷ post)) reach (logged H) first) (padded_max to s.site.slot new its_reach)
+      subst (λ (l : List ℕ). StandsAmong sum (held_since size marks first) size l site from (map begun_segment (pre ++ grown ∷ post)) reach (logged H) first) (padded_max to s.site.slot new its_reach)
       (written_in none both (let long = padded_long both old in omega (arith, long)) (fits.beyond both (omega (arith, far)) whole none))
 
   -- The file itself may end in front of the slot, and then it stands with zeros up to there.
-  among_new : NoHeaderOfZeros sum → StandsAmong sum size new site from (map begun_segment (pre ++ grown ∷ post)) reach (logged H) first
+  among_new : NoHeaderOfZeros sum → StandsAmong sum (held_since size marks first) size new site from (map begun_segment (pre ++ grown ∷ post)) reach (logged H) first
   among_new none = elim (cases_lt (length old) s.site.slot) [
     | inl ends ↦ (
         let filled : List ℕ = padded s.site.slot old in
         let far : ℕ = max site.slot s.site.slot in
         let long : length filled ≡ s.site.slot = omega (arith, length-padded s.site.slot old, ends) in
-        let with_more : StandsAmong sum size (padded far filled) site from (map begun_segment (pre ++ s ∷ post)) reach (logged H) first =
-        subst (λ (l : List ℕ). StandsAmong sum size l site from (map begun_segment (pre ++ s ∷ post)) reach (logged H) first) (sym (padded_twice s.site.slot far old (omega arith))) (fits.beyond far (omega arith) whole none) in
+        let with_more : StandsAmong sum (held_since size marks first) size (padded far filled) site from (map begun_segment (pre ++ s ∷ post)) reach (logged H) first =
+        subst (λ (l : List ℕ). StandsAmong sum (held_since size marks first) size l site from (map begun_segment (pre ++ s ∷ post)) reach (logged H) first) (sym (padded_twice s.site.slot far old (omega arith))) (fits.beyond far (omega arith) whole none) in
         let stands = shorter_stands sum none size big filled (subst (λ n. n % size ≡ 0) (sym long) slot_begins) far (logged H) reach first with_more in
-        subst (λ (l : List ℕ). StandsAmong sum size l site from (map begun_segment (pre ++ grown ∷ post)) reach (logged H) first) (padded_none s.site.slot new its_reach) (written_in none s.site.slot (omega (arith, long)) stands))
+        subst (λ (l : List ℕ). StandsAmong sum (held_since size marks first) size l site from (map begun_segment (pre ++ grown ∷ post)) reach (logged H) first) (padded_none s.site.slot new its_reach) (written_in none s.site.slot (omega (arith, long)) stands))
     | inr reached ↦ (
         let same : padded 0 old ≡ old = padded_none 0 old (omega arith) in
-        subst (λ (l : List ℕ). StandsAmong sum size l site from (map begun_segment (pre ++ grown ∷ post)) reach (logged H) first) (padded_none 0 new (omega arith))
-        (written_in none 0 (omega (arith, reached, ap length same)) (subst (λ (l : List ℕ). StandsAmong sum size l site from (map begun_segment (pre ++ s ∷ post)) reach (logged H) first) (sym same) (fits.among whole none))))
+        subst (λ (l : List ℕ). StandsAmong sum (held_since size marks first) size l site from (map begun_segment (pre ++ grown ∷ post)) reach (logged H) first) (padded_none 0 new (omega arith))
+        (written_in none 0 (omega (arith, reached, ap length same)) (subst (λ (l : List ℕ). StandsAmong sum (held_since size marks first) size l site from (map begun_segment (pre ++ s ∷ post)) reach (logged H) first) (sym same) (fits.among whole none))))
   ]
 
   stands_new : NoHeaderOfZeros sum → StandsTo sum size new (logged H) (stable_below reach H.batches) first reach
@@ -153,11 +155,11 @@ module _ (sum : List ℕ → ℕ) (size : ℕ) (site : SegmentPosition) (device 
   pub behind-along : Along (LeavesRecovering sum size H (stable_below reach H.batches) f) (Wrote (s.site.slot + at) asked asked ∷ Synced ∷ []) device
   behind-along = moments.write_along sum size big device rest_now H f first reach reach (omega arith) ordered fits.items.stored fits.named.names fits.items.blobs fits.left (s.site.slot + at) asked torn stands_new
 
-  holds_new : HoldsIn sum (log_parts size site after_sync fault bytes from bs rs) (pre ++ grown ∷ post) (logged H)
+  holds_new : HoldsIn sum marks (log_parts size site after_sync fault bytes from bs rs) (pre ++ grown ∷ post) (logged H)
   holds_new = behind-written sum size site device fault bytes from bs rs (logged H) pre s post fits.holds big whole short are held place_small slot_small fresh k b there ready after_sync refl refl
 
   -- Behind them the log fits the history: what was reached stays.
-  pub behind-fits-written : FitsIn sum (log_parts size site after_sync fault bytes from bs rs) (pre ++ grown ∷ post) reach pins H A f U
+  pub behind-fits-written : FitsIn sum marks (log_parts size site after_sync fault bytes from bs rs) (pre ++ grown ∷ post) reach pins H A f U
   unfolding holds_new
   behind-fits-written = record {
     holds = holds_new;

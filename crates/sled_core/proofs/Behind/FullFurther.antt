@@ -23,6 +23,7 @@ use Rattle.sled_core.specs.Recoverable.{NoHeaderOfZeros}
 use Rattle.sled_core.specs.inside.Running.{BlobsFit, KeepsEntries, KeepsItems}
 use Rattle.sled_core.specs.Scan.{IsScan}
 use Rattle.sled_core.specs.Tail.{Scanned}
+use Rattle.sled_core.specs.declared.logger.joined_marks.JoinedMarks.{JoinedMarks}
 use Rattle.sled_core.proofs.Behind.FullHolds.{emptied, none_reserved, none_sealed}
 use Rattle.sled_core.proofs.Behind.FullNext.{at_place, follow, full_file, full_here, here, holds_now, ordered, rest}
 use Rattle.sled_core.proofs.Behind.FullRead.{ends_read, inside, no_batch_behind, no_end_behind, none_behind, same_stop}
@@ -38,9 +39,10 @@ use Rattle.sled_core.proofs.Sealed.FullSegment.{full_why}
 use Rattle.sled_core.proofs.Tail.Multiples.{next_multiple, one_multiple}
 use Rattle.sled_core.proofs.Tail.OneTail.{segment_there}
 use Rattle.sled_core.proofs.Torn.WrittenParts.{path_rises}
+use Rattle.sled_core.specs.inside.LogSegments.{held_since}
 
 module _ (sum : List ℕ → ℕ) (size : ℕ) (device : State) (fault : Option IoError) (place : ℕ) (s : SegmentParts) (ss : List SegmentParts) {reach pins : ℕ} {H : History} {A f : ℕ} {U : List Message}
-    (fits : FitsFull sum size device fault place (s ∷ ss) reach pins H A f U) (big : 256 ≤ size) (whole : fault ≡ None) (full : s.written_len ≡ size) where
+    {marks : JoinedMarks} (fits : FitsFull sum marks size device fault place (s ∷ ss) reach pins H A f U) (big : 256 ≤ size) (whole : fault ≡ None) (full : s.written_len ≡ size) where
   begins : s.site.place ≡ place
   begins = at_place sum size device fault place s ss fits big whole
 
@@ -53,7 +55,7 @@ module _ (sum : List ℕ → ℕ) (size : ℕ) (device : State) (fault : Option 
   some_written : 0 < s.written_len
   some_written = omega (arith, full, big)
 
-  abbrev holds_full : HoldsIn sum (log_parts size s.site device fault s.bytes size [] []) ss (logged H)
+  abbrev holds_full : HoldsIn sum marks (log_parts size s.site device fault s.bytes size [] []) ss (logged H)
   holds_full =
       let next = here sum size device fault place s ss fits big whole in
       emptied sum size s.site device fault s.bytes s.written_len s.sealed s.reserved ss (logged H) (holds_now sum size device fault place s ss fits big whole) full
@@ -63,7 +65,7 @@ module _ (sum : List ℕ → ℕ) (size : ℕ) (device : State) (fault : Option 
   -- Where it stands so, up to a place no lower, behind all messages of the segment.
   module _ (reach' : ℕ) (up : reach ≤ reach') (near' : reach' ≤ s.site.place + size) (ends' : (m : Message) → Contains (logged H).messages m → m.place < s.site.place + size → (m.place < reach') × (m.place + m.size ≤ reach'))
       (no_batch' : NoBatchBegins (logged H) reach' (s.site.place + size)) (no_end' : NoBatchEnds (logged H) reach' (s.site.place + size))
-      (stands : (to : ℕ) → NoHeaderOfZeros sum → StandsFull sum size (padded to device.log.bytes) (s.site.place + size) (map begun_segment ss) reach' (logged H) fits.holds.begun.first) where
+      (stands : (to : ℕ) → NoHeaderOfZeros sum → StandsFull sum (held_since size marks fits.holds.begun.first) size (padded to device.log.bytes) (s.site.place + size) (map begun_segment ss) reach' (logged H) fits.holds.begun.first) where
     abbrev stable : ℕ
     stable = stable_below reach' H.batches
 
@@ -79,7 +81,7 @@ module _ (sum : List ℕ → ℕ) (size : ℕ) (device : State) (fault : Option 
     blobs_now : BlobsFit sum device.blobs H stable
     blobs_now = blobs_higher sum device.blobs H (stable_below reach H.batches) stable ascends rises fits.items.stored fits.items.blobs
 
-    fits_further : FitsFull sum size device fault (s.site.place + size) ss reach' pins H A f U
+    fits_further : FitsFull sum marks size device fault (s.site.place + size) ss reach' pins H A f U
     fits_further = record {
       site = s.site;
       bytes = s.bytes;
@@ -102,12 +104,12 @@ module _ (sum : List ℕ → ℕ) (size : ℕ) (device : State) (fault : Option 
       passes = let passes = fits.passes in let up = rises in omega (arith, passes, up);
       pinned = fits.pinned;
       left = settled_recoverable sum size big device H stable f fits.holds.begun.first reach' ascends stored_now (rest sum size device fault place s ss fits big whole) fits.named.names blobs_now
-          (λ zeros. (subst (λ (l : List ℕ). StandsFull sum size l (s.site.place + size) (map begun_segment ss) reach' (logged H) fits.holds.begun.first) (padded_none 0 device.log.bytes (omega arith)) (stands 0 zeros)).stands);
+          (λ zeros. (subst (λ (l : List ℕ). StandsFull sum (held_since size marks fits.holds.begun.first) size l (s.site.place + size) (map begun_segment ss) reach' (logged H) fits.holds.begun.first) (padded_none 0 device.log.bytes (omega arith)) (stands 0 zeros)).stands);
     }
 
   -- How it is read in a file where all before it is.
-  module _ (log : List ℕ) (is : StandsFull sum size log place (map begun_segment (s ∷ ss)) reach (logged H) fits.holds.begun.first) where
-    abbrev full_now : StandsFull sum size log s.site.place (map begun_segment (s ∷ ss)) reach (logged H) fits.holds.begun.first
+  module _ (log : List ℕ) (is : StandsFull sum (held_since size marks fits.holds.begun.first) size log place (map begun_segment (s ∷ ss)) reach (logged H) fits.holds.begun.first) where
+    abbrev full_now : StandsFull sum (held_since size marks fits.holds.begun.first) size log s.site.place (map begun_segment (s ∷ ss)) reach (logged H) fits.holds.begun.first
     full_now = full_here sum size device fault place s ss fits big whole log is
 
     abbrev its_read : (stop : ℕ) × (why : ScanEnd) × IsReadTo full_now.stands.scanned s.site.slot s.site.place stop why × IsSoFar size s.written_len stop why × (s.written_len ≡ size → records_to s.filled size ≤ stop)
@@ -182,7 +184,7 @@ module _ (sum : List ℕ → ℕ) (size : ℕ) (device : State) (fault : Option 
           no_end = λ c there. elim (no_end_behind sum size log big (logged H) (stable_below reach H.batches) fits.holds.begun.first reach full_now.stands ascends r.scan r.there scan_goes c there) [ inl low ↦ inl (omega (arith, low, at, ended)) | inr past ↦ inr (omega (arith, past, at)) ];
         }
 
-    stands_further : StandsFull sum size log (s.site.place + size) (map begun_segment ss) (s.site.place + stop) (logged H) fits.holds.begun.first
+    stands_further : StandsFull sum (held_since size marks fits.holds.begun.first) size log (s.site.place + size) (map begun_segment ss) (s.site.place + stop) (logged H) fits.holds.begun.first
     stands_further = next_full sum size big log (begun_segment s) (map begun_segment ss) reach (logged H) fits.holds.begun.first full_now (follow sum size device fault place s ss fits big whole) ascends some_written
         goes (let header = behind_header in omega (arith, header)) begins_next
 
@@ -207,8 +209,8 @@ module _ (sum : List ℕ → ℕ) (size : ℕ) (device : State) (fault : Option 
   ]
 
   -- So all before the next place is on the device.
-  pub full_further : (now : ℕ) × FitsFull sum size device fault (place + size) ss now pins H A f U
-  full_further = subst (λ n. (now : ℕ) × FitsFull sum size device fault (n + size) ss now pins H A f U) begins (elim (zeros_or_not sum) [
+  pub full_further : (now : ℕ) × FitsFull sum marks size device fault (place + size) ss now pins H A f U
+  full_further = subst (λ n. (now : ℕ) × FitsFull sum marks size device fault (n + size) ss now pins H A f U) begins (elim (zeros_or_not sum) [
     | inl zeros ↦ (
         let here_file = full_file sum size device fault place s ss fits big whole zeros in
         let near = fits.reached.near in
@@ -217,7 +219,7 @@ module _ (sum : List ℕ → ℕ) (size : ℕ) (device : State) (fault : Option 
           s.site.place + stop device.log.bytes here_file,
           fits_further (s.site.place + stop device.log.bytes here_file) (omega (arith, near, at)) (omega (arith, short)) (ends_here device.log.bytes here_file)
               (begins_next device.log.bytes here_file).no_batch (begins_next device.log.bytes here_file).no_end
-              (λ to none. subst (λ n. StandsFull sum size (padded to device.log.bytes) (s.site.place + size) (map begun_segment ss) (s.site.place + n) (logged H) fits.holds.begun.first) (same_end zeros to)
+              (λ to none. subst (λ n. StandsFull sum (held_since size marks fits.holds.begun.first) size (padded to device.log.bytes) (s.site.place + size) (map begun_segment ss) (s.site.place + n) (logged H) fits.holds.begun.first) (same_end zeros to)
               (stands_further (padded to device.log.bytes) (fits.beyond to whole zeros))),
         ))
     | inr never ↦ (let near = fits.reached.near in let at = begins in (

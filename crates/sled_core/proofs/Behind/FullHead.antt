@@ -58,7 +58,7 @@ module _ (sum : List ℕ → ℕ) (none : NoHeaderOfZeros sum) (size : ℕ) (som
     (fresh : b.is_written ≡ false) (closed : b.open_count ≡ 0) (are : AreSealed from rs (b ∷ rest)) (rise : EndsRise from (b ∷ rest) size) (inside : b.end ≤ length bytes)
     (stand : All (Stands sum size (site.place / size) bytes) rs)
     {H : History} (header : from ≡ 0 → HasMark sum site bytes H)
-    (laid : Laid file site.slot bytes from (b ∷ rest) size) {others : List BegunSegment} (reach : ℕ) (first : SnapshotModel) (alone : StandsAmong sum size file site from others reach H first) where
+    (laid : Laid file site.slot bytes from (b ∷ rest) size) {others : List BegunSegment} (reach : ℕ) (first : SnapshotModel) {held : ℕ} (alone : StandsAmong sum held size file site from others reach H first) where
   abbrev asked : List ℕ
   asked = bytes_between bytes from b.end
 
@@ -102,7 +102,7 @@ module _ (sum : List ℕ → ℕ) (none : NoHeaderOfZeros sum) (size : ℕ) (som
     -- All of it, where the file reaches up to the slot.
     module _ (ordered : Ascends H.messages) (there : site.slot ≤ length file) (low_enough : least_place size first ≤ site.place) (has_header : HasHeader sum new site) where
       -- a padding alone is written, where no header has room
-      alone_rest : size < from + 32 → StandsFull sum size new (site.place + size) others (site.place + last) H first
+      alone_rest : size < from + 32 → StandsFull sum held size new (site.place + size) others (site.place + last) H first
       alone_rest full =
           let begun : 0 < from = omega (arith, some, full) in
           let at : last ≡ from =
@@ -110,16 +110,16 @@ module _ (sum : List ℕ → ℕ) (none : NoHeaderOfZeros sum) (size : ℕ) (som
           let reached : reach ≡ site.place + from = elim alone.reached [ inl here ↦ here | inr next ↦ absurd (let none_yet = next.0 in omega (arith, none_yet, begun)) ] in
           let nothing : NoMessageBegins H (site.place + last) (site.place + size) × NoBatchBegins H (site.place + last) (site.place + size) = elim run.records.last [ inl l ↦ absurd (let same = l.1 in let far = run.far in omega (arith, same, at, far, rise.0)) | inr f ↦ run.none_filled H has f ] in
           let goes : records_why size done stop ≢ Broken = elim run.records.last [ inl l ↦ absurd (let same = l.1 in let far = run.far in omega (arith, same, at, far, rise.0)) | inr f ↦ λ broken. never_broken size last (sym f.reason ∙ broken) ] in
-          let among : StandsAmong sum size new site from others reach H first =
+          let among : StandsAmong sum held size new site from others reach H first =
           gap_written sum size some file site from others reach H first alone site from asked within slot_begins there refl
-          (rest_stands sum size some file site from from asked within slot_begins (omega arith) left_over full reach H first alone.stands alone.here alone.held there) in
-          subst (λ n. StandsFull sum size new (site.place + size) others (site.place + n) H first) (sym at)
-          (full_among sum size some new site place_begins from begun (omega (arith, left_over)) full H first low_enough (subst (λ n. StandsAmong sum size new site from others n H first) reached among)
+          (rest_stands sum size some file site from from asked within slot_begins (omega arith) left_over full reach H first alone.stands alone.here there) in
+          subst (λ n. StandsFull sum held size new (site.place + size) others (site.place + n) H first) (sym at)
+          (full_among sum size some new site place_begins from begun (omega (arith, left_over)) full H first low_enough (subst (λ n. StandsAmong sum held size new site from others n H first) reached among)
           (subst (λ n. NoMessageBegins H (site.place + n) (site.place + size)) at nothing.0)
           (subst (λ n. NoBatchBegins H (site.place + n) (site.place + size)) at nothing.1)
           (subst (λ n. NoBatchEnds H (site.place + n) (site.place + size)) at (no_end goes)))
 
-      pub head_full : stop ≡ size → StandsFull sum size new (site.place + size) others (site.place + last) H first
+      pub head_full : stop ≡ size → StandsFull sum held size new (site.place + size) others (site.place + last) H first
       head_full ends = elim (cases_lt size (from + 32)) [
         | inl full ↦ alone_rest full
         | inr room ↦ head_sealed_filled sum none size some file site place_begins slot_begins place_small slot_small bytes from begins rs b rest fresh closed are rise inside stand room header laid reach first alone has no_end
@@ -135,11 +135,11 @@ pub first_full : (sum : List ℕ → ℕ) (size : ℕ) (some : 256 ≤ size) (ol
     → All (Stands sum size (site.place / size) bytes) rs → NoHeaderOfZeros sum → (reach : ℕ) (first : SnapshotModel) → HasOnly H (completed_in site bytes (take (b.count + run_count rest) rs)) (batches_in site bytes (take (b.count + run_count rest) rs)) (site.place + max 20 from) (site.place + run_end b.end rest)
     → (records_why size (take (b.count + run_count rest) rs) (run_end b.end rest) ≢ Broken → NoBatchEnds H (site.place + records_end (take (b.count + run_count rest) rs) (run_end b.end rest)) (site.place + size))
     → Ascends H.messages → least_place size first ≤ site.place → run_end b.end rest ≡ size
-    → (to : ℕ) → site.slot ≤ to → {others : List BegunSegment} → StandsAmong sum size (padded to old) site from others reach H first
-    → StandsFull sum size (padded to (overwritten old (site.slot + from) (bytes_between bytes from b.end))) (site.place + size) others (site.place + records_end (take (b.count + run_count rest) rs) (run_end b.end rest)) H first
-first_full sum size some old site place_begins slot_begins place_small slot_small bytes from begins rs b rest fresh closed are rise inside {H} header old_header laid stand zeros reach first has no_end ordered low ends to far {others} alone =
+    → (to : ℕ) → site.slot ≤ to → {others : List BegunSegment} → {held : ℕ} → StandsAmong sum held size (padded to old) site from others reach H first
+    → StandsFull sum held size (padded to (overwritten old (site.slot + from) (bytes_between bytes from b.end))) (site.place + size) others (site.place + records_end (take (b.count + run_count rest) rs) (run_end b.end rest)) H first
+first_full sum size some old site place_begins slot_begins place_small slot_small bytes from begins rs b rest fresh closed are rise inside {H} header old_header laid stand zeros reach first has no_end ordered low ends to far {others} {held} alone =
     let same = same_file sum size some old site place_begins slot_begins place_small slot_small bytes from begins rs b rest fresh closed are rise inside {H = H} header old_header laid to in
-    subst (λ (l : List ℕ). StandsFull sum size l (site.place + size) others (site.place + records_end (take (b.count + run_count rest) rs) (run_end b.end rest)) H first) same
+    subst (λ (l : List ℕ). StandsFull sum held size l (site.place + size) others (site.place + records_end (take (b.count + run_count rest) rs) (run_end b.end rest)) H first) same
     (head_full sum zeros size some (padded to old) site place_begins slot_begins place_small slot_small bytes from begins rs b rest fresh closed are rise inside stand {H = H} header
     (laid_filled sum size some old site place_begins slot_begins place_small slot_small bytes from begins rs b rest fresh closed are rise inside {H = H} header old_header laid to) reach first alone has no_end
     ordered (omega (arith, padded_long to old, far)) low (subst (λ (l : List ℕ). HasHeader sum l site) (sym same) (padded_header sum size some old site place_begins slot_begins place_small slot_small bytes from begins rs b rest fresh closed are rise inside {H = H} header old_header laid to)) ends)

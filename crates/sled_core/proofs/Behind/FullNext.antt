@@ -5,9 +5,10 @@ use Rattle.std.specs.declared.io.Error.{Error as IoError}
 use Rattle.std.proofs.lemmas.Bool.{cases_lt}
 use Rattle.std.proofs.lemmas.List.Elements.{All-contains}
 use Rattle.sled_codec.specs.History.{History, Message}
-use Rattle.sled_codec.specs.Snapshots.{SnapshotModel, stable_place}
+use Rattle.sled_codec.specs.Snapshots.{SnapshotModel}
 use Rattle.sled_store.specs.Device.{State, at_rest}
 use Rattle.sled_store.proofs.Histories.Ascending.{Ascends}
+use Rattle.sled_core.specs.Fits.{held_of}
 use Rattle.sled_core.specs.Begun.{SegmentParts}
 use Rattle.sled_core.specs.inside.Fits.{HoldsIn, HoldsNext, begun_segment, log_parts}
 use Rattle.sled_core.specs.inside.Full.{FitsFull, StandsFull}
@@ -17,6 +18,7 @@ use Rattle.sled_core.specs.OpenBatches.{stable_below}
 use Rattle.sled_core.specs.inside.Reached.{FollowApart, StandsAmong}
 use Rattle.sled_core.specs.inside.Recoverable.{NoBatchBegins, NoBatchEnds}
 use Rattle.sled_core.specs.Recoverable.{NoHeaderOfZeros}
+use Rattle.sled_core.specs.declared.logger.joined_marks.JoinedMarks.{JoinedMarks}
 use Rattle.sled_core.specs.inside.Running.{BlobsFit, FitsIn, KeepsEntries, KeepsItems}
 use Rattle.sled_core.proofs.Behind.Promoted.{promoted}
 use Rattle.sled_core.proofs.Sealed.Padded.{padded_none}
@@ -25,13 +27,14 @@ use Rattle.sled_core.proofs.Holds.ReachLemmas.{written_before}
 use Rattle.sled_core.proofs.Holds.WholeHistory.{later_above, of_first, which_part, whole_ascends}
 use Rattle.sled_core.proofs.Reached.NextSegment.{next_begins, next_goes, read}
 use Rattle.sled_core.proofs.Reached.StableBelow.{stable_rises}
+use Rattle.sled_core.specs.inside.LogSegments.{held_since}
 
 module _ (sum : List ℕ → ℕ) (size : ℕ) (device : State) (fault : Option IoError) (place : ℕ) (s : SegmentParts) (ss : List SegmentParts) {reach pins : ℕ} {H : History} {A f : ℕ} {U : List Message}
-    (fits : FitsFull sum size device fault place (s ∷ ss) reach pins H A f U) (big : 256 ≤ size) (whole : fault ≡ None) where
+    {marks : JoinedMarks} (fits : FitsFull sum marks size device fault place (s ∷ ss) reach pins H A f U) (big : 256 ≤ size) (whole : fault ≡ None) where
   abbrev pub first : SnapshotModel
   first = fits.holds.begun.first
 
-  abbrev pub here : HoldsNext sum size device fault (fits.site.place + size) s (StaysBelow (logged H) (stable_place first.stable) fits.site.place) H.batches fits.holds.others.0
+  abbrev pub here : HoldsNext sum size device fault (fits.site.place + size) s (StaysBelow (logged H) (held_of fits.holds.begun) fits.site.place) H.batches fits.holds.others.0
   here = fits.holds.others.3
 
   -- it begins at the place
@@ -39,7 +42,7 @@ module _ (sum : List ℕ → ℕ) (size : ℕ) (device : State) (fault : Option 
   at_place = here.next ∙ fits.next
 
   -- what the log holds with it as the first one
-  abbrev pub holds_now : HoldsIn sum (log_parts size s.site device fault s.bytes s.written_len s.sealed s.reserved) ss (logged H)
+  abbrev pub holds_now : HoldsIn sum marks (log_parts size s.site device fault s.bytes s.written_len s.sealed s.reserved) ss (logged H)
   holds_now = promoted sum size fits.site device fault fits.bytes size [] [] (logged H) s ss fits.holds big refl refl
 
   pub ordered : Ascends (logged H).messages
@@ -53,13 +56,13 @@ module _ (sum : List ℕ → ℕ) (size : ℕ) (device : State) (fault : Option 
   follow = fits.holds.apart.1
 
   -- the file itself stands as with nothing behind its end
-  pub full_file : NoHeaderOfZeros sum → StandsFull sum size device.log.bytes place (map begun_segment (s ∷ ss)) reach (logged H) first
-  full_file zeros = subst (λ (l : List ℕ). StandsFull sum size l place (map begun_segment (s ∷ ss)) reach (logged H) first) (padded_none 0 device.log.bytes (omega arith)) (fits.beyond 0 whole zeros)
+  pub full_file : NoHeaderOfZeros sum → StandsFull sum (held_since size marks first) size device.log.bytes place (map begun_segment (s ∷ ss)) reach (logged H) first
+  full_file zeros = subst (λ (l : List ℕ). StandsFull sum (held_since size marks first) size l place (map begun_segment (s ∷ ss)) reach (logged H) first) (padded_none 0 device.log.bytes (omega arith)) (fits.beyond 0 whole zeros)
 
   -- Where it stands as far as it was written, up to a place no lower, behind all messages that are written then.
   module _ (reach' : ℕ) (up : reach ≤ reach') (near' : reach' ≤ s.site.place + s.written_len) (ends' : (m : Message) → Contains (logged H).messages m → m.place < s.site.place + s.written_len → (m.place < reach') × (m.place + m.size ≤ reach'))
       (no_batch' : NoBatchBegins (logged H) reach' (s.site.place + s.written_len)) (no_end' : NoBatchEnds (logged H) reach' (s.site.place + s.written_len))
-      (stands : (log : List ℕ) → StandsFull sum size log place (map begun_segment (s ∷ ss)) reach (logged H) first → StandsAmong sum size log s.site s.written_len (map begun_segment ss) reach' (logged H) first) where
+      (stands : (log : List ℕ) → StandsFull sum (held_since size marks first) size log place (map begun_segment (s ∷ ss)) reach (logged H) first → StandsAmong sum (held_since size marks first) size log s.site s.written_len (map begun_segment ss) reach' (logged H) first) where
     abbrev stable : ℕ
     stable = stable_below reach' H.batches
 
@@ -75,7 +78,7 @@ module _ (sum : List ℕ → ℕ) (size : ℕ) (device : State) (fault : Option 
     blobs_now : BlobsFit sum device.blobs H stable
     blobs_now = blobs_higher sum device.blobs H (stable_below reach H.batches) stable ordered rises fits.items.stored fits.items.blobs
 
-    fits_now : FitsIn sum (log_parts size s.site device fault s.bytes s.written_len s.sealed s.reserved) ss reach' pins H A f U
+    fits_now : FitsIn sum marks (log_parts size s.site device fault s.bytes s.written_len s.sealed s.reserved) ss reach' pins H A f U
     fits_now = record {
       holds = holds_now;
       reached = record {
@@ -109,20 +112,20 @@ module _ (sum : List ℕ → ℕ) (size : ℕ) (device : State) (fault : Option 
   ]
 
   -- it stands behind the full one in a file
-  pub full_here : (log : List ℕ) → StandsFull sum size log place (map begun_segment (s ∷ ss)) reach (logged H) first → StandsFull sum size log s.site.place (map begun_segment (s ∷ ss)) reach (logged H) first
-  full_here log full = subst (λ n. StandsFull sum size log n (map begun_segment (s ∷ ss)) reach (logged H) first) (sym at_place) full
+  pub full_here : (log : List ℕ) → StandsFull sum (held_since size marks first) size log place (map begun_segment (s ∷ ss)) reach (logged H) first → StandsFull sum (held_since size marks first) size log s.site.place (map begun_segment (s ∷ ss)) reach (logged H) first
+  full_here log full = subst (λ n. StandsFull sum (held_since size marks first) size log n (map begun_segment (s ∷ ss)) reach (logged H) first) (sym at_place) full
 
-  goes_on : 0 < s.written_len → s.written_len < size → (log : List ℕ) → StandsFull sum size log place (map begun_segment (s ∷ ss)) reach (logged H) first
-      → StandsAmong sum size log s.site s.written_len (map begun_segment ss) (s.site.place + s.written_len) (logged H) first
+  goes_on : 0 < s.written_len → s.written_len < size → (log : List ℕ) → StandsFull sum (held_since size marks first) size log place (map begun_segment (s ∷ ss)) reach (logged H) first
+      → StandsAmong sum (held_since size marks first) size log s.site s.written_len (map begun_segment ss) (s.site.place + s.written_len) (logged H) first
   goes_on some left_over log full =
-      let is : StandsFull sum size log s.site.place (map begun_segment (s ∷ ss)) reach (logged H) first = full_here log full in
+      let is : StandsFull sum (held_since size marks first) size log s.site.place (map begun_segment (s ∷ ss)) reach (logged H) first = full_here log full in
       let r = read sum size big log (begun_segment s) (map begun_segment ss) reach (logged H) first is follow ordered some in
       let at : r.0 ≡ s.written_len = elim r.3 [ inl ends ↦ ends.0 | inr ends ↦ absurd (let all = ends.0 in omega (arith, all, left_over)) ] in
-      subst (λ n. StandsAmong sum size log s.site s.written_len (map begun_segment ss) (s.site.place + n) (logged H) first) at
+      subst (λ n. StandsAmong sum (held_since size marks first) size log s.site s.written_len (map begun_segment ss) (s.site.place + n) (logged H) first) at
       (next_goes sum size big log (begun_segment s) (map begun_segment ss) reach (logged H) first is follow ordered some at)
 
   -- So the log fits the history, with that one as its first segment.
-  pub full_next : s.written_len < size → (now : ℕ) × FitsIn sum (log_parts size s.site device fault s.bytes s.written_len s.sealed s.reserved) ss now pins H A f U
+  pub full_next : s.written_len < size → (now : ℕ) × FitsIn sum marks (log_parts size s.site device fault s.bytes s.written_len s.sealed s.reserved) ss now pins H A f U
   full_next left_over = elim (cases_lt 0 s.written_len) [
     | inl some ↦ (
       s.site.place + s.written_len,
@@ -136,7 +139,7 @@ module _ (sum : List ℕ → ℕ) (size : ℕ) (device : State) (fault : Option 
           fits_now reach (omega arith) (let near = fits.reached.near in omega (arith, near, at)) (λ m there below. fits.reached.ends m there (omega (arith, below, none, at)))
               (λ b there. elim (fits.reached.no_batch b there) [ inl low ↦ inl low | inr far ↦ inr (omega (arith, far, none, at)) ])
               (λ b there. elim (fits.reached.no_end b there) [ inl low ↦ inl low | inr far ↦ inr (omega (arith, far, none, at)) ])
-              (λ log full. subst (λ n. StandsAmong sum size log s.site n (map begun_segment ss) reach (logged H) first) (sym none)
+              (λ log full. subst (λ n. StandsAmong sum (held_since size marks first) size log s.site n (map begun_segment ss) reach (logged H) first) (sym none)
               (next_begins sum size big log (begun_segment s) (map begun_segment ss) reach (logged H) first (full_here log full) follow none)),
         ))
   ]

@@ -4,13 +4,13 @@ use Rattle.std.specs.List.{All, slice_get}
 use Rattle.std.specs.declared.io.Error.{Error as IoError}
 use Rattle.std.proofs.lemmas.List.Elements.{All-take}
 use Rattle.sled_codec.specs.History.{Message, History}
-use Rattle.sled_codec.specs.Snapshots.{stable_place}
 use Rattle.sled_store.specs.Device.{State, Wrote, Synced, step}
 use Rattle.sled_core.specs.declared.iobuf.Reserved.{Reserved}
 use Rattle.sled_core.specs.declared.iobuf.Sealed.{Sealed}
 use Rattle.sled_core.specs.declared.iobuf.SegmentPosition.{SegmentPosition}
 use Rattle.sled_core.specs.inside.Buffers.{NoPadding, Stands}
 use Rattle.sled_core.specs.Begun.{SegmentParts}
+use Rattle.sled_core.specs.Fits.{held_of}
 use Rattle.sled_core.specs.inside.Fits.{HoldsSegment, begun_segment, log_parts}
 use Rattle.sled_core.specs.inside.Full.{FitsFull, StandsFull}
 use Rattle.sled_core.specs.LogFile.{StaysFrom}
@@ -18,6 +18,7 @@ use Rattle.sled_core.specs.Logged.{logged}
 use Rattle.sled_core.specs.inside.Running.{FitsIn}
 use Rattle.sled_core.specs.inside.SealedBuffers.{AreSealed, FirstUnwritten, behind_run, is_ready, now_written, run_count, run_end, written_at}
 use Rattle.sled_core.specs.SealedBuffers.{bytes_between, sealed_end}
+use Rattle.sled_core.specs.declared.logger.joined_marks.JoinedMarks.{JoinedMarks}
 use Rattle.sled_core.proofs.Behind.FullHead.{plain_run}
 use Rattle.sled_core.proofs.Behind.FullHolds.{emptied, none_reserved, none_sealed, rise_behind}
 use Rattle.sled_core.proofs.Flush.FlushLemmas.{holds_over}
@@ -30,6 +31,7 @@ use Rattle.sled_core.proofs.Reserve.Ranges.{there_split}
 use Rattle.sled_core.proofs.Sealed.LaidLemmas.{EndsRise, ends_below}
 use Rattle.sled_core.proofs.Sealed.Marked.{written_are, ready_closed, written_around}
 use Rattle.sled_core.proofs.Sealed.Runs.{run_of}
+use Rattle.sled_core.specs.inside.LogSegments.{held_since}
 
 module _ (sum : List ℕ → ℕ) (size : ℕ) (site : SegmentPosition) (device : State) (fault : Option IoError) (bytes : List ℕ) (from : ℕ) (b : Sealed) (rest : List Sealed) (rs : List Reserved) (behind : List SegmentParts) (reach pins : ℕ) (H : History) (A f : ℕ) (U : List Message)
     (short : length bytes ≤ size) (big : 256 ≤ size) (place_small : site.place + size < 2 ^ 63) (slot_small : site.slot + size < 2 ^ 63) (closed : b.open_count ≡ 0) (whole : fault ≡ None) where
@@ -40,13 +42,13 @@ module _ (sum : List ℕ → ℕ) (size : ℕ) (site : SegmentPosition) (device 
   abbrev after : List Sealed → State
   after front = step Synced (step (Wrote (site.slot + sealed_end from front) (asked front) (asked front)) device)
 
-  full_around : (front : List Sealed) → FitsIn sum (log_parts size site device fault bytes from (front ++ b ∷ rest) rs) behind reach pins H A f U → AreSealed from rs (front ++ b ∷ rest) → FirstUnwritten (front ++ b ∷ rest) → EndsRise from (front ++ b ∷ rest) (length bytes)
-      → run_end from (front ++ now_written b ∷ rest) ≡ size → (now : ℕ) × FitsFull sum size (after front) fault (site.place + size) behind now pins H A f U
-  full_around [] fits are fresh rise filled =
+  full_around : (front : List Sealed) → {marks : JoinedMarks} → FitsIn sum marks (log_parts size site device fault bytes from (front ++ b ∷ rest) rs) behind reach pins H A f U → AreSealed from rs (front ++ b ∷ rest) → FirstUnwritten (front ++ b ∷ rest) → EndsRise from (front ++ b ∷ rest) (length bytes)
+      → run_end from (front ++ now_written b ∷ rest) ≡ size → (now : ℕ) × FitsFull sum marks size (after front) fault (site.place + size) behind now pins H A f U
+  full_around [] {marks} fits are fresh rise filled =
       let range = asked_range sum size site device fault bytes from b rest rs behind reach pins H A f U short big place_small slot_small closed whole [] are rise in
       let up = last_up sum size site device fault bytes from b rest rs (logged H) fits.holds short big place_small slot_small are fresh closed rise whole in
       let above = (stop_up from rs b rest closed are).0 in
-      let now : HoldsSegment sum (log_parts size site (after []) fault bytes (run_end b.end rest) (behind_run rest) (drop (b.count + run_count rest) rs)) (StaysFrom (logged H) (stable_place fits.holds.begun.first.stable)) (record { messages = fits.holds.head; batches = H.batches }) =
+      let now : HoldsSegment sum (log_parts size site (after []) fault bytes (run_end b.end rest) (behind_run rest) (drop (b.count + run_count rest) rs)) (StaysFrom (logged H) (held_of fits.holds.begun)) (record { messages = fits.holds.head; batches = H.batches }) =
       segment_first sum size site device fault bytes from b rest rs (record { messages = fits.holds.head; batches = H.batches }) fits.holds.own short big place_small slot_small are fresh closed rise whole (after []) refl in (
         site.place + last_whole sum size site device fault bytes from b rest rs (logged H) fits.holds short big place_small slot_small are fresh closed rise whole,
         fits_filled sum size site device fault bytes from (b ∷ rest) rs pins H A f U fits short big whole (run_end b.end rest) above (site.place + last_whole sum size site device fault bytes from b rest rs (logged H) fits.holds short big place_small slot_small are fresh closed rise whole)
@@ -54,7 +56,7 @@ module _ (sum : List ℕ → ℕ) (size : ℕ) (site : SegmentPosition) (device 
             (ends_full sum size site device fault bytes from b rest rs (logged H) fits.holds short big place_small slot_small are fresh closed rise whole filled)
             (rest_batches sum size site device fault bytes from b rest rs (logged H) fits.holds short big place_small slot_small are fresh closed rise whole filled)
             (site.slot + from) (asked []) (λ zeros. torn_first sum size site device fault bytes from b rest rs (logged H) fits.holds short big place_small slot_small are fresh closed rise whole reach zeros)
-            (λ (l : List ℕ) (is : StandsFull sum size l (site.place + size) (map begun_segment behind) (site.place + last_whole sum size site device fault bytes from b rest rs (logged H) fits.holds short big place_small slot_small are fresh closed rise whole)
+            (λ (l : List ℕ) (is : StandsFull sum (held_since size marks fits.holds.begun.first) size l (site.place + size) (map begun_segment behind) (site.place + last_whole sum size site device fault bytes from b rest rs (logged H) fits.holds short big place_small slot_small are fresh closed rise whole)
             (logged H) fits.holds.begun.first). is.stands)
             (λ zeros end far. full_first sum size site device fault bytes from b rest rs (logged H) fits.holds short big place_small slot_small are fresh closed rise whole filled reach zeros end far)
             (reaches_first sum size site device fault bytes from b rest rs (logged H) fits.holds short big place_small slot_small are fresh closed rise whole) filled
@@ -65,7 +67,7 @@ module _ (sum : List ℕ → ℕ) (size : ℕ) (site : SegmentPosition) (device 
             (none_reserved sum size site (after []) fault bytes (run_end b.end rest) (behind_run rest) (drop (b.count + run_count rest) rs) (record { messages = fits.holds.head; batches = H.batches }) now (omega (arith, filled, short))))
             refl (λ l is. is),
       )
-  full_around (x ∷ xs) fits are fresh rise filled = absurd (
+  full_around (x ∷ xs) {marks} fits are fresh rise filled = absurd (
       let none : run_end from (x ∷ xs ++ now_written b ∷ rest) ≡ from = not_first x (xs ++ now_written b ∷ rest) fresh in
       let up = rise.0 in
       let below = ends_below x.end (xs ++ b ∷ rest) (length bytes) rise.1 in
@@ -75,7 +77,7 @@ module _ (sum : List ℕ → ℕ) (size : ℕ) (site : SegmentPosition) (device 
       not_first y ys is = ap (λ (o : Bool). if o then run_end y.end ys else from) is
 
 module _ (sum : List ℕ → ℕ) (size : ℕ) (site : SegmentPosition) (device : State) (fault : Option IoError) (bytes : List ℕ) (from : ℕ) (bs : List Sealed) (rs : List Reserved) (pins : ℕ) (H : History) (A f : ℕ) (U : List Message)
-    {behind : List SegmentParts} {reach : ℕ} (fits : FitsIn sum (log_parts size site device fault bytes from bs rs) behind reach pins H A f U)
+    {behind : List SegmentParts} {reach : ℕ} {marks : JoinedMarks} (fits : FitsIn sum marks (log_parts size site device fault bytes from bs rs) behind reach pins H A f U)
     (short : length bytes ≤ size) (big : 256 ≤ size) (place_small : site.place + size < 2 ^ 63) (slot_small : site.slot + size < 2 ^ 63)
     (are : AreSealed from rs bs) (fresh : FirstUnwritten bs) (rise : EndsRise from bs (length bytes)) (whole : fault ≡ None) (k : ℕ) (b : Sealed) (there : slice_get bs k ≡ Some b) (ready : is_ready b ≡ true) where
   abbrev at_one : ℕ
@@ -97,9 +99,9 @@ module _ (sum : List ℕ → ℕ) (size : ℕ) (site : SegmentPosition) (device 
       (All-take (Stands sum size (site.place / size) bytes) (run_count now_one) rs fits.holds.own.records.stand)
 
   -- Where it ends with the segment, all of that is on the device.
-  pub fits_written_full : run_end from now_one ≡ size → (now : ℕ) × FitsFull sum size (step Synced (step (Wrote (site.slot + at_one) asked_one asked_one) device)) None (site.place + size) behind now pins H A f U
+  pub fits_written_full : run_end from now_one ≡ size → (now : ℕ) × FitsFull sum marks size (step Synced (step (Wrote (site.slot + at_one) asked_one asked_one) device)) None (site.place + size) behind now pins H A f U
   fits_written_full filled =
-      subst (λ (o : Option IoError). (now : ℕ) × FitsFull sum size (step Synced (step (Wrote (site.slot + at_one) asked_one asked_one) device)) o (site.place + size) behind now pins H A f U) whole
+      subst (λ (o : Option IoError). (now : ℕ) × FitsFull sum marks size (step Synced (step (Wrote (site.slot + at_one) asked_one asked_one) device)) o (site.place + size) behind now pins H A f U) whole
       (full_around sum size site device fault bytes from b (drop (suc k) bs) rs behind reach pins H A f U short big place_small slot_small (ready_closed b ready) whole (take k bs)
-      (subst (λ (cs : List Sealed). FitsIn sum (log_parts size site device fault bytes from cs rs) behind reach pins H A f U) split_one fits) (subst (λ (cs : List Sealed). AreSealed from rs cs) split_one are) (subst FirstUnwritten split_one fresh)
+      (subst (λ (cs : List Sealed). FitsIn sum marks (log_parts size site device fault bytes from cs rs) behind reach pins H A f U) split_one fits) (subst (λ (cs : List Sealed). AreSealed from rs cs) split_one are) (subst FirstUnwritten split_one fresh)
       (subst (λ (cs : List Sealed). EndsRise from cs (length bytes)) split_one rise) (subst (λ (cs : List Sealed). run_end from cs ≡ size) (written_around k bs b there) filled))

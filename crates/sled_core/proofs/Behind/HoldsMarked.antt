@@ -13,11 +13,13 @@ use Rattle.sled_core.specs.declared.iobuf.Reserved.{Reserved}
 use Rattle.sled_core.specs.declared.iobuf.Sealed.{Sealed}
 use Rattle.sled_core.specs.declared.iobuf.SegmentPosition.{SegmentPosition}
 use Rattle.sled_core.specs.Begun.{SegmentParts}
+use Rattle.sled_core.specs.Fits.{held_of}
 use Rattle.sled_core.specs.inside.Buffers.{ended, marking}
 use Rattle.sled_core.specs.inside.Fits.{HoldBehind, HoldsIn, HoldsNext, HoldsSegment, log_parts}
 use Rattle.sled_core.specs.inside.LogFile.{StaysBelow}
 use Rattle.sled_core.specs.LogFile.{StaysFrom}
 use Rattle.sled_core.specs.Manifests.{is_manifest}
+use Rattle.sled_core.specs.declared.logger.joined_marks.JoinedMarks.{JoinedMarks}
 use Rattle.sled_core.specs.inside.SealedBuffers.{one_ended}
 use Rattle.sled_core.proofs.Behind.Around.{HoldAround, apart_with, behind_below, behind_place, held_around, now_with, stays_below, together}
 use Rattle.sled_core.proofs.Behind.Calls.{ended_are, held_here}
@@ -47,12 +49,12 @@ end_before sum size device fault place (y ∷ ys) stays batches ms (own, later, 
 ]
 
 module _ (sum : List ℕ → ℕ) (size : ℕ) (site : SegmentPosition) (device : State) (fault : Option IoError) (bytes : List ℕ) (from : ℕ) (bs : List Sealed) (rs : List Reserved) (H : History)
-    (pre : List SegmentParts) (s : SegmentParts) (post : List SegmentParts) (holds : HoldsIn sum (log_parts size site device fault bytes from bs rs) (pre ++ s ∷ post) H)
+    (pre : List SegmentParts) (s : SegmentParts) (post : List SegmentParts) {marks : JoinedMarks} (holds : HoldsIn sum marks (log_parts size site device fault bytes from bs rs) (pre ++ s ∷ post) H)
     (short : length bytes ≤ size) (small_places : All InReach (pre ++ s ∷ post))
     (i : ℕ) (r : Reserved) (there : slice_get s.reserved i ≡ Some r) (is_open : r.state ≡ Open) (manifest : is_manifest r.log_kind r.page ≡ true)
     (peg : ℕ) (small : peg < 2 ^ 63) (later : s.site.place + r.from < peg) (off_first : LiesOff size site rs bytes peg) (offs : All (IsOff size peg) (pre ++ s ∷ post)) where
   abbrev stable : ℕ
-  stable = stable_place holds.begun.first.stable
+  stable = held_of holds.begun
 
   abbrev stays : Message → Type 0
   stays = stays_below sum size site device fault bytes from bs rs H pre s post holds
@@ -121,7 +123,7 @@ module _ (sum : List ℕ → ℕ) (size : ℕ) (site : SegmentPosition) (device 
       let far = behind_first in
       omega (arith, first, short, far)
 
-  past : stable ≤ b.low
+  past : stable_place holds.begun.first.stable ≤ b.low
   past = let reached = holds.begun.reached in let at = batch_past in omega (arith, at, reached)
 
   adds : AddsBatch H b now
@@ -186,7 +188,7 @@ module _ (sum : List ℕ → ℕ) (size : ℕ) (site : SegmentPosition) (device 
       (λ none. let m = holds.own.records.header none in let far = behind_first in less_than m.mark site.place b.low (omega (arith, far)) m.of_history.below))
 
   -- The log holds the history with the batch, begun from the same snapshot.
-  pub behind-holds-marked : HoldsIn sum (log_parts size site device fault bytes from bs rs) (pre ++ marked_now ∷ post) now
+  pub behind-holds-marked : HoldsIn sum marks (log_parts size site device fault bytes from bs rs) (pre ++ marked_now ∷ post) now
   behind-holds-marked = record {
     begun = begun-marks H now b adds sum size device.snapshots.file site from holds.begun past;
     head = holds.head;

@@ -25,6 +25,7 @@ use Rattle.sled_core.specs.inside.Recoverable.{NoBatchEnds}
 use Rattle.sled_core.specs.Recoverable.{NoHeaderOfZeros}
 use Rattle.sled_core.specs.inside.SealedBuffers.{AreSealed, FirstUnwritten, Laid, now_written, run_count, run_end}
 use Rattle.sled_core.specs.SealedBuffers.{bytes_between, sealed_end}
+use Rattle.sled_core.specs.declared.logger.joined_marks.JoinedMarks.{JoinedMarks}
 use Rattle.sled_core.specs.Tail.{least_place}
 use Rattle.sled_core.proofs.Behind.Around.{HoldAround, behind_place, held_around, stays_below}
 use Rattle.sled_core.proofs.Behind.Calls.{held_here}
@@ -49,7 +50,7 @@ use Rattle.sled_core.proofs.Sealed.OtherSealed.{other_sealed_written, torn_other
 use Rattle.sled_core.proofs.Torn.TornLemmas.{after_write}
 
 module _ (sum : List ℕ → ℕ) (size : ℕ) (site : SegmentPosition) (device : State) (fault : Option IoError) (bytes : List ℕ) (from : ℕ) (bs : List Sealed) (rs : List Reserved) (H : History)
-    (pre : List SegmentParts) (s : SegmentParts) (post : List SegmentParts) (holds : HoldsIn sum (log_parts size site device fault bytes from bs rs) (pre ++ s ∷ post) H)
+    (pre : List SegmentParts) (s : SegmentParts) (post : List SegmentParts) {marks : JoinedMarks} (holds : HoldsIn sum marks (log_parts size site device fault bytes from bs rs) (pre ++ s ∷ post) H)
     (big : 256 ≤ size) (whole : fault ≡ None) (short : length bytes ≤ size) (place_small : s.site.place + size < 2 ^ 63) (slot_small : s.site.slot + size < 2 ^ 63) (fresh : FirstUnwritten s.sealed)
     (b : Sealed) (rest : List Sealed) (closed : b.open_count ≡ 0) (recorded : records_to s.filled (length s.bytes) ≤ records_end s.reserved (length s.bytes)) where
   abbrev stays : Message → Type 0
@@ -189,7 +190,7 @@ module _ (sum : List ℕ → ℕ) (size : ℕ) (site : SegmentPosition) (device 
       omega (arith, up, less, ap (records_end s.reserved) long)
 
   -- What a crash leaves of the write.
-  pub torn_one : (front : List Sealed) → s.sealed ≡ front ++ b ∷ rest → NoHeaderOfZeros sum → (reach : ℕ) (first : SnapshotModel) → StandsAmong sum size old site from (before ++ y ∷ after) reach H first → (now left : List ℕ) → length now ≤ length (asked front)
+  pub torn_one : (front : List Sealed) → s.sealed ≡ front ++ b ∷ rest → NoHeaderOfZeros sum → (reach : ℕ) (first : SnapshotModel) → {held : ℕ} → StandsAmong sum held size old site from (before ++ y ∷ after) reach H first → (now left : List ℕ) → length now ≤ length (asked front)
       → LeavesLog (after_write old (s.site.slot + at front) (asked front) now) left → (placed : List Placement) → NoForeignLog sum size (after_write old (s.site.slot + at front) (asked front) now) placed left → StandsTo sum size left H (stable_below reach H.batches) first reach
   torn_one [] split none reach first among now left no_more leaves placed only_own =
       torn_other_sealed sum none size big old site from before y after here.segment.records.place_begins here.segment.records.slot_begins place_small slot_small s.bytes begins s.reserved b rest (fresh_split [] split) closed (are_split [] split) (rise_split [] split)
@@ -200,16 +201,16 @@ module _ (sum : List ℕ → ℕ) (size : ℕ) (site : SegmentPosition) (device 
 
   -- All of it, with zeros behind the end of the file, where this reaches its slot.
   pub whole_one : (front : List Sealed) → s.sealed ≡ front ++ b ∷ rest → NoHeaderOfZeros sum → (reach : ℕ) (first : SnapshotModel) → least_place size first ≤ site.place → (to : ℕ) → s.site.slot ≤ length (padded to old)
-      → StandsAmong sum size (padded to old) site from (before ++ y ∷ after) reach H first
-      → StandsAmong sum size (overwritten (padded to old) (s.site.slot + at front) (asked front)) site from (before ++ grown_one y (stop front) ∷ after) reach H first
+      → {held : ℕ} → StandsAmong sum held size (padded to old) site from (before ++ y ∷ after) reach H first
+      → StandsAmong sum held size (overwritten (padded to old) (s.site.slot + at front) (asked front)) site from (before ++ grown_one y (stop front) ∷ after) reach H first
   whole_one [] split none reach first least to there among =
       other_sealed_written sum none size big (padded to old) site from before y after here.segment.records.place_begins here.segment.records.slot_begins place_small slot_small s.bytes begins s.reserved b rest (fresh_split [] split) closed (are_split [] split) (rise_split [] split)
       (lies [] split).2 here.segment.records.stand header (laid_split [] split to) reach first among (has_first split) (no_end_first split) (whole_ascends sum size site device fault bytes from bs rs H holds short) there
       (let up = (front_low sum size site device fault bytes from bs rs H pre s post holds short).0 in omega (arith, least, up)) (up_to_first split)
-  whole_one (x ∷ xs) split none reach first least to there among =
+  whole_one (x ∷ xs) split none reach first least to there {held} among =
       by x.is_written (fresh_split (x ∷ xs) split)
     where
-      by : (o : Bool) → o ≡ false → StandsAmong sum size (overwritten (padded to old) (s.site.slot + at (x ∷ xs)) (asked (x ∷ xs))) site from (before ++ grown_one y (if o then run_end x.end (xs ++ now_written b ∷ rest) else s.written_len) ∷ after) reach H first
+      by : (o : Bool) → o ≡ false → StandsAmong sum held size (overwritten (padded to old) (s.site.slot + at (x ∷ xs)) (asked (x ∷ xs))) site from (before ++ grown_one y (if o then run_end x.end (xs ++ now_written b ∷ rest) else s.written_len) ∷ after) reach H first
       by true is = absurd (let never : ⊥ = cc in never)
       by false is =
           other_behind_written sum none size big (padded to old) site from (before ++ y ∷ after) y (Contains-append_right before (y ∷ after) y (in_first y after)) here.segment.records.slot_begins s.bytes begins s.reserved x xs b rest (fresh_split (x ∷ xs) split)

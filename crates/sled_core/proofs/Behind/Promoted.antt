@@ -7,7 +7,6 @@ use Rattle.std.proofs.lemmas.List.{append-nil}
 use Rattle.std.proofs.lemmas.List.Elements.{All-contains, Contains-append_cases}
 use Rattle.sled_codec.specs.declared.result.DiskPtr.TheVariants.{Inline}
 use Rattle.sled_codec.specs.History.{History, Message}
-use Rattle.sled_codec.specs.Snapshots.{stable_place}
 use Rattle.sled_store.specs.Device.{State}
 use Rattle.sled_store.proofs.Segments.Elements.{in_first, in_rest}
 use Rattle.sled_core.specs.declared.iobuf.Reserved.{Reserved}
@@ -15,9 +14,10 @@ use Rattle.sled_core.specs.declared.iobuf.Sealed.{Sealed}
 use Rattle.sled_core.specs.declared.iobuf.SegmentPosition.{SegmentPosition}
 use Rattle.sled_core.specs.inside.Buffers.{IsChain, completed_in}
 use Rattle.sled_core.specs.Begun.{SegmentParts}
-use Rattle.sled_core.specs.Fits.{EndBelow, IsBegunFrom}
+use Rattle.sled_core.specs.Fits.{EndBelow, IsBegunFrom, held_of}
 use Rattle.sled_core.specs.inside.Fits.{HoldBehind, HoldsIn, HoldsNext, HoldsSegment, begun_segment, log_parts}
 use Rattle.sled_core.specs.LogFile.{IsLogFile, StandsElsewhere, StaysFrom}
+use Rattle.sled_core.specs.declared.logger.joined_marks.JoinedMarks.{JoinedMarks}
 use Rattle.sled_core.specs.inside.LogFile.{StaysBelow}
 use Rattle.sled_core.specs.inside.Reached.{BegunSegment}
 use Rattle.sled_core.proofs.Behind.Stays.{behind_stays, elsewhere_of, segment-earlier, segment-stays, stays_among}
@@ -26,11 +26,12 @@ use Rattle.sled_core.proofs.Flush.FlushLemmas.{on_file}
 use Rattle.sled_core.proofs.Holds.WholeHistory.{behind_above}
 use Rattle.sled_core.proofs.Reached.Marks.{less_than}
 use Rattle.sled_core.proofs.Reached.SegmentsBeside.{follows}
+use Rattle.std.proofs.lemmas.Int.{ints}
 
 module _ (sum : List ℕ → ℕ) (size : ℕ) (site : SegmentPosition) (device : State) (fault : Option IoError) (bytes : List ℕ) (from : ℕ) (bs : List Sealed) (rs : List Reserved) (H : History)
-    (s : SegmentParts) (ss : List SegmentParts) (holds : HoldsIn sum (log_parts size site device fault bytes from bs rs) (s ∷ ss) H) (big : 256 ≤ size) (full : from ≡ size) (none_left : rs ≡ []) where
+    (s : SegmentParts) (ss : List SegmentParts) {marks : JoinedMarks} (holds : HoldsIn sum marks (log_parts size site device fault bytes from bs rs) (s ∷ ss) H) (big : 256 ≤ size) (full : from ≡ size) (none_left : rs ≡ []) where
   abbrev stable : ℕ
-  stable = stable_place holds.begun.first.stable
+  stable = held_of holds.begun
 
   abbrev first : History
   first = record { messages = holds.head; batches = H.batches }
@@ -101,7 +102,7 @@ module _ (sum : List ℕ → ℕ) (size : ℕ) (site : SegmentPosition) (device 
       (subst (λ n. HoldBehind sum size device fault (n + size) ss (StaysBelow H stable site.place) H.batches later) (sym here.next) holds.others.4)
 
   -- The log was begun from the same snapshot.
-  abbrev pub promoted_begun : IsBegunFrom sum size device.snapshots.file s.site s.written_len H
+  abbrev pub promoted_begun : IsBegunFrom sum marks.joined marks.durable size device.snapshots.file s.site s.written_len H
   promoted_begun = record {
     first = holds.begun.first;
     begins = holds.begun.begins;
@@ -109,9 +110,12 @@ module _ (sum : List ℕ → ℕ) (size : ℕ) (site : SegmentPosition) (device 
     fits = holds.begun.fits;
     least = (let least = holds.begun.least in let next = here.next in omega (arith, least, next));
     reached = (let reached = holds.begun.reached in let next = here.next in omega (arith, reached, next, full));
+    joined = holds.begun.joined;
+    written = (let written = holds.begun.written in let next = here.next in omega (arith, ints, written, next, full));
+    marked = (let marked = holds.begun.marked in let next = here.next in omega (arith, marked, next));
   }
 
-  abbrev pub promoted : HoldsIn sum (log_parts size s.site device fault s.bytes s.written_len s.sealed s.reserved) ss H
+  abbrev pub promoted : HoldsIn sum marks (log_parts size s.site device fault s.bytes s.written_len s.sealed s.reserved) ss H
   promoted = record {
     begun = promoted_begun;
     head = holds.head ++ own;

@@ -14,6 +14,7 @@ use Rattle.sled_core.specs.Begun.{SegmentParts, records_to}
 use Rattle.sled_core.specs.inside.Fits.{HoldsIn, begun_segment, log_parts}
 use Rattle.sled_core.specs.inside.LogFile.{padded}
 use Rattle.sled_core.specs.Logged.{logged}
+use Rattle.sled_core.specs.declared.logger.joined_marks.JoinedMarks.{JoinedMarks}
 use Rattle.sled_core.specs.inside.Reached.{BegunSegment, FollowApart, StandsAmong, StandsIn}
 use Rattle.sled_core.specs.inside.Running.{FitsIn}
 use Rattle.sled_core.specs.Tail.{least_place}
@@ -27,10 +28,10 @@ filled_at o s = record { site = s.site; bytes = s.bytes; written_len = s.written
 
 -- A reader finds the same of the file.
 refilled_stands : (sum : List ℕ → ℕ) (size : ℕ) (log : List ℕ) (site : SegmentPosition) (from : ℕ) (pre : List BegunSegment) (y : BegunSegment) (post : List BegunSegment) (o : Option ℕ) (reach : ℕ) (H : History) (first : SnapshotModel) → y.from < size
-    → StandsAmong sum size log site from (pre ++ y ∷ post) reach H first → StandsAmong sum size log site from (pre ++ as_far y y.from o ∷ post) reach H first
+    → {held : ℕ} → StandsAmong sum held size log site from (pre ++ y ∷ post) reach H first → StandsAmong sum held size log site from (pre ++ as_far y y.from o ∷ post) reach H first
 refilled_stands sum size log site from pre y post o reach H first less among = record {
   stands = among.stands;
-  held = among.held;
+  low = among.low;
   reached = among.reached;
   led = among.led;
   here = among.here;
@@ -50,11 +51,11 @@ refilled_stands sum size log site from pre y post o reach H first less among = r
     its = record { only = had_it.only; own = had_it.own; read = λ later. let r = had_it.read later in (r.0, r.1, r.2, r.3, λ whole. absurd (omega (arith, whole, less))) }
 
 module _ (sum : List ℕ → ℕ) (size : ℕ) (site : SegmentPosition) (device : State) (fault : Option IoError) (bytes : List ℕ) (from : ℕ) (bs : List Sealed) (rs : List Reserved) (H : History) (pre : List SegmentParts) (s : SegmentParts) (post : List SegmentParts) (o : Option ℕ) where
-  module _ (holds : HoldsIn sum (log_parts size site device fault bytes from bs rs) (pre ++ s ∷ post) H) where
+  module _ {marks : JoinedMarks} (holds : HoldsIn sum marks (log_parts size site device fault bytes from bs rs) (pre ++ s ∷ post) H) where
     abbrev parts : HoldAround sum size device fault (site.place + size) pre s post (stays_below sum size site device fault bytes from bs rs H pre s post holds) H.batches holds.later
     parts = held_around sum size site device fault bytes from bs rs H pre s post holds
 
-    abbrev pub holds-refilled : HoldsIn sum (log_parts size site device fault bytes from bs rs) (pre ++ filled_at o s ∷ post) H
+    abbrev pub holds-refilled : HoldsIn sum marks (log_parts size site device fault bytes from bs rs) (pre ++ filled_at o s ∷ post) H
     holds-refilled = record {
       begun = holds.begun;
       head = holds.head;
@@ -69,8 +70,8 @@ module _ (sum : List ℕ → ℕ) (size : ℕ) (site : SegmentPosition) (device 
     }
 
 module _ (sum : List ℕ → ℕ) (size : ℕ) (site : SegmentPosition) (device : State) (fault : Option IoError) (bytes : List ℕ) (from : ℕ) (bs : List Sealed) (rs : List Reserved) (H : History) (pre : List SegmentParts) (s : SegmentParts) (post : List SegmentParts) (o : Option ℕ) where
-  pub fits-refilled : (reach pins A f : ℕ) (U : List Message) → s.written_len < size → FitsIn sum (log_parts size site device fault bytes from bs rs) (pre ++ s ∷ post) reach pins H A f U
-      → FitsIn sum (log_parts size site device fault bytes from bs rs) (pre ++ filled_at o s ∷ post) reach pins H A f U
+  pub fits-refilled : (reach pins A f : ℕ) (U : List Message) → s.written_len < size → {marks : JoinedMarks} → FitsIn sum marks (log_parts size site device fault bytes from bs rs) (pre ++ s ∷ post) reach pins H A f U
+      → FitsIn sum marks (log_parts size site device fault bytes from bs rs) (pre ++ filled_at o s ∷ post) reach pins H A f U
   fits-refilled reach pins A f U less fits = record {
     holds = holds-refilled sum size site device fault bytes from bs rs (logged H) pre s post o fits.holds;
     reached = fits.reached;
@@ -86,8 +87,8 @@ module _ (sum : List ℕ → ℕ) (size : ℕ) (site : SegmentPosition) (device 
       first : SnapshotModel
       first = fits.holds.begun.first
 
-      stands : (log : List ℕ) → StandsAmong sum size log site from (map begun_segment (pre ++ s ∷ post)) reach (logged H) first → StandsAmong sum size log site from (map begun_segment (pre ++ filled_at o s ∷ post)) reach (logged H) first
-      stands log among =
-          subst (λ (l : List BegunSegment). StandsAmong sum size log site from l reach (logged H) first) (sym (map-append begun_segment pre (filled_at o s ∷ post)))
+      stands : (log : List ℕ) → {held : ℕ} → StandsAmong sum held size log site from (map begun_segment (pre ++ s ∷ post)) reach (logged H) first → StandsAmong sum held size log site from (map begun_segment (pre ++ filled_at o s ∷ post)) reach (logged H) first
+      stands log {held} among =
+          subst (λ (l : List BegunSegment). StandsAmong sum held size log site from l reach (logged H) first) (sym (map-append begun_segment pre (filled_at o s ∷ post)))
           (refilled_stands sum size log site from (map begun_segment pre) (begun_segment s) (map begun_segment post) o reach (logged H) first less
-          (subst (λ (l : List BegunSegment). StandsAmong sum size log site from l reach (logged H) first) (begun_is pre s post) among))
+          (subst (λ (l : List BegunSegment). StandsAmong sum held size log site from l reach (logged H) first) (begun_is pre s post) among))

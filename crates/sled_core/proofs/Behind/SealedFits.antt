@@ -25,6 +25,7 @@ use Rattle.sled_core.specs.inside.Lasting.{LeavesRecovering}
 use Rattle.sled_core.specs.inside.Running.{FitsIn}
 use Rattle.sled_core.specs.inside.SealedBuffers.{AreSealed, FirstUnwritten, Laid, now_written, written_at, run_end, run_count, behind_run, is_ready}
 use Rattle.sled_core.specs.SealedBuffers.{sealed_end, bytes_between}
+use Rattle.sled_core.specs.declared.logger.joined_marks.JoinedMarks.{JoinedMarks}
 use Rattle.sled_core.proofs.Reserve.Ranges.{there_split}
 use Rattle.sled_core.proofs.Behind.FirstWritten.{alone_first, ends_first, ends_full, full_first, last_low, last_up, last_whole, none_or_begun, plain_below, reaches_first, rest_batches, rise_in, segment_first, torn_first}
 use Rattle.sled_core.proofs.Flush.FlushLemmas.{holds_over, on_file}
@@ -41,6 +42,7 @@ use Rattle.sled_core.proofs.Sealed.Marked.{written_are, ready_closed, written_ar
 use Rattle.sled_core.proofs.Sealed.Runs.{run_of}
 use Rattle.sled_core.proofs.Sealed.SealedCalls.{later_alone}
 use Rattle.sled_core.proofs.Torn.TornLemmas.{after_write}
+use Rattle.sled_core.specs.inside.LogSegments.{held_since}
 
 -- Where the first buffer isn't written there is no run at the front.
 no_run : (P : ℕ → List Sealed → List Reserved → Type 0) (from : ℕ) (x : Sealed) (xs : List Sealed) (rs : List Reserved) → x.is_written ≡ false → P from (x ∷ xs) rs
@@ -91,7 +93,7 @@ module _ (sum : List ℕ → ℕ) (size : ℕ) (site : SegmentPosition) (device 
   }
 
   -- What a crash leaves of the write.
-  torn_later : x.is_written ≡ false → (W : History) (first : SnapshotModel) (reach : ℕ) → NoHeaderOfZeros sum → {others : List BegunSegment} → StandsAmong sum size old_later site from others reach W first → (now left : List ℕ) → length now ≤ length asked_later
+  torn_later : x.is_written ≡ false → (W : History) (first : SnapshotModel) (reach : ℕ) → NoHeaderOfZeros sum → {others : List BegunSegment} → {held : ℕ} → StandsAmong sum held size old_later site from others reach W first → (now left : List ℕ) → length now ≤ length asked_later
       → LeavesLog (after_write old_later (site.slot + at) asked_later now) left → (placed : List Placement) → NoForeignLog sum size (after_write old_later (site.slot + at) asked_later now) placed left
       → StandsTo sum size left W (stable_below reach W.batches) first reach
   torn_later fresh W first reach zeros alone now left no_more leaves placed only_own =
@@ -99,8 +101,8 @@ module _ (sum : List ℕ → ℕ) (size : ℕ) (site : SegmentPosition) (device 
       alone now left no_more leaves {placed = placed} only_own
 
   -- All of it.
-  alone_later : x.is_written ≡ false → (W : History) (first : SnapshotModel) (reach : ℕ) → NoHeaderOfZeros sum → (end : ℕ) → site.slot ≤ end → {others : List BegunSegment} → StandsAmong sum size (padded end old_later) site from others reach W first
-      → StandsAmong sum size (padded end new_later) site from others reach W first
+  alone_later : x.is_written ≡ false → (W : History) (first : SnapshotModel) (reach : ℕ) → NoHeaderOfZeros sum → (end : ℕ) → site.slot ≤ end → {others : List BegunSegment} → {held : ℕ} → StandsAmong sum held size (padded end old_later) site from others reach W first
+      → StandsAmong sum held size (padded end new_later) site from others reach W first
   alone_later fresh W first reach zeros = later_alone sum size big old_later site holds.records.place_begins holds.records.slot_begins place_small slot_small bytes from later_begins rs x xs b rest fresh are rise_later lies.2 (site.place / size) holds.records.stand (holds.laid whole)
       zeros reach W first
 
@@ -139,14 +141,14 @@ module _ (sum : List ℕ → ℕ) (size : ℕ) (site : SegmentPosition) (device 
       (omega (arith, l, lies.1), lies.0, omega (arith, l, lies.2, short))
 
   -- At each moment of the two calls a crash leaves what can be recovered.
-  along_around : (front : List Sealed) (fits : FitsIn sum (log_parts size site device fault bytes from (front ++ b ∷ rest) rs) behind reach pins H A f U) → AreSealed from rs (front ++ b ∷ rest) → FirstUnwritten (front ++ b ∷ rest) → EndsRise from (front ++ b ∷ rest) (length bytes)
+  along_around : (front : List Sealed) {marks : JoinedMarks} (fits : FitsIn sum marks (log_parts size site device fault bytes from (front ++ b ∷ rest) rs) behind reach pins H A f U) → AreSealed from rs (front ++ b ∷ rest) → FirstUnwritten (front ++ b ∷ rest) → EndsRise from (front ++ b ∷ rest) (length bytes)
       → Along (LeavesRecovering sum size H (stable_below reach H.batches) f) (Wrote (site.slot + sealed_end from front) (asked_behind front) (asked_behind front) ∷ Synced ∷ []) device
-  along_around [] fits are fresh rise = elim (cases_lt (run_end b.end rest) size) [
+  along_around [] {marks} fits are fresh rise = elim (cases_lt (run_end b.end rest) size) [
     | inl below ↦ along_behind sum size site device fault bytes from (b ∷ rest) rs pins H A f U fits short big whole (run_end b.end rest) (stop_up from rs b rest closed are).0 (site.place + run_end b.end rest) (let near = fits.reached.near in let above = (stop_up from rs b rest closed are).0 in omega (arith, near, above)) (omega arith)
         (ends_first sum size site device fault bytes from b rest rs (logged H) fits.holds short big place_small slot_small are fresh closed rise whole)
         (none_between (logged H) (site.place + run_end b.end rest))
         (site.slot + from) (asked_behind []) (λ zeros. torn_first sum size site device fault bytes from b rest rs (logged H) fits.holds short big place_small slot_small are fresh closed rise whole reach zeros)
-        (λ (l : List ℕ) (is : StandsAmong sum size l site (run_end b.end rest) (map begun_segment behind) (site.place + run_end b.end rest) (logged H) fits.holds.begun.first). is.stands)
+        (λ (l : List ℕ) (is : StandsAmong sum (held_since size marks fits.holds.begun.first) size l site (run_end b.end rest) (map begun_segment behind) (site.place + run_end b.end rest) (logged H) fits.holds.begun.first). is.stands)
         (λ zeros end far. alone_first sum size site device fault bytes from b rest rs (logged H) fits.holds short big place_small slot_small are fresh closed rise whole
         (plain_below sum size site device fault bytes from b rest rs (logged H) fits.holds short big place_small slot_small are fresh closed rise whole below) reach zeros end far)
         (reaches_first sum size site device fault bytes from b rest rs (logged H) fits.holds short big place_small slot_small are fresh closed rise whole)
@@ -159,16 +161,16 @@ module _ (sum : List ℕ → ℕ) (size : ℕ) (site : SegmentPosition) (device 
         (ends_full sum size site device fault bytes from b rest rs (logged H) fits.holds short big place_small slot_small are fresh closed rise whole filled)
         (rest_batches sum size site device fault bytes from b rest rs (logged H) fits.holds short big place_small slot_small are fresh closed rise whole filled)
         (site.slot + from) (asked_behind []) (λ zeros. torn_first sum size site device fault bytes from b rest rs (logged H) fits.holds short big place_small slot_small are fresh closed rise whole reach zeros)
-        (λ (l : List ℕ) (is : StandsFull sum size l (site.place + size) (map begun_segment behind)
+        (λ (l : List ℕ) (is : StandsFull sum (held_since size marks fits.holds.begun.first) size l (site.place + size) (map begun_segment behind)
         (site.place + last_whole sum size site device fault bytes from b rest rs (logged H) fits.holds short big place_small slot_small are fresh closed rise whole) (logged H) fits.holds.begun.first). is.stands)
         (λ zeros end far. full_first sum size site device fault bytes from b rest rs (logged H) fits.holds short big place_small slot_small are fresh closed rise whole filled reach zeros end far)
         (reaches_first sum size site device fault bytes from b rest rs (logged H) fits.holds short big place_small slot_small are fresh closed rise whole))
   ]
-  along_around (x ∷ xs) fits are fresh rise =
+  along_around (x ∷ xs) {marks} fits are fresh rise =
       along_behind sum size site device fault bytes from (x ∷ xs ++ b ∷ rest) rs pins H A f U fits short big whole from (omega arith) reach (omega arith) fits.reached.near fits.reached.ends (fits.reached.no_batch, fits.reached.no_end)
       (site.slot + sealed_end x.end xs) (asked_behind (x ∷ xs))
       (λ zeros. torn_later sum size site device fault bytes from x xs b rest rs (own_of fits.holds.head) fits.holds.own short big place_small slot_small are rise whole fresh (logged H) fits.holds.begun.first reach zeros)
-      (λ (l : List ℕ) (is : StandsAmong sum size l site from (map begun_segment behind) reach (logged H) fits.holds.begun.first). is.stands)
+      (λ (l : List ℕ) (is : StandsAmong sum (held_since size marks fits.holds.begun.first) size l site from (map begun_segment behind) reach (logged H) fits.holds.begun.first). is.stands)
       (λ zeros end far. alone_later sum size site device fault bytes from x xs b rest rs (own_of fits.holds.head) fits.holds.own short big place_small slot_small are rise whole fresh (logged H) fits.holds.begun.first reach zeros end far)
       (reaches_later sum size site device fault bytes from x xs b rest rs (own_of fits.holds.head) fits.holds.own short big place_small slot_small are rise whole)
 
@@ -176,30 +178,30 @@ module _ (sum : List ℕ → ℕ) (size : ℕ) (site : SegmentPosition) (device 
   after_behind front = step Synced (step (Wrote (site.slot + sealed_end from front) (asked_behind front) (asked_behind front)) device)
 
   -- Behind them the log fits, where nothing fills the segment.
-  fits_around : (front : List Sealed) → FitsIn sum (log_parts size site device fault bytes from (front ++ b ∷ rest) rs) behind reach pins H A f U → AreSealed from rs (front ++ b ∷ rest) → FirstUnwritten (front ++ b ∷ rest) → EndsRise from (front ++ b ∷ rest) (length bytes) → All NoPadding (take (run_count (front ++ now_written b ∷ rest)) rs)
-      → (now : ℕ) × FitsIn sum (log_parts size site (after_behind front) fault bytes (run_end from (front ++ now_written b ∷ rest)) (behind_run (front ++ now_written b ∷ rest)) (drop (run_count (front ++ now_written b ∷ rest)) rs)) behind now pins H A f U
-  fits_around [] fits are fresh rise plain =
+  fits_around : {marks : JoinedMarks} (front : List Sealed) → FitsIn sum marks (log_parts size site device fault bytes from (front ++ b ∷ rest) rs) behind reach pins H A f U → AreSealed from rs (front ++ b ∷ rest) → FirstUnwritten (front ++ b ∷ rest) → EndsRise from (front ++ b ∷ rest) (length bytes) → All NoPadding (take (run_count (front ++ now_written b ∷ rest)) rs)
+      → (now : ℕ) × FitsIn sum marks (log_parts size site (after_behind front) fault bytes (run_end from (front ++ now_written b ∷ rest)) (behind_run (front ++ now_written b ∷ rest)) (drop (run_count (front ++ now_written b ∷ rest)) rs)) behind now pins H A f U
+  fits_around {marks} [] fits are fresh rise plain =
       let range = asked_range [] are rise in (
         site.place + run_end b.end rest,
         fits_behind sum size site device fault bytes from (b ∷ rest) rs pins H A f U fits short big whole (run_end b.end rest) (stop_up from rs b rest closed are).0 (site.place + run_end b.end rest) (let near = fits.reached.near in let above = (stop_up from rs b rest closed are).0 in omega (arith, near, above)) (omega arith)
             (ends_first sum size site device fault bytes from b rest rs (logged H) fits.holds short big place_small slot_small are fresh closed rise whole)
             (none_between (logged H) (site.place + run_end b.end rest))
             (site.slot + from) (asked_behind []) (λ zeros. torn_first sum size site device fault bytes from b rest rs (logged H) fits.holds short big place_small slot_small are fresh closed rise whole reach zeros)
-            (λ (l : List ℕ) (is : StandsAmong sum size l site (run_end b.end rest) (map begun_segment behind) (site.place + run_end b.end rest) (logged H) fits.holds.begun.first). is.stands)
+            (λ (l : List ℕ) (is : StandsAmong sum (held_since size marks fits.holds.begun.first) size l site (run_end b.end rest) (map begun_segment behind) (site.place + run_end b.end rest) (logged H) fits.holds.begun.first). is.stands)
             (λ zeros end far. alone_first sum size site device fault bytes from b rest rs (logged H) fits.holds short big place_small slot_small are fresh closed rise whole plain reach zeros end far)
             (reaches_first sum size site device fault bytes from b rest rs (logged H) fits.holds short big place_small slot_small are fresh closed rise whole) (behind_run rest) (drop (b.count + run_count rest) rs)
             (holds_over sum size site device fault bytes from (b ∷ rest) rs behind (logged H) fits.holds (after_behind []) fault bytes (run_end b.end rest) (behind_run rest) (drop (b.count + run_count rest) rs) refl (stop_up from rs b rest closed are).0
             (segment_first sum size site device fault bytes from b rest rs (own_of fits.holds.head) fits.holds.own short big place_small slot_small are fresh closed rise whole (after_behind []) refl)
             (others_written sum size site device fault bytes from (b ∷ rest) rs (logged H) fits.holds (omega (arith, big)) whole (site.slot + from) (asked_behind []) range.0 (omega arith) (omega (arith, range.2)) (after_behind []) refl)) refl (λ l is. is),
       )
-  fits_around (x ∷ xs) fits are fresh rise plain =
+  fits_around {marks} (x ∷ xs) fits are fresh rise plain =
       let range = asked_range (x ∷ xs) are rise in
-      no_run (λ n cs others. (now : ℕ) × FitsIn sum (log_parts size site (after_behind (x ∷ xs)) fault bytes n cs others) behind now pins H A f U) from x (xs ++ now_written b ∷ rest) rs fresh (
+      no_run (λ n cs others. (now : ℕ) × FitsIn sum marks (log_parts size site (after_behind (x ∷ xs)) fault bytes n cs others) behind now pins H A f U) from x (xs ++ now_written b ∷ rest) rs fresh (
         reach,
         fits_behind sum size site device fault bytes from (x ∷ xs ++ b ∷ rest) rs pins H A f U fits short big whole from (omega arith) reach (omega arith) fits.reached.near fits.reached.ends (fits.reached.no_batch, fits.reached.no_end)
             (site.slot + sealed_end x.end xs) (asked_behind (x ∷ xs))
             (λ zeros. torn_later sum size site device fault bytes from x xs b rest rs (own_of fits.holds.head) fits.holds.own short big place_small slot_small are rise whole fresh (logged H) fits.holds.begun.first reach zeros)
-            (λ (l : List ℕ) (is : StandsAmong sum size l site from (map begun_segment behind) reach (logged H) fits.holds.begun.first). is.stands)
+            (λ (l : List ℕ) (is : StandsAmong sum (held_since size marks fits.holds.begun.first) size l site from (map begun_segment behind) reach (logged H) fits.holds.begun.first). is.stands)
             (λ zeros end far. alone_later sum size site device fault bytes from x xs b rest rs (own_of fits.holds.head) fits.holds.own short big place_small slot_small are rise whole fresh (logged H) fits.holds.begun.first reach zeros end far)
             (reaches_later sum size site device fault bytes from x xs b rest rs (own_of fits.holds.head) fits.holds.own short big place_small slot_small are rise whole) (x ∷ xs ++ now_written b ∷ rest) rs
             (holds_over sum size site device fault bytes from (x ∷ xs ++ b ∷ rest) rs behind (logged H) fits.holds (after_behind (x ∷ xs)) fault bytes from (x ∷ xs ++ now_written b ∷ rest) rs refl (omega arith)
@@ -234,10 +236,10 @@ module _ (sum : List ℕ → ℕ) (size : ℕ) (site : SegmentPosition) (device 
       (subst (λ (cs : List Sealed). AreSealed from rs cs) split are) (subst FirstUnwritten split fresh) (ready_closed b ready) (subst (λ (cs : List Sealed). EndsRise from cs (length bytes)) split rise) whole new is)
 
 -- And so does the log.
-pub holds_written_one : (sum : List ℕ → ℕ) (size : ℕ) (site : SegmentPosition) (device : State) (fault : Option IoError) (bytes : List ℕ) (from : ℕ) (bs : List Sealed) (rs : List Reserved) (H : History) {behind : List SegmentParts} → HoldsIn sum (log_parts size site device fault bytes from bs rs) behind H
+pub holds_written_one : (sum : List ℕ → ℕ) (size : ℕ) (site : SegmentPosition) (device : State) (fault : Option IoError) (bytes : List ℕ) (from : ℕ) (bs : List Sealed) (rs : List Reserved) (H : History) {behind : List SegmentParts} → {marks : JoinedMarks} → HoldsIn sum marks (log_parts size site device fault bytes from bs rs) behind H
     → length bytes ≤ size → 256 ≤ size → site.place + size < 2 ^ 63 → site.slot + size < 2 ^ 63 → AreSealed from rs bs → FirstUnwritten bs → EndsRise from bs (length bytes) → fault ≡ None → (k : ℕ) (b : Sealed) → slice_get bs k ≡ Some b → is_ready b ≡ true
     → (new : State) → new.log ≡ at_rest (overwritten device.log.bytes (site.slot + sealed_end from (take k bs)) (bytes_between bytes (sealed_end from (take k bs)) b.end)) → new.snapshots.file ≡ device.snapshots.file
-    → HoldsIn sum (log_parts size site new fault bytes (run_end from (written_at k bs)) (behind_run (written_at k bs)) (drop (run_count (written_at k bs)) rs)) behind H
+    → HoldsIn sum marks (log_parts size site new fault bytes (run_end from (written_at k bs)) (behind_run (written_at k bs)) (drop (run_count (written_at k bs)) rs)) behind H
 holds_written_one sum size site device fault bytes from bs rs H {behind} holds short big place_small slot_small are fresh rise whole k b there ready new is names =
     let now : List Sealed = written_at k bs in
     let grows = (run_of from rs now (written_are from rs bs k b there (ready_closed b ready) are)).rises in
@@ -249,7 +251,7 @@ holds_written_one sum size site device fault bytes from bs rs H {behind} holds s
     (others_written sum size site device fault bytes from bs rs H holds (omega (arith, big)) whole (site.slot + sealed_end from (take k bs)) (bytes_between bytes (sealed_end from (take k bs)) b.end) range.0 (omega (arith, range.1)) (omega (arith, range.2)) new is)
 
 module _ (sum : List ℕ → ℕ) (size : ℕ) (site : SegmentPosition) (device : State) (fault : Option IoError) (bytes : List ℕ) (from : ℕ) (bs : List Sealed) (rs : List Reserved) (pins : ℕ) (H : History) (A f : ℕ) (U : List Message)
-    {behind : List SegmentParts} {reach : ℕ} (fits : FitsIn sum (log_parts size site device fault bytes from bs rs) behind reach pins H A f U)
+    {behind : List SegmentParts} {reach : ℕ} {marks : JoinedMarks} (fits : FitsIn sum marks (log_parts size site device fault bytes from bs rs) behind reach pins H A f U)
     (short : length bytes ≤ size) (big : 256 ≤ size) (place_small : site.place + size < 2 ^ 63) (slot_small : site.slot + size < 2 ^ 63)
     (are : AreSealed from rs bs) (fresh : FirstUnwritten bs) (rise : EndsRise from bs (length bytes)) (whole : fault ≡ None) (k : ℕ) (b : Sealed) (there : slice_get bs k ≡ Some b) (ready : is_ready b ≡ true) where
   abbrev at_one : ℕ
@@ -267,8 +269,8 @@ module _ (sum : List ℕ → ℕ) (size : ℕ) (site : SegmentPosition) (device 
   split_one : bs ≡ take k bs ++ b ∷ drop (suc k) bs
   split_one = there_split bs k b there
 
-  fits_split : FitsIn sum (log_parts size site device fault bytes from (take k bs ++ b ∷ drop (suc k) bs) rs) behind reach pins H A f U
-  fits_split = subst (λ (cs : List Sealed). FitsIn sum (log_parts size site device fault bytes from cs rs) behind reach pins H A f U) split_one fits
+  fits_split : FitsIn sum marks (log_parts size site device fault bytes from (take k bs ++ b ∷ drop (suc k) bs) rs) behind reach pins H A f U
+  fits_split = subst (λ (cs : List Sealed). FitsIn sum marks (log_parts size site device fault bytes from cs rs) behind reach pins H A f U) split_one fits
 
   are_split : AreSealed from rs (take k bs ++ b ∷ drop (suc k) bs)
   are_split = subst (λ (cs : List Sealed). AreSealed from rs cs) split_one are
@@ -281,9 +283,9 @@ module _ (sum : List ℕ → ℕ) (size : ℕ) (site : SegmentPosition) (device 
   write_along = along_around sum size site device fault bytes from b (drop (suc k) bs) rs behind reach pins H A f U short big place_small slot_small (ready_closed b ready) whole (take k bs) fits_split are_split (subst FirstUnwritten split_one fresh) rise_split
 
   -- Behind them the log fits, where nothing fills its first segment.
-  pub fits_written_one : All NoPadding (take (run_count now_one) rs) → (now : ℕ) × FitsIn sum (log_parts size site synced_one None bytes (run_end from now_one) (behind_run now_one) (drop (run_count now_one) rs)) behind now pins H A f U
+  pub fits_written_one : All NoPadding (take (run_count now_one) rs) → (now : ℕ) × FitsIn sum marks (log_parts size site synced_one None bytes (run_end from now_one) (behind_run now_one) (drop (run_count now_one) rs)) behind now pins H A f U
   fits_written_one plain =
-      subst (λ (o : Option IoError). (now : ℕ) × FitsIn sum (log_parts size site synced_one o bytes (run_end from now_one) (behind_run now_one) (drop (run_count now_one) rs)) behind now pins H A f U) whole
-      (subst (λ (cs : List Sealed). (now : ℕ) × FitsIn sum (log_parts size site synced_one fault bytes (run_end from cs) (behind_run cs) (drop (run_count cs) rs)) behind now pins H A f U) (sym (written_around k bs b there))
+      subst (λ (o : Option IoError). (now : ℕ) × FitsIn sum marks (log_parts size site synced_one o bytes (run_end from now_one) (behind_run now_one) (drop (run_count now_one) rs)) behind now pins H A f U) whole
+      (subst (λ (cs : List Sealed). (now : ℕ) × FitsIn sum marks (log_parts size site synced_one fault bytes (run_end from cs) (behind_run cs) (drop (run_count cs) rs)) behind now pins H A f U) (sym (written_around k bs b there))
       (fits_around sum size site device fault bytes from b (drop (suc k) bs) rs behind reach pins H A f U short big place_small slot_small (ready_closed b ready) whole (take k bs) fits_split are_split (subst FirstUnwritten split_one fresh) rise_split
       (subst (λ (cs : List Sealed). All NoPadding (take (run_count cs) rs)) (written_around k bs b there) plain)))

@@ -72,7 +72,7 @@ module _ (sum : List ℕ → ℕ) (none : NoHeaderOfZeros sum) (size : ℕ) (som
   read_back : (least : ℕ) (t : Scanned) → IsFoundSegment sum size longer least t.segment → IsScanned sum size longer t → IsScanned sum size log t
   read_back least t found scan = scan_kept sum size Used longer log keeps same_in least t.segment found (its_slot least t.segment found) t.met t.stop t.why scan
 
-  module _ (H : History) (reach : ℕ) (first : SnapshotModel) {site : SegmentPosition} {from : ℕ} {others : List BegunSegment} (among : StandsAmong sum size longer site from others reach H first) where
+  module _ (H : History) (reach : ℕ) (first : SnapshotModel) {site : SegmentPosition} {from : ℕ} {others : List BegunSegment} {held : ℕ} (among : StandsAmong sum held size longer site from others reach H first) where
     abbrev least : ℕ
     least = least_place size first
 
@@ -116,11 +116,11 @@ module _ (sum : List ℕ → ℕ) (none : NoHeaderOfZeros sum) (size : ℕ) (som
       | inr (inr l) ↦ inr (inr (record { scan = l.scan; found = found_back least l.scan.segment l.found; read = read_back least l.scan l.found l.read; next = l.next; goes = l.goes; below = l.below }))
     ]
 
-    pub shorter_stands : StandsAmong sum size log site from others reach H first
+    pub shorter_stands : StandsAmong sum held size log site from others reach H first
     unfolding stands
     shorter_stands = record {
       stands = stands;
-      held = stands_from.1 ∙ among.held;
+      low = (let same = stands_from.1 in let low = among.low in omega (arith, same, low));
       reached = among.reached;
       led = led_back;
       here = stands_back site from among.here;

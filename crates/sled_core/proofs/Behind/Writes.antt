@@ -4,17 +4,18 @@ use Rattle.std.specs.List.{slice_get}
 use Rattle.std.specs.declared.io.Error.{Error as IoError}
 use Rattle.sled_codec.specs.declared.result.DiskPtr.TheVariants.{Inline}
 use Rattle.sled_codec.specs.History.{History, Message}
-use Rattle.sled_codec.specs.Snapshots.{stable_place}
 use Rattle.sled_store.specs.Device.{State, at_rest, overwritten}
 use Rattle.sled_core.specs.declared.iobuf.Reserved.{Reserved}
 use Rattle.sled_core.specs.declared.iobuf.Sealed.{Sealed}
 use Rattle.sled_core.specs.declared.iobuf.SegmentPosition.{SegmentPosition}
 use Rattle.sled_core.specs.Begun.{SegmentParts}
+use Rattle.sled_core.specs.Fits.{held_of}
 use Rattle.sled_core.specs.inside.Fits.{HoldBehind, HoldsIn, HoldsNext, HoldsSegment, begun_segment, log_parts}
 use Rattle.sled_core.specs.LogFile.{IsLogFile, StandsElsewhere, StaysFrom}
 use Rattle.sled_core.specs.inside.Reached.{BegunSegment, FollowApart}
 use Rattle.sled_core.specs.inside.SealedBuffers.{AreSealed, FirstUnwritten, behind_run, is_ready, run_count, run_end, written_at}
 use Rattle.sled_core.specs.SealedBuffers.{bytes_between, sealed_end}
+use Rattle.sled_core.specs.declared.logger.joined_marks.JoinedMarks.{JoinedMarks}
 use Rattle.sled_core.proofs.Behind.Around.{HoldAround, apart_around, apart_before, apart_behind, apart_with, behind_below, behind_place, held_around, next_with, now_with, stays_below, together}
 use Rattle.sled_core.proofs.Behind.Calls.{held_here}
 use Rattle.sled_core.proofs.Flush.Completed.{grows}
@@ -35,7 +36,7 @@ use Rattle.sled_store.proofs.Segments.Elements.{in_first}
 use Rattle.std.proofs.lemmas.List.Elements.{Contains-append_right}
 
 module _ (sum : List ℕ → ℕ) (size : ℕ) (site : SegmentPosition) (device : State) (fault : Option IoError) (bytes : List ℕ) (from : ℕ) (bs : List Sealed) (rs : List Reserved) (H : History)
-    (pre : List SegmentParts) (s : SegmentParts) (post : List SegmentParts) (holds : HoldsIn sum (log_parts size site device fault bytes from bs rs) (pre ++ s ∷ post) H)
+    (pre : List SegmentParts) (s : SegmentParts) (post : List SegmentParts) {marks : JoinedMarks} (holds : HoldsIn sum marks (log_parts size site device fault bytes from bs rs) (pre ++ s ∷ post) H)
     (big : 256 ≤ size) (whole : fault ≡ None) (short : length bytes ≤ size) (are : AreSealed from rs bs) (held : sealed_end from bs ≤ length bytes)
     (place_small : s.site.place + size < 2 ^ 63) (slot_small : s.site.slot + size < 2 ^ 63) (fresh : FirstUnwritten s.sealed)
     (k : ℕ) (b : Sealed) (there : slice_get s.sealed k ≡ Some b) (ready : is_ready b ≡ true) where
@@ -117,10 +118,10 @@ module _ (sum : List ℕ → ℕ) (size : ℕ) (site : SegmentPosition) (device 
 
   module _ (new : State) (is : new.log ≡ at_rest new_log) where
     -- What the first segment holds it holds still,
-    pub first_written : HoldsSegment sum (log_parts size site new fault bytes from bs rs) (StaysFrom H (stable_place holds.begun.first.stable)) (record { messages = holds.head; batches = H.batches })
+    pub first_written : HoldsSegment sum (log_parts size site new fault bytes from bs rs) (StaysFrom H (held_of holds.begun)) (record { messages = holds.head; batches = H.batches })
     first_written =
         let first : History = record { messages = holds.head; batches = H.batches } in
-        let from_first : Message → Type 0 = StaysFrom H (stable_place holds.begun.first.stable) in
+        let from_first : Message → Type 0 = StaysFrom H (held_of holds.begun) in
         let up = grows sum size site device fault bytes from bs rs first holds.own in
         segment-fewer sum size site new fault bytes from bs rs first stays from_first (λ m low its. (its, low))
         (segment_beside sum size site device fault bytes from bs rs first
@@ -151,7 +152,7 @@ module _ (sum : List ℕ → ℕ) (size : ℕ) (site : SegmentPosition) (device 
         (segment_written_one sum size s.site device fault s.bytes s.written_len s.sealed s.reserved own_history here.segment here.inside big place_small slot_small here.are fresh rise whole k b there ready new is)
 
     -- The log holds what it held, begun from the same snapshot.
-    abbrev pub behind-written : new.snapshots.file ≡ device.snapshots.file → HoldsIn sum (log_parts size site new fault bytes from bs rs) (pre ++ now_with s s.bytes (run_end s.written_len now) (behind_run now) left ∷ post) H
+    abbrev pub behind-written : new.snapshots.file ≡ device.snapshots.file → HoldsIn sum marks (log_parts size site new fault bytes from bs rs) (pre ++ now_with s s.bytes (run_end s.written_len now) (behind_run now) left ∷ post) H
     behind-written names = record {
       begun = begun-more sum size device.snapshots.file new.snapshots.file site from from H names (omega arith) holds.begun;
       head = holds.head;

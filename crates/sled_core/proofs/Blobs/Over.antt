@@ -2,13 +2,16 @@
 use Rattle.std.proofs.Common.{◌≡◌, ◌+◌, ℕ, ℤ, List, [], ◌∷◌, map, Option, arith, refl, sym, subst}
 use Rattle.std.specs.declared.io.Error.{Error as IoError}
 use Rattle.sled_codec.specs.History.{Batch, Message, History}
-use Rattle.sled_codec.specs.Snapshots.{SnapshotModel, stable_place}
+use Rattle.sled_codec.specs.Snapshots.{SnapshotModel}
 use Rattle.sled_store.specs.Device.{NamesState, State}
 use Rattle.sled_store.specs.SegmentStates.{Machine}
 use Rattle.sled_core.specs.declared.iobuf.Reserved.{Reserved}
 use Rattle.sled_core.specs.declared.iobuf.Sealed.{Sealed}
 use Rattle.sled_core.specs.declared.iobuf.SegmentPosition.{SegmentPosition}
 use Rattle.sled_core.specs.Begun.{SegmentParts, SegmentView}
+use Rattle.sled_core.specs.Fits.{held_of}
+use Rattle.sled_core.specs.declared.logger.joined_marks.JoinedMarks.{JoinedMarks}
+use Rattle.sled_core.specs.inside.Cleared.{cleared}
 use Rattle.sled_core.specs.inside.Fits.{HoldBehind, HoldsIn, HoldsLine, HoldsSegment, HoldsShown, HoldsWith, log_parts, parts_in}
 use Rattle.sled_core.specs.inside.LogFile.{StaysBelow}
 use Rattle.sled_core.specs.LogFile.{StaysFrom}
@@ -16,6 +19,7 @@ use Rattle.sled_core.specs.Logged.{logged}
 use Rattle.sled_core.specs.OpenBatches.{stable_below}
 use Rattle.sled_core.specs.inside.Begun.{line_end}
 use Rattle.sled_core.specs.inside.Lasting.{LeavesRecovering}
+use Rattle.sled_core.specs.inside.MarksFit.{MarksFitFrom}
 use Rattle.sled_core.specs.inside.Numbers.{HaveSlotsFrom}
 use Rattle.sled_core.specs.inside.Running.{FitsIn, FitsLine, FitsShown, FitsWith, HaveItems, HaveNames}
 use Rattle.sled_core.specs.inside.Shown.{shown}
@@ -65,15 +69,15 @@ module _ (sum : List ℕ → ℕ) (size : ℕ) (device other : State) (fault : O
 
   module _ (names : other.snapshots.file ≡ device.snapshots.file) where
     module _ (site : SegmentPosition) (bytes : List ℕ) (from : ℕ) (bs : List Sealed) (rs : List Reserved) (behind : List SegmentParts) (H : History) where
-      unfoldable in_over : HoldsIn sum (log_parts size site device fault bytes from bs rs) behind H → HoldsIn sum (log_parts size site new fault bytes from bs rs) behind H
+      unfoldable in_over : {marks : JoinedMarks} → HoldsIn sum marks (log_parts size site device fault bytes from bs rs) behind H → HoldsIn sum marks (log_parts size site new fault bytes from bs rs) behind H
       in_over holds =
           holds_over sum size site device fault bytes from bs rs behind H holds new fault bytes from bs rs names (omega arith)
-          (segment_over site bytes from bs rs (StaysFrom H (stable_place holds.begun.first.stable)) (record { messages = holds.head; batches = H.batches }) holds.own)
-          (behind_over (site.place + size) behind (StaysBelow H (stable_place holds.begun.first.stable) site.place) H.batches holds.later holds.others)
+          (segment_over site bytes from bs rs (StaysFrom H (held_of holds.begun)) (record { messages = holds.head; batches = H.batches }) holds.own)
+          (behind_over (site.place + size) behind (StaysBelow H (held_of holds.begun) site.place) H.batches holds.later holds.others)
 
-    pub line_over : (line : List SegmentView) (H : History) → HoldsLine sum size device fault line H → HoldsLine sum size new fault line H
-    line_over [] H holds = holds
-    line_over (v ∷ vs) H holds = in_over v.parts.site v.parts.bytes v.parts.written_len v.parts.sealed v.parts.reserved (map parts_in vs) H holds
+    pub line_over : (marks : JoinedMarks) (line : List SegmentView) (H : History) → HoldsLine sum marks size device fault line H → HoldsLine sum marks size new fault line H
+    line_over marks [] H holds = holds
+    line_over marks (v ∷ vs) H holds = in_over v.parts.site v.parts.bytes v.parts.written_len v.parts.sealed v.parts.reserved (map parts_in vs) H holds
 
   -- It fits what it fitted, where its blobs have the items still, its names are those of the history, and what a crash leaves can be recovered.
   module _ (same_files : other.snapshots.file ≡ device.snapshots.file) (H : History) (A f : ℕ) (U : List Message)
@@ -83,7 +87,7 @@ module _ (sum : List ℕ → ℕ) (size : ℕ) (device other : State) (fault : O
     KeepsNeeds stable = (HaveItems sum device.blobs H stable → HaveItems sum other.blobs H stable) × (LeavesRecovering sum size H stable f device → LeavesRecovering sum size H stable f new)
 
     fits_in_over : (site : SegmentPosition) (bytes : List ℕ) (from : ℕ) (bs : List Sealed) (rs : List Reserved) (behind : List SegmentParts) (reach pins : ℕ) → KeepsNeeds (stable_below reach H.batches)
-        → FitsIn sum (log_parts size site device fault bytes from bs rs) behind reach pins H A f U → FitsIn sum (log_parts size site new fault bytes from bs rs) behind reach pins H A f U
+        → {marks : JoinedMarks} → FitsIn sum marks (log_parts size site device fault bytes from bs rs) behind reach pins H A f U → FitsIn sum marks (log_parts size site new fault bytes from bs rs) behind reach pins H A f U
     unfolding in_over
     fits_in_over site bytes from bs rs behind reach pins (items, left) fits = record {
       holds = in_over same_files site bytes from bs rs behind (logged H) fits.holds;
@@ -97,9 +101,9 @@ module _ (sum : List ℕ → ℕ) (size : ℕ) (device other : State) (fault : O
       left = left fits.left;
     }
 
-    pub fits_line_over : (line : List SegmentView) (reach pins : ℕ) → KeepsNeeds (stable_below reach H.batches) → FitsLine sum size device fault line reach pins H A f U → FitsLine sum size new fault line reach pins H A f U
-    fits_line_over [] reach pins keeps fits = fits
-    fits_line_over (v ∷ vs) reach pins keeps fits = fits_in_over v.parts.site v.parts.bytes v.parts.written_len v.parts.sealed v.parts.reserved (map parts_in vs) reach pins keeps fits
+    pub fits_line_over : (marks : JoinedMarks) (line : List SegmentView) (reach pins : ℕ) → KeepsNeeds (stable_below reach H.batches) → FitsLine sum marks size device fault line reach pins H A f U → FitsLine sum marks size new fault line reach pins H A f U
+    fits_line_over marks [] reach pins keeps fits = fits
+    fits_line_over marks (v ∷ vs) reach pins keeps fits = fits_in_over v.parts.site v.parts.bytes v.parts.written_len v.parts.sealed v.parts.reserved (map parts_in vs) reach pins keeps fits
 
 -- Where the blobs and the snapshots are others alone.
 module _ (sum : List ℕ → ℕ) (size : ℕ) (device : State) (blobs snapshots : NamesState) (fault : Option IoError) where
@@ -108,29 +112,29 @@ module _ (sum : List ℕ → ℕ) (size : ℕ) (device : State) (blobs snapshots
 
   -- A log holds what it held.
   pub holds_over_names : snapshots.file ≡ device.snapshots.file → (noted : List Batch) (line : List SegmentView) (m : Machine) (H : History)
-      → HoldsWith sum noted size device fault line m H → HoldsWith sum noted size named_new fault line m H
+      → {marks : JoinedMarks} → HoldsWith sum marks noted size device fault line m H → HoldsWith sum marks noted size named_new fault line m H
   holds_over_names names noted line m H holds =
-      record { holds = line_over sum size device named_new fault names line H holds.holds; batches = holds.batches; slots = holds.slots }
+      record { holds = line_over sum size device named_new fault names _ line H holds.holds; batches = holds.batches; slots = holds.slots }
 
   -- It fits what it fitted, where its blobs have the items still, its names are those of the history, and what a crash leaves can be recovered.
   module _ (same_files : snapshots.file ≡ device.snapshots.file) (H : History) (A f : ℕ) (U : List Message)
       (named : (first : SnapshotModel) → HaveNames sum size device fault (logged H) f first → HaveNames sum size named_new fault (logged H) f first) where
     -- it is read up to the same place
-    pub fits_over_blobs : (noted : List Batch) (line : List SegmentView) (m : Machine) (pins : ℕ)
-        (fits : FitsWith sum noted size device fault line m pins H A f U)
+    pub fits_over_blobs : {marks : JoinedMarks} (noted : List Batch) (line : List SegmentView) (m : Machine) (pins : ℕ)
+        (fits : FitsWith sum marks noted size device fault line m pins H A f U)
         → KeepsNeeds sum size device named_new fault same_files H A f U named (stable_below fits.reach H.batches)
-        → (now : FitsWith sum noted size named_new fault line m pins H A f U) × (now.reach ≡ fits.reach)
-    fits_over_blobs noted line m pins fits keeps = (
+        → (now : FitsWith sum marks noted size named_new fault line m pins H A f U) × (now.reach ≡ fits.reach)
+    fits_over_blobs {marks} noted line m pins fits keeps = (
       record {
         reach = fits.reach;
-        parts = fits_line_over sum size device named_new fault same_files H A f U named line fits.reach pins keeps fits.parts;
+        parts = fits_line_over sum size device named_new fault same_files H A f U named _ line fits.reach pins keeps fits.parts;
         batches = fits.batches;
         slots = fits.slots;
         whole = fits.whole;
         own = fits.own;
-        account = subst (λ (file : ℤ → Option (List ℕ)). HasAccount sum size file H U m) (sym same_files) fits.account;
+        account = subst (λ (file : ℤ → Option (List ℕ)). HasAccount sum marks size file H U m) (sym same_files) fits.account;
         numbers = λ zeros. numbers_less sum size named_new device (less_same sum size named_new device (λ i. device.placed)) m (line_end size line) (fits.numbers zeros);
-        in_slots = subst (λ (file : ℤ → Option (List ℕ)). HaveSlotsFrom sum size file H (stable_below fits.reach H.batches) m) (sym same_files) fits.in_slots;
+        in_slots = subst (λ (file : ℤ → Option (List ℕ)). HaveSlotsFrom sum marks size file H (stable_below fits.reach H.batches) m) (sym same_files) fits.in_slots;
       },
       refl,
     )
@@ -154,22 +158,23 @@ module _ (sum : List ℕ → ℕ) (size : ℕ) (device : State) (blobs snapshots
       leaves_beside sum p device blobs snapshots changes H unnamed size stable f,
     )
 
-    pub fits_over_names : (noted : List Batch) (line : List SegmentView) (m : Machine) (pins : ℕ) → FitsWith sum noted size device fault line m pins H A f U → FitsWith sum noted size named_new fault line m pins H A f U
+    pub fits_over_names : (noted : List Batch) (line : List SegmentView) (m : Machine) (pins : ℕ) → {marks : JoinedMarks} → FitsWith sum marks noted size device fault line m pins H A f U → FitsWith sum marks noted size named_new fault line m pins H A f U
     fits_over_names noted line m pins fits = (fits_over_blobs changes.same_files H A f U names_over noted line m pins fits (needs_over (stable_below fits.reach H.batches))).0
 
 -- So it is over what a log shows of its device: that is the same with other names.
 module _ (sum : List ℕ → ℕ) (size : ℕ) (device : State) (blobs snapshots : NamesState) (fault : Option IoError) where
   pub shown_holds_over : snapshots.file ≡ device.snapshots.file → (noted : List Batch) (line : List SegmentView) (m : Machine) (H : History)
-      → HoldsShown sum noted size device fault line m H → HoldsShown sum noted size (with_names device blobs snapshots) fault line m H
+      → {marks : JoinedMarks} → HoldsShown sum marks noted size device fault line m H → HoldsShown sum marks noted size (with_names device blobs snapshots) fault line m H
   shown_holds_over names noted line m H holds = record {
     shows = holds_over_names sum size (shown size fault m line device) blobs snapshots fault names noted line m H holds.shows;
     rests = holds.rests;
   }
 
   pub shown_fits_over : (p : ℤ) (changes : ChangesAt sum p device blobs snapshots) (H : History) (unnamed : IsUnnamed H p) (A f : ℕ) (U : List Message)
-      (noted : List Batch) (line : List SegmentView) (m : Machine) (pins : ℕ)
-      → FitsShown sum noted size device fault line m pins H A f U → FitsShown sum noted size (with_names device blobs snapshots) fault line m pins H A f U
-  shown_fits_over p changes H unnamed A f U noted line m pins fits =
+      (marks : JoinedMarks) (noted : List Batch) (line : List SegmentView) (m : Machine) (pins : ℕ)
+      → FitsShown sum marks noted size device fault line m pins H A f U
+      → FitsShown sum marks noted size (with_names device blobs snapshots) fault line m pins H A f U
+  shown_fits_over p changes H unnamed A f U marks noted line m pins fits =
       let sees : State = shown size fault m line device in
       let same : ChangesAt sum p sees blobs snapshots = record {
         of_blobs = changes.of_blobs;
@@ -184,4 +189,6 @@ module _ (sum : List ℕ → ℕ) (size : ℕ) (device : State) (blobs snapshots
         rests = fits.rests;
         hides = λ none zeros.
             from_names sum size device (with_names device blobs snapshots) m line (logged H) refl refl changes.same_files (fits.hides none zeros);
+        marked = λ none zeros. subst (λ (file : ℤ → Option (List ℕ)). MarksFitFrom sum size file (cleared size m line device.log.bytes) marks)
+            (sym changes.same_files) (fits.marked none zeros);
       }

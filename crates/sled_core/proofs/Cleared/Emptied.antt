@@ -224,17 +224,17 @@ module _ (sum : List ℕ → ℕ) (none : NoHeaderOfZeros sum) (size : ℕ) (som
   -- So does a log that goes on in a segment, and a log whose segments before a place are full, where the segments that were begun lie in other slots.
 
   module _ (H : History) (reach : ℕ) (first : SnapshotModel) {site : SegmentPosition} {from : ℕ} {others : List BegunSegment}
-      (among : StandsAmong sum size old site from others reach H first)
+      {held : ℕ} (among : StandsAmong sum held size old site from others reach H first)
       (gone : LiesBelow sum size old (least_place size first) k (among.stands.from / size * size)) (unneeded : NoneNeeds size H k among.stands.from reach)
       (here : site.slot ≢ k * size) (behind : (x : BegunSegment) → Contains others x → x.site.slot ≢ k * size) where
     abbrev A : ℕ
     A = stable_below reach H.batches
 
-    pub emptied_stands : (now : StandsAmong sum size left site from others reach H first) × (now.stands.from ≡ among.stands.from)
+    pub emptied_stands : (now : StandsAmong sum held size left site from others reach H first) × (now.stands.from ≡ among.stands.from)
     emptied_stands = (
       record {
         stands = (emptied_to H A first reach among.stands gone unneeded).0;
-        held = (emptied_to H A first reach among.stands gone unneeded).1 ∙ among.held;
+        low = (let same = (emptied_to H A first reach among.stands gone unneeded).1 in let low = among.low in omega (arith, same, low));
         reached = among.reached;
         led = elim among.led [
           | inl below ↦ inl below
@@ -251,7 +251,7 @@ module _ (sum : List ℕ → ℕ) (none : NoHeaderOfZeros sum) (size : ℕ) (som
     )
 
   module _ (H : History) (reach : ℕ) (first : SnapshotModel) {place : ℕ} {others : List BegunSegment}
-      (full : StandsFull sum size old place others reach H first)
+      {held : ℕ} (full : StandsFull sum held size old place others reach H first)
       (gone : LiesBelow sum size old (least_place size first) k (full.stands.from / size * size)) (unneeded : NoneNeeds size H k full.stands.from reach)
       (behind : (x : BegunSegment) → Contains others x → x.site.slot ≢ k * size) where
     abbrev A' : ℕ
@@ -265,11 +265,11 @@ module _ (sum : List ℕ → ℕ) (none : NoHeaderOfZeros sum) (size : ℕ) (som
       | inr (inr l) ↦ l
     ]
 
-    pub emptied_full : (now : StandsFull sum size left place others reach H first) × (now.stands.from ≡ full.stands.from)
+    pub emptied_full : (now : StandsFull sum held size left place others reach H first) × (now.stands.from ≡ full.stands.from)
     emptied_full = (
       record {
         stands = (emptied_to H A' first reach full.stands gone unneeded).0;
-        held = (emptied_to H A' first reach full.stands gone unneeded).1 ∙ full.held;
+        low = (let same = (emptied_to H A' first reach full.stands gone unneeded).1 in let low = full.low in omega (arith, same, low));
         leads = leads_still;
         near = full.near;
         behind = λ x has. stands_still H A' first reach full.stands gone unneeded x.site x.from (behind x has) (full.behind x has);

@@ -4,7 +4,6 @@ use Rattle.std.specs.List.{All}
 use Rattle.std.specs.declared.io.Error.{Error as IoError}
 use Rattle.std.proofs.lemmas.List.{append-nil}
 use Rattle.sled_codec.specs.History.{Message, Batch, History}
-use Rattle.sled_codec.specs.Snapshots.{stable_place}
 use Rattle.sled_codec.specs.WellFormed.{LieApart}
 use Rattle.sled_store.specs.Device.{LogState, State}
 use Rattle.sled_store.specs.SnapshotFiles.{BeginsFrom}
@@ -13,17 +12,19 @@ use Rattle.sled_core.specs.declared.iobuf.Sealed.{Sealed}
 use Rattle.sled_core.specs.declared.iobuf.SegmentPosition.{SegmentPosition}
 use Rattle.sled_core.specs.inside.Buffers.{IsChain, Stands, completed_in}
 use Rattle.sled_core.specs.Begun.{SegmentParts}
-use Rattle.sled_core.specs.Fits.{CloseBelow, IsOnDevice, IsBegunFrom, IsKept, EndBelow}
+use Rattle.sled_core.specs.Fits.{CloseBelow, EndBelow, IsBegunFrom, IsKept, IsOnDevice, held_of}
 use Rattle.sled_core.specs.inside.Fits.{log_parts, HoldBehind, HoldsIn, HoldsSegment}
 use Rattle.sled_core.specs.LogFile.{IsLogFile, StaysFrom}
 use Rattle.sled_core.specs.inside.LogFile.{StaysBelow}
 use Rattle.sled_core.proofs.Reached.Marks.{less_than}
 use Rattle.sled_core.proofs.Reserve.Entries.{some_in}
 use Rattle.sled_core.proofs.Reserve.Ranges.{chain_grows}
+use Rattle.sled_core.specs.declared.logger.joined_marks.JoinedMarks.{JoinedMarks}
+use Rattle.std.proofs.lemmas.Int.{ints}
 
 -- The snapshot is the same, and more of the log is settled.
 abbrev pub begun-more : (sum : List ℕ → ℕ) (size : ℕ) (snapshots snapshots' : ℤ → Option (List ℕ)) (site : SegmentPosition) (from from' : ℕ) (H : History) → snapshots' ≡ snapshots → from ≤ from'
-    → IsBegunFrom sum size snapshots site from H → IsBegunFrom sum size snapshots' site from' H
+    → {mark durable : ℤ} → IsBegunFrom sum mark durable size snapshots site from H → IsBegunFrom sum mark durable size snapshots' site from' H
 begun-more sum size snapshots snapshots' site from from' H same more begun = record {
   first = begun.first;
   begins = subst (λ (f : ℤ → Option (List ℕ)). BeginsFrom sum f begun.first) (sym same) begun.begins;
@@ -31,6 +32,9 @@ begun-more sum size snapshots snapshots' site from from' H same more begun = rec
   fits = begun.fits;
   least = begun.least;
   reached = let reached = begun.reached in omega (arith, reached, more);
+  joined = begun.joined;
+  written = let written = begun.written in omega (arith, ints, written, more);
+  marked = begun.marked;
 }
 
 -- there is a failure, or there is none
@@ -62,10 +66,10 @@ module _ (sum : List ℕ → ℕ) (size : ℕ) (site : SegmentPosition) (device 
 
 -- What a log holds it holds over the same snapshot, and up to a place no lower, where its segments hold the same.
 abbrev pub holds_over : (sum : List ℕ → ℕ) (size : ℕ) (site : SegmentPosition) (device : State) (fault : Option IoError) (bytes : List ℕ) (from : ℕ) (bs : List Sealed) (rs : List Reserved) (behind : List SegmentParts) (H : History)
-    (holds : HoldsIn sum (log_parts size site device fault bytes from bs rs) behind H)
+    {marks : JoinedMarks} (holds : HoldsIn sum marks (log_parts size site device fault bytes from bs rs) behind H)
     (new : State) (now : Option IoError) (bytes' : List ℕ) (from' : ℕ) (bs' : List Sealed) (rs' : List Reserved) → new.snapshots.file ≡ device.snapshots.file → from ≤ from'
-    → HoldsSegment sum (log_parts size site new now bytes' from' bs' rs') (StaysFrom H (stable_place holds.begun.first.stable)) (record { messages = holds.head; batches = H.batches })
-    → HoldBehind sum size new now (site.place + size) behind (StaysBelow H (stable_place holds.begun.first.stable) site.place) H.batches holds.later → HoldsIn sum (log_parts size site new now bytes' from' bs' rs') behind H
+    → HoldsSegment sum (log_parts size site new now bytes' from' bs' rs') (StaysFrom H (held_of holds.begun)) (record { messages = holds.head; batches = H.batches })
+    → HoldBehind sum size new now (site.place + size) behind (StaysBelow H (held_of holds.begun) site.place) H.batches holds.later → HoldsIn sum marks (log_parts size site new now bytes' from' bs' rs') behind H
 holds_over sum size site device fault bytes from bs rs behind H holds new now bytes' from' bs' rs' names more own others = record {
   begun = begun-more sum size device.snapshots.file new.snapshots.file site from from' H names more holds.begun;
   head = holds.head;
@@ -98,21 +102,21 @@ behind_faulty sum size device fault place (s ∷ ss) stays batches ms (own, late
 )
 
 module _ (sum : List ℕ → ℕ) (size : ℕ) (site : SegmentPosition) (device : State) (fault : Option IoError) (bytes : List ℕ) (from : ℕ) (bs : List Sealed) (rs : List Reserved) (H : History)
-    {behind : List SegmentParts} (holds : HoldsIn sum (log_parts size site device fault bytes from bs rs) behind H) where
+    {behind : List SegmentParts} {marks : JoinedMarks} (holds : HoldsIn sum marks (log_parts size site device fault bytes from bs rs) behind H) where
   -- A log that keeps a failure of its device holds what it held, whatever the log file is now.
-  unfoldable pub holds-faulty : (new : State) (e : IoError) (now : Option IoError) → now ≡ Some e → new.snapshots.file ≡ device.snapshots.file → HoldsIn sum (log_parts size site new now bytes from bs rs) behind H
+  unfoldable pub holds-faulty : (new : State) (e : IoError) (now : Option IoError) → now ≡ Some e → new.snapshots.file ≡ device.snapshots.file → HoldsIn sum marks (log_parts size site new now bytes from bs rs) behind H
   holds-faulty new e now is names =
       holds_over sum size site device fault bytes from bs rs behind H holds new now bytes from bs rs names (omega arith)
       (segment-faulty sum size site device fault bytes from bs rs (record { messages = holds.head; batches = H.batches }) holds.own new e now is)
-      (behind_faulty sum size device fault (site.place + size) behind (StaysBelow H (stable_place holds.begun.first.stable) site.place) H.batches holds.later holds.others new e now is)
+      (behind_faulty sum size device fault (site.place + size) behind (StaysBelow H (held_of holds.begun) site.place) H.batches holds.later holds.others new e now is)
 
 -- Where no message was completed since the last write, and the segments behind the first one have none, all is on the device.
 module _ (sum : List ℕ → ℕ) (size : ℕ) (site : SegmentPosition) (device : State) (fault : Option IoError) (bytes : List ℕ) (from : ℕ) (bs : List Sealed) (rs : List Reserved) (H : History)
-    {behind : List SegmentParts} (holds : HoldsIn sum (log_parts size site device fault bytes from bs rs) behind H) where
+    {behind : List SegmentParts} {marks : JoinedMarks} (holds : HoldsIn sum marks (log_parts size site device fault bytes from bs rs) behind H) where
   -- (also of another log file on which that is)
-  pub all_kept : (log : LogState) → IsOnDevice sum size log site from holds.own.records.earlier (StaysFrom H (stable_place holds.begun.first.stable))
+  pub all_kept : (log : LogState) → IsOnDevice sum size log site from holds.own.records.earlier (StaysFrom H (held_of holds.begun))
       → CloseBelow (site.place + from) H.batches → completed_in site bytes rs ≡ [] → holds.later ≡ [] → site.place + size < 2 ^ 63 → from ≤ size
-      → IsKept sum size site from (record device { log = log }) H
+      → IsKept sum marks.joined marks.durable size site from (record device { log = log }) H
   all_kept log on closed none last in_reach inside =
       let own = holds.own in
       let all : H.messages ≡ own.records.earlier =
@@ -128,7 +132,7 @@ module _ (sum : List ℕ → ℕ) (size : ℕ) (site : SegmentPosition) (device 
         inside = inside;
         begun = holds.begun;
         on_device =
-            subst (λ (ms : List Message). IsOnDevice sum size log site from ms (StaysFrom H (stable_place holds.begun.first.stable))) (sym all) on;
+            subst (λ (ms : List Message). IsOnDevice sum size log site from ms (StaysFrom H (held_of holds.begun))) (sym all) on;
       }
 
 -- What is on a device stands in the log file that is read of it.

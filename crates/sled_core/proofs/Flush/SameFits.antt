@@ -10,15 +10,16 @@ use Rattle.sled_core.specs.Begun.{SegmentParts}
 use Rattle.sled_core.specs.inside.Fits.{log_parts}
 use Rattle.sled_core.specs.Logged.{logged}
 use Rattle.sled_core.specs.OpenBatches.{stable_below}
+use Rattle.sled_core.specs.declared.logger.joined_marks.JoinedMarks.{JoinedMarks}
 use Rattle.sled_core.specs.inside.Lasting.{LeavesRecovering}
 use Rattle.sled_core.specs.inside.Running.{BlobsFit, FitsIn, KeepsEntries, KeepsItems, NamesFit}
 use Rattle.sled_core.proofs.Flush.FlushLemmas.{holds-faulty}
 
 module _ (sum : List ℕ → ℕ) (size : ℕ) (site : SegmentPosition) (device : State) (fault : Option IoError) (bytes : List ℕ) (from : ℕ) (bs : List Sealed) (rs : List Reserved) (pins : ℕ) (H : History) (A f : ℕ) (U : List Message)
-    {behind : List SegmentParts} {reach : ℕ} (fits : FitsIn sum (log_parts size site device fault bytes from bs rs) behind reach pins H A f U) where
+    {behind : List SegmentParts} {reach : ℕ} {marks : JoinedMarks} (fits : FitsIn sum marks (log_parts size site device fault bytes from bs rs) behind reach pins H A f U) where
   -- A log that keeps a failure of its device fits what it fitted, where a crash leaves what can be recovered.
   pub fits_faulty : (new : State) (e : IoError) (now : Option IoError) → now ≡ Some e → new.blobs ≡ device.blobs → new.snapshots ≡ device.snapshots → LeavesRecovering sum size H (stable_below reach H.batches) f new
-      → FitsIn sum (log_parts size site new now bytes from bs rs) behind reach pins H A f U
+      → FitsIn sum marks (log_parts size site new now bytes from bs rs) behind reach pins H A f U
   unfolding holds-faulty
   fits_faulty new e now is blobs snapshots left = record {
     reached = fits.reached;

@@ -4,7 +4,6 @@ use Rattle.std.proofs.Common.{◌≡◌, ◌≢◌, ◌∙◌, ◌+◌, ◌<◌,
 use Rattle.std.specs.List.{Contains}
 use Rattle.std.proofs.lemmas.Bool.{true≢false}
 use Rattle.sled_codec.specs.History.{History, Message, table}
-use Rattle.sled_codec.specs.Snapshots.{stable_place}
 use Rattle.sled_store.specs.Marks.{slot_with}
 use Rattle.sled_store.specs.Outdated.{AreOutdated}
 use Rattle.sled_store.specs.SegmentStates.{Machine, Step, is_due, is_free, slot_at, stabilized}
@@ -18,10 +17,12 @@ use Rattle.sled_store.proofs.Marks.OutdatedSteps.{outdated_still, stabilized_blo
 use Rattle.sled_store.proofs.Segments.Elements.{in_nothing}
 use Rattle.sled_core.specs.Logged.{in_log, logged}
 use Rattle.sled_core.specs.Unmarked.{without}
+use Rattle.sled_core.specs.declared.logger.joined_marks.JoinedMarks.{JoinedMarks}
 use Rattle.sled_core.specs.inside.Slots.{HasAccount}
 use Rattle.sled_core.proofs.Cleared.Emptied.{NoneNeeds}
 use Rattle.sled_core.proofs.Logged.Messages.{table_logged}
 use Rattle.sled_core.proofs.Start.StartedAccount.{all_marked}
+use Rattle.sled_core.specs.inside.LogSegments.{held_since}
 
 -- What no table of a history needs none needs as the log has it.
 pub none_needs_logged : (size : ℕ) (H : History) (k from to : ℕ) → NoneNeeds size H k from to → NoneNeeds size (logged H) k from to
@@ -36,17 +37,18 @@ module _ (sum : List ℕ → ℕ) (size : ℕ) (snapshots : ℤ → Option (List
   after = (stabilized size mark m).machine
 
   -- Where all messages are marked, and what is due ends at a place or below it, the slots are the account from that place on.
-  pub all_marked_account : (has : HasAccount sum size snapshots H [] m) (raised : ℕ) → stable_place has.first.stable ≤ raised
+  pub all_marked_account : {marks : JoinedMarks} (has : HasAccount sum marks size snapshots H [] m) (raised : ℕ)
+      → held_since size marks has.first ≤ raised
       → ((place : ℕ) → is_due size mark place ≡ true → place + size ≤ raised)
       → IsAccountOf size raised H after
-  all_marked_account has raised le due =
-      let base : ℕ = stable_place has.first.stable in
+  all_marked_account {marks} has raised le due =
+      let base : ℕ = held_since size marks has.first in
       let its : IsAccountOf size base H m = same_account size base (without [] H) m has.account H (sym (all_marked H.messages)) in
       stabilized_account size base H m some order its mark raised le due
 
   -- No table from there on needs anything of a slot that the step frees.
-  pub freed_unneeded : (U : List Message) (has : HasAccount sum size snapshots H U m) → (U ≢ [] → NoneDue size mark m) → (raised : ℕ)
-      → stable_place has.first.stable ≤ raised
+  pub freed_unneeded : (U : List Message) {marks : JoinedMarks} (has : HasAccount sum marks size snapshots H U m) → (U ≢ [] → NoneDue size mark m) → (raised : ℕ)
+      → held_since size marks has.first ≤ raised
       → ((place : ℕ) → is_due size mark place ≡ true → place + size ≤ raised) → (k : ℕ) → is_free (slot_at m k).state ≡ false
       → is_free (slot_at after k).state ≡ true
       → (to : ℕ) → NoneNeeds size H k raised to
@@ -57,11 +59,11 @@ module _ (sum : List ℕ → ℕ) (size : ℕ) (snapshots : ℤ → Option (List
       absurd (true≢false (sym free ∙ ap (λ (n : Machine). is_free (slot_at n k).state) same ∙ taken))
 
   -- The blobs that go with segments stay outdated,
-  pub stabilized_outdated : (U : List Message) → HasAccount sum size snapshots H U m → AreOutdated size H after
+  pub stabilized_outdated : (U : List Message) → {marks : JoinedMarks} → HasAccount sum marks size snapshots H U m → AreOutdated size H after
   stabilized_outdated U has = outdated_still size H m after has.outdated (stabilized_blobs size mark m)
 
   -- and messages that aren't marked stay in active segments.
-  pub stabilized_unmarked : (U : List Message) → HasAccount sum size snapshots H U m → (U ≢ [] → NoneDue size mark m) → AreInActive size after U
+  pub stabilized_unmarked : (U : List Message) → {marks : JoinedMarks} → HasAccount sum marks size snapshots H U m → (U ≢ [] → NoneDue size mark m) → AreInActive size after U
   stabilized_unmarked [] has idle = λ e there. absurd (in_nothing e there)
   stabilized_unmarked (u ∷ us) has idle =
       subst (λ (n : Machine). AreInActive size n (u ∷ us)) (sym (ap (λ (s : Step). s.machine)

@@ -28,6 +28,7 @@ use Rattle.sled_core.specs.Good.{HasOwnBlob}
 use Rattle.sled_core.specs.OpenBatches.{stable_below}
 use Rattle.sled_core.specs.OwnBlobs.{IsBeside}
 use Rattle.sled_core.specs.OwnNames.{IsAnyBlob, IsOwn}
+use Rattle.sled_core.specs.declared.logger.joined_marks.JoinedMarks.{JoinedMarks}
 use Rattle.sled_core.specs.inside.Lasting.{LeavesRecovering}
 use Rattle.sled_core.specs.inside.Recoverable.{AreRecoverableBlobs, HasItem, PassesIfThere}
 use Rattle.sled_core.specs.inside.Running.{BlobsFit, FitsWith, HaveItems, KeepsEntries, KeepsItems}
@@ -189,21 +190,21 @@ outdated_goes sum size some H order m are k stable f ends device has =
       }
 
 -- A log of this line and these slots fits a history over a device, and all up to a place is stable.
-pub record FitsPast (sum : List ℕ → ℕ) (noted : List Batch) (size : ℕ) (fault : Option IoError) (line : List SegmentView) (m : Machine) (pins : ℕ)
-    (H : History) (A f : ℕ) (U : List Message) (place : ℕ) (s : State) : Type 0 where
-  pub fits : FitsWith sum noted size s fault line m pins H A f U
+pub record FitsPast (sum : List ℕ → ℕ) (marks : JoinedMarks) (noted : List Batch) (size : ℕ) (fault : Option IoError) (line : List SegmentView) (m : Machine)
+    (pins : ℕ) (H : History) (A f : ℕ) (U : List Message) (place : ℕ) (s : State) : Type 0 where
+  pub fits : FitsWith sum marks noted size s fault line m pins H A f U
   pub past : place ≤ stable_below fits.reach H.batches
 
 -- So it does along the removal of all blobs that go with a segment which ends there.
-pub fits_outdated_goes : (sum : List ℕ → ℕ) (noted : List Batch) (size : ℕ) (fault : Option IoError) (line : List SegmentView) (m : Machine) (pins : ℕ)
+pub fits_outdated_goes : (sum : List ℕ → ℕ) (marks : JoinedMarks) (noted : List Batch) (size : ℕ) (fault : Option IoError) (line : List SegmentView) (m : Machine) (pins : ℕ)
     (H : History) (A f : ℕ) (U : List Message)
-    → 0 < size → Ascends H.messages → (k : ℕ) (device : State) → FitsPast sum noted size fault line m pins H A f U ((slot_at m k).lsn + size) device
-    → Along (FitsPast sum noted size fault line m pins H A f U ((slot_at m k).lsn + size)) (removing_blobs (slot_at m k).blobs) device
-fits_outdated_goes sum noted size fault line m pins H A f U some order k device has =
-    removing_all_keep (FitsPast sum noted size fault line m pins H A f U ((slot_at m k).lsn + size)) (slot_at m k).blobs keeps device has where
+    → 0 < size → Ascends H.messages → (k : ℕ) (device : State) → FitsPast sum marks noted size fault line m pins H A f U ((slot_at m k).lsn + size) device
+    → Along (FitsPast sum marks noted size fault line m pins H A f U ((slot_at m k).lsn + size)) (removing_blobs (slot_at m k).blobs) device
+fits_outdated_goes sum marks noted size fault line m pins H A f U some order k device has =
+    removing_all_keep (FitsPast sum marks noted size fault line m pins H A f U ((slot_at m k).lsn + size)) (slot_at m k).blobs keeps device has where
       keeps : (p : ℤ) → Contains (slot_at m k).blobs p → (s : State) (done : Bool)
-          → FitsPast sum noted size fault line m pins H A f U ((slot_at m k).lsn + size) s
-          → FitsPast sum noted size fault line m pins H A f U ((slot_at m k).lsn + size) (step (BlobRemoved p done) s)
+          → FitsPast sum marks noted size fault line m pins H A f U ((slot_at m k).lsn + size) s
+          → FitsPast sum marks noted size fault line m pins H A f U ((slot_at m k).lsn + size) (step (BlobRemoved p done) s)
       keeps p among s done its =
           record { fits = now.0; past = subst (λ reach. (slot_at m k).lsn + size ≤ stable_below reach H.batches) (sym now.1) its.past } where
             stable : ℕ
@@ -223,7 +224,7 @@ fits_outdated_goes sum noted size fault line m pins H A f U some order k device 
             left : LeavesRecovering sum size H stable f s → LeavesRecovering sum size H stable f (step (BlobRemoved p done) s)
             left = removed_leaves sum size some H order ((slot_at m k).lsn + size) p spent stable f its.past s done
 
-            now : (fits : FitsWith sum noted size (step (BlobRemoved p done) s) fault line m pins H A f U) × (fits.reach ≡ its.fits.reach)
+            now : (fits : FitsWith sum marks noted size (step (BlobRemoved p done) s) fault line m pins H A f U) × (fits.reach ≡ its.fits.reach)
             now = fits_over_blobs sum size s (unnamed s.blobs p done) s.snapshots fault refl H A f U
                 (λ first named. record { names = named.names; own_names = λ none. own_removing sum p done s (named.own_names none) }) noted line m pins its.fits
                 (items, left)

@@ -68,7 +68,7 @@ module _ (H H' : History) (m : Message) (adds : AddsMessage H m H') where
   entry_stays cut page past x there = subst (λ (l : List Message). Contains l x) (table_stays H H' m cut page adds past) there
 
   -- The newest snapshot is where it was begun from still.
-  abbrev pub begun-adds : (sum : List ℕ → ℕ) (size : ℕ) (snapshots : ℤ → Option (List ℕ)) (site : SegmentPosition) (from : ℕ) → site.place + from ≤ m.place → IsBegunFrom sum size snapshots site from H → IsBegunFrom sum size snapshots site from H'
+  abbrev pub begun-adds : (sum : List ℕ → ℕ) (size : ℕ) (snapshots : ℤ → Option (List ℕ)) (site : SegmentPosition) (from : ℕ) → site.place + from ≤ m.place → {mark durable : ℤ} → IsBegunFrom sum mark durable size snapshots site from H → IsBegunFrom sum mark durable size snapshots site from H'
   begun-adds sum size snapshots site from above begun =
       let reached = begun.reached in
       let past : stable_place begun.first.stable ≤ m.place = omega (arith, above, reached) in
@@ -79,6 +79,9 @@ module _ (H H' : History) (m : Message) (adds : AddsMessage H m H') where
         fits = fits-adds H H' m (stable_place begun.first.stable) adds past begun.fits;
         least = begun.least;
         reached = begun.reached;
+        joined = begun.joined;
+        written = begun.written;
+        marked = begun.marked;
       }
 
   -- a message that stays, and lies below the new one, stayed before

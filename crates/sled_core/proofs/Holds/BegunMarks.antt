@@ -49,7 +49,7 @@ module _ (H H' : History) (b : Batch) (adds : AddsBatch H b H') where
   }
 
   -- The newest snapshot is where it was begun from still.
-  abbrev pub begun-marks : (sum : List ℕ → ℕ) (size : ℕ) (snapshots : ℤ → Option (List ℕ)) (site : SegmentPosition) (from : ℕ) (begun : IsBegunFrom sum size snapshots site from H) → stable_place begun.first.stable ≤ b.low → IsBegunFrom sum size snapshots site from H'
+  abbrev pub begun-marks : (sum : List ℕ → ℕ) (size : ℕ) (snapshots : ℤ → Option (List ℕ)) (site : SegmentPosition) (from : ℕ) {mark durable : ℤ} (begun : IsBegunFrom sum mark durable size snapshots site from H) → stable_place begun.first.stable ≤ b.low → IsBegunFrom sum mark durable size snapshots site from H'
   begun-marks sum size snapshots site from begun past = record {
     first = begun.first;
     begins = begun.begins;
@@ -57,6 +57,9 @@ module _ (H H' : History) (b : Batch) (adds : AddsBatch H b H') where
     fits = cut-marks (stable_place begun.first.stable) past begun.fits;
     least = begun.least;
     reached = begun.reached;
+    joined = begun.joined;
+    written = begun.written;
+    marked = begun.marked;
   }
 
   -- The messages that stay are the same.

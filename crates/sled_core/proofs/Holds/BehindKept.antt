@@ -6,19 +6,20 @@ use Rattle.std.proofs.lemmas.Bool.{cases_order}
 use Rattle.sled_codec.specs.declared.result.DiskPtr.TheVariants.{Inline}
 use Rattle.sled_codec.specs.Record.{IsHeader}
 use Rattle.sled_codec.specs.History.{Message, Batch, History}
-use Rattle.sled_codec.specs.Snapshots.{stable_place}
 use Rattle.sled_store.specs.Device.{LogState, State, at_rest, overwritten}
 use Rattle.sled_store.proofs.Segments.Elements.{in_first, in_rest}
 use Rattle.sled_core.specs.declared.iobuf.Reserved.{Reserved}
 use Rattle.sled_core.specs.declared.iobuf.Sealed.{Sealed}
 use Rattle.sled_core.specs.declared.iobuf.SegmentPosition.{SegmentPosition}
 use Rattle.sled_core.specs.Begun.{SegmentParts}
+use Rattle.sled_core.specs.Fits.{held_of}
 use Rattle.sled_core.specs.inside.Fits.{HoldBehind, HoldsIn, HoldsSegment, begun_segment, log_parts}
 use Rattle.sled_core.specs.LogFile.{HasHeader, IsLogFile, StandsElsewhere, StandsHere, StaysFrom}
 use Rattle.sled_core.specs.inside.LogFile.{StaysBelow}
 use Rattle.sled_core.specs.inside.Reached.{BegunSegment}
 use Rattle.sled_core.specs.inside.SealedBuffers.{AreSealed, Laid}
 use Rattle.sled_core.specs.SealedBuffers.{sealed_end}
+use Rattle.sled_core.specs.declared.logger.joined_marks.JoinedMarks.{JoinedMarks}
 use Rattle.sled_core.proofs.Flush.FlushLemmas.{on_file}
 use Rattle.sled_core.proofs.Holds.CompletedLemmas.{segment-fewer}
 use Rattle.sled_core.proofs.Tail.LogFileLemmas.{file_grows, header_there, message_kept, part_kept}
@@ -147,13 +148,13 @@ behind_beside sum size some site slot_begins device fault whole at xs long low h
 
 -- So it is where a buffer of the first segment of a log is written.
 pub others_written : (sum : List ℕ → ℕ) (size : ℕ) (site : SegmentPosition) (device : State) (fault : Option IoError) (bytes : List ℕ) (from : ℕ) (bs : List Sealed) (rs : List Reserved) (H : History) {behind : List SegmentParts}
-    (holds : HoldsIn sum (log_parts size site device fault bytes from bs rs) behind H) → 0 < size → fault ≡ None → (at : ℕ) (xs : List ℕ) → 0 < length xs → site.slot ≤ at → at + length xs ≤ site.slot + size
+    {marks : JoinedMarks} (holds : HoldsIn sum marks (log_parts size site device fault bytes from bs rs) behind H) → 0 < size → fault ≡ None → (at : ℕ) (xs : List ℕ) → 0 < length xs → site.slot ≤ at → at + length xs ≤ site.slot + size
     → (new : State) → new.log ≡ at_rest (overwritten device.log.bytes at xs)
-    → HoldBehind sum size new fault (site.place + size) behind (StaysBelow H (stable_place holds.begun.first.stable) site.place) H.batches holds.later
+    → HoldBehind sum size new fault (site.place + size) behind (StaysBelow H (held_of holds.begun) site.place) H.batches holds.later
 others_written sum size site device fault bytes from bs rs H {behind} holds some whole at xs long low high new is =
-    let stays : Message → Type 0 = StaysFrom H (stable_place holds.begun.first.stable) in
+    let stays : Message → Type 0 = StaysFrom H (held_of holds.begun) in
     let file : IsLogFile sum size device.log.bytes site from holds.own.records.earlier stays = on_file sum size device.log site from holds.own.records.earlier stays (holds.own.written whole) in
-    behind_beside sum size some site holds.own.records.slot_begins device fault whole at xs long low high new is (StaysBelow H (stable_place holds.begun.first.stable) site.place)
+    behind_beside sum size some site holds.own.records.slot_begins device fault whole at xs long low high new is (StaysBelow H (held_of holds.begun) site.place)
     (λ other m its lid inline stands.
     let kept = elsewhere_kept sum size device.log.bytes at xs site lid m low high (file.elsewhere m its.0 its.1 lid inline) in
     record { begins = stands.begins; stands = kept.stands; apart = stands.apart })

@@ -5,13 +5,14 @@ use Rattle.sled_codec.specs.History.{Batch, History, Message}
 use Rattle.sled_store.specs.Device.{State}
 use Rattle.sled_store.specs.SegmentStates.{Machine}
 use Rattle.sled_core.specs.Begun.{SegmentView}
+use Rattle.sled_core.specs.declared.logger.joined_marks.JoinedMarks.{JoinedMarks}
 use Rattle.sled_core.specs.inside.Running.{FitsLine, FitsShown}
 use Rattle.sled_core.specs.inside.Shown.{shown}
 
-module _ {sum : List ℕ → ℕ} {noted : List Batch} {size : ℕ} {device : State} {fault : Option IoError} {line : List SegmentView} {m : Machine} {pins : ℕ}
-    {H : History} {A f : ℕ} {U : List Message} (fits : FitsShown sum noted size device fault line m pins H A f U) where
-  pub fits_anew : (now B g : ℕ) → FitsLine sum size (shown size fault m line device) fault line fits.shows.reach now H B g U
-      → FitsShown sum noted size device fault line m now H B g U
+module _ {sum : List ℕ → ℕ} {marks : JoinedMarks} {noted : List Batch} {size : ℕ} {device : State} {fault : Option IoError} {line : List SegmentView}
+    {m : Machine} {pins : ℕ} {H : History} {A f : ℕ} {U : List Message} (fits : FitsShown sum marks noted size device fault line m pins H A f U) where
+  pub fits_anew : (now B g : ℕ) → FitsLine sum marks size (shown size fault m line device) fault line fits.shows.reach now H B g U
+      → FitsShown sum marks noted size device fault line m now H B g U
   fits_anew now B g parts = record {
     shows = record {
       reach = fits.shows.reach;
@@ -26,4 +27,5 @@ module _ {sum : List ℕ → ℕ} {noted : List Batch} {size : ℕ} {device : St
     };
     rests = fits.rests;
     hides = fits.hides;
+    marked = fits.marked;
   }

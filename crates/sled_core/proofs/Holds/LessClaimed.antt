@@ -13,6 +13,7 @@ use Rattle.sled_core.specs.Logged.{logged}
 use Rattle.sled_core.specs.OpenBatches.{stable_below}
 use Rattle.sled_core.specs.inside.Recoverable.{AreRecoverableSnapshots}
 use Rattle.sled_core.specs.Recoverable.{LeavesRecoverable}
+use Rattle.sled_core.specs.declared.logger.joined_marks.JoinedMarks.{JoinedMarks}
 use Rattle.sled_core.specs.inside.Lasting.{LastsFrom, LeavesRecovering}
 use Rattle.sled_core.specs.invariants.Lasting.{Lasts}
 use Rattle.sled_core.specs.invariants.Recoverable.{Recoverable}
@@ -97,8 +98,8 @@ module _ (sum : List ℕ → ℕ) (size f lower : ℕ) (low : lower ≤ f) where
 
 module _ (sum : List ℕ → ℕ) (H : History) (A less f lower : ℕ) (U : List Message) (le : less ≤ A) (low : lower ≤ f) where
   -- What segments fit they fit,
-  fits_in_claimed : (parts : LogParts) (behind : List SegmentParts) (reach pins : ℕ) → FitsIn sum parts behind reach pins H A f U
-      → FitsIn sum parts behind reach pins H less lower U
+  fits_in_claimed : (parts : LogParts) (behind : List SegmentParts) (reach pins : ℕ) → {marks : JoinedMarks} → FitsIn sum marks parts behind reach pins H A f U
+      → FitsIn sum marks parts behind reach pins H less lower U
   fits_in_claimed parts behind reach pins fits = record {
     holds = fits.holds;
     reached = fits.reached;
@@ -114,10 +115,10 @@ module _ (sum : List ℕ → ℕ) (H : History) (A less f lower : ℕ) (U : List
     left = (let stable = stable_below reach H.batches in recovering_claimed sum parts.size f lower low H stable stable (omega arith) parts.device fits.left);
   }
 
-  fits_line_claimed : (size : ℕ) (device : State) (fault : Option IoError) (line : List SegmentView) (reach pins : ℕ)
-      → FitsLine sum size device fault line reach pins H A f U → FitsLine sum size device fault line reach pins H less lower U
-  fits_line_claimed size device fault [] reach pins fits = fits
-  fits_line_claimed size device fault (v ∷ vs) reach pins fits =
+  fits_line_claimed : (marks : JoinedMarks) (size : ℕ) (device : State) (fault : Option IoError) (line : List SegmentView) (reach pins : ℕ)
+      → FitsLine sum marks size device fault line reach pins H A f U → FitsLine sum marks size device fault line reach pins H less lower U
+  fits_line_claimed marks size device fault [] reach pins fits = fits
+  fits_line_claimed marks size device fault (v ∷ vs) reach pins fits =
       fits_in_claimed (log_parts size v.parts.site device fault v.parts.bytes v.parts.written_len v.parts.sealed v.parts.reserved) (map parts_in vs) reach pins
       fits
 
@@ -126,4 +127,4 @@ module _ (sum : List ℕ → ℕ) (H : History) (A less f lower : ℕ) (U : List
   unfolding Fits
   fits_claimed trace log fits =
       fits_anew fits log.pins less lower
-      (fits_line_claimed log.config.config.segment_size (shown_of trace log) log.fault.kept (line_of log) fits.shows.reach log.pins fits.shows.parts)
+      (fits_line_claimed _ log.config.config.segment_size (shown_of trace log) log.fault.kept (line_of log) fits.shows.reach log.pins fits.shows.parts)

@@ -3,7 +3,7 @@ use Rattle.std.proofs.Common.{◌≡◌, ◌∙◌, ◌≤◌, ◌<◌, ◌+◌,
 use Rattle.std.specs.List.{All, Contains}
 use Rattle.std.specs.declared.io.Error.{Error as IoError}
 use Rattle.sled_codec.specs.History.{AddsBatch, Batch, History, Message}
-use Rattle.sled_codec.specs.Snapshots.{SnapshotModel, stable_place}
+use Rattle.sled_codec.specs.Snapshots.{SnapshotModel}
 use Rattle.sled_store.specs.Device.{State}
 use Rattle.sled_store.proofs.Names.OneBegin.{one_begin}
 use Rattle.sled_core.specs.declared.iobuf.Reserved.{Reserved}
@@ -21,6 +21,7 @@ use Rattle.sled_core.specs.inside.Lasting.{LeavesRecovering}
 use Rattle.sled_core.specs.inside.Running.{BlobsFit, FitsIn, KeepsEntries, KeepsItems, NamesFit}
 use Rattle.sled_core.specs.inside.SealedBuffers.{AreSealed, FirstUnwritten}
 use Rattle.sled_core.specs.SealedBuffers.{AreZeros}
+use Rattle.sled_core.specs.declared.logger.joined_marks.JoinedMarks.{JoinedMarks}
 use Rattle.sled_core.proofs.Sealed.Padded.{padded_get}
 use Rattle.sled_core.proofs.Flush.Settled.{rests, settled_recoverable}
 use Rattle.sled_core.proofs.Reached.AddedBatch.{batch_grows, message_was, no_end}
@@ -32,11 +33,13 @@ use Rattle.sled_core.proofs.Holds.WholeHistory.{whole_ascends}
 use Rattle.sled_core.proofs.Logged.Messages.{batch_logged}
 use Rattle.sled_core.proofs.Reached.StableBelow.{stable_one_more}
 use Rattle.sled_core.proofs.Sealed.Zeros.{begin_zeros}
+use Rattle.sled_core.specs.Fits.{held_of}
+use Rattle.sled_core.specs.inside.LogSegments.{held_since}
 
 module _ (sum : List ℕ → ℕ) (size : ℕ) (site : SegmentPosition) (device : State) (fault : Option IoError) (bytes : List ℕ) (from : ℕ) (bs : List Sealed) (rs : List Reserved) (pins : ℕ) (H : History) (A f : ℕ) (U : List Message)
-    {behind : List SegmentParts} {reach : ℕ} (fits : FitsIn sum (log_parts size site device fault bytes from bs rs) behind reach pins H A f U)
+    {behind : List SegmentParts} {reach : ℕ} {marks : JoinedMarks} (fits : FitsIn sum marks (log_parts size site device fault bytes from bs rs) behind reach pins H A f U)
     (bytes' : List ℕ) (from' : ℕ) (bs' : List Sealed) (rs' : List Reserved) (H' : History) (b : Batch) (is : from' ≡ from) (least : 256 ≤ size) (in_segment : length bytes' ≤ size) (ok : fault ≡ None)
-    (holds : HoldsIn sum (log_parts size site device fault bytes' from' bs' rs') behind (logged H')) (adds : AddsBatch H b H') (placing : ((c : Batch) → Contains H.batches c → IsPlacedBatch size (logged H) c) → (c : Batch) → Contains H'.batches c
+    (holds : HoldsIn sum marks (log_parts size site device fault bytes' from' bs' rs') behind (logged H')) (adds : AddsBatch H b H') (placing : ((c : Batch) → Contains H.batches c → IsPlacedBatch size (logged H) c) → (c : Batch) → Contains H'.batches c
     → IsPlacedBatch size (logged H') c) (later : b.low < b.peg) (offs : All (IsOff size b.peg) behind)
     (above : site.place + from ≤ b.low) (inside : b.low < site.place + size) (fresh : FirstUnwritten bs) (are : AreSealed from rs bs) where
   abbrev first : SnapshotModel
@@ -51,7 +54,7 @@ module _ (sum : List ℕ → ℕ) (size : ℕ) (site : SegmentPosition) (device 
 
   -- where the peg lies of the segments behind it
   beside : (x : BegunSegment) → Contains others x → LiesBesideFilling size device.log.bytes b.peg x
-  beside = behind_beside sum size least device fault ok b.peg (site.place + size) behind (StaysBelow (logged H) (stable_place first.stable) site.place) H.batches fits.holds.later fits.holds.others offs
+  beside = behind_beside sum size least device fault ok b.peg (site.place + size) behind (StaysBelow (logged H) (held_of fits.holds.begun) site.place) H.batches fits.holds.later fits.holds.others offs
 
   reached : reach ≤ b.low
   reached = let near = fits.reached.near in omega (arith, near, above)
@@ -60,10 +63,10 @@ module _ (sum : List ℕ → ℕ) (size : ℕ) (site : SegmentPosition) (device 
   clean : from ≡ 0 → AreZeros device.log.bytes site.slot (site.slot + 20)
   clean none = begin_zeros device.log.bytes site.slot bytes from bs rs size fresh are (omega (arith, least)) (fits.holds.own.laid ok) none
 
-  alone_new : NoHeaderOfZeros sum → StandsAmong sum size device.log.bytes site from others reach (logged H') first
+  alone_new : NoHeaderOfZeros sum → StandsAmong sum (held_since size marks first) size device.log.bytes site from others reach (logged H') first
   alone_new none = alone-marks sum size device.log.bytes site from reach (logged H) (logged H') first least none holds.own.records.place_begins clean b put above inside (placing (fits.among ok none).stands.batched) later beside (fits.among ok none)
 
-  beyond_new : (to : ℕ) → site.slot ≤ to → NoHeaderOfZeros sum → StandsAmong sum size (padded to device.log.bytes) site from others reach (logged H') first
+  beyond_new : (to : ℕ) → site.slot ≤ to → NoHeaderOfZeros sum → StandsAmong sum (held_since size marks first) size (padded to device.log.bytes) site from others reach (logged H') first
   beyond_new to far none = alone-marks sum size (padded to device.log.bytes) site from reach (logged H) (logged H') first least none holds.own.records.place_begins (λ first_one i low high. padded_get to device.log.bytes i ∙ clean first_one i low high) b put above inside
       (placing (fits.beyond to far ok none).stands.batched) later (λ x known. beside_padded size to device.log.bytes b.peg x (beside x known)) (fits.beyond to far ok none)
 
@@ -89,7 +92,7 @@ module _ (sum : List ℕ → ℕ) (size : ℕ) (site : SegmentPosition) (device 
       settled_recoverable sum size least device H' (stable_below reach H'.batches) f first reach (whole_ascends sum size site device fault bytes' from' bs' rs' (logged H') holds in_segment) stored_behind (rests device.log on.log on.settled) names_new blobs_new (λ none. (alone_new none).stands)
 
   -- It fits the history with the batch, with no other message to be marked.
-  pub fits-marked : FitsIn sum (log_parts size site device fault bytes' from' bs' rs') behind reach pins H' A f U
+  pub fits-marked : FitsIn sum marks (log_parts size site device fault bytes' from' bs' rs') behind reach pins H' A f U
   fits-marked =
       let same : first ≡ holds.begun.first = one_begin sum device.snapshots.file first holds.begun.first fits.holds.begun.begins holds.begun.begins in
       record {
@@ -102,9 +105,9 @@ module _ (sum : List ℕ → ℕ) (size : ℕ) (site : SegmentPosition) (device 
               (inr above) fits.reached.no_batch);
           no_end = subst (λ n. NoBatchEnds (logged H') reach (site.place + n)) (sym is) (no_end (logged H) (logged H') b put reach (site.place + from) above fits.reached.no_end);
         };
-        among = λ fine none. subst (λ (s : SnapshotModel). StandsAmong sum size device.log.bytes site from' others reach (logged H') s) same (subst (λ n. StandsAmong sum size device.log.bytes site n others reach (logged H') first) (sym is) (alone_new none));
-        beyond = λ to far fine none. subst (λ (s : SnapshotModel). StandsAmong sum size (padded to device.log.bytes) site from' others reach (logged H') s) same
-            (subst (λ n. StandsAmong sum size (padded to device.log.bytes) site n others reach (logged H') first) (sym is) (beyond_new to far none));
+        among = λ fine none. subst (λ (s : SnapshotModel). StandsAmong sum (held_since size marks s) size device.log.bytes site from' others reach (logged H') s) same (subst (λ n. StandsAmong sum (held_since size marks first) size device.log.bytes site n others reach (logged H') first) (sym is) (alone_new none));
+        beyond = λ to far fine none. subst (λ (s : SnapshotModel). StandsAmong sum (held_since size marks s) size (padded to device.log.bytes) site from' others reach (logged H') s) same
+            (subst (λ n. StandsAmong sum (held_since size marks first) size (padded to device.log.bytes) site n others reach (logged H') first) (sym is) (beyond_new to far none));
         items = record {
           blobs = blobs_new;
           stored = stored_behind;

@@ -77,7 +77,7 @@ module _ (sum : List ℕ → ℕ) (size : ℕ) (log : List ℕ) (some : 256 ≤ 
     not_both same = cc
 
 -- A segment that begins behind the first one begins behind all that is written of that.
-pub first_below : (sum : List ℕ → ℕ) (size : ℕ) (log : List ℕ) (site : SegmentPosition) (from : ℕ) (others : List BegunSegment) (reach : ℕ) (H : History) (first : SnapshotModel) → 256 ≤ size → StandsAmong sum size log site from others reach H first
+pub first_below : (sum : List ℕ → ℕ) (size : ℕ) (log : List ℕ) (site : SegmentPosition) (from : ℕ) (others : List BegunSegment) (reach : ℕ) (H : History) (first : SnapshotModel) → 256 ≤ size → {held : ℕ} → StandsAmong sum held size log site from others reach H first
     → (place : ℕ) → place % size ≡ 0 → site.place < place → site.place + from ≤ place
 unfolding IsScan
 first_below sum size log site from others reach H first some had place begins higher = elim (cases_lt 0 from) [

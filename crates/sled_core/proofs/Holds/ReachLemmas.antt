@@ -10,7 +10,6 @@ use Rattle.sled_codec.specs.History.{Message, Batch, History}
 use Rattle.sled_codec.specs.Places.{MayBegin}
 use Rattle.sled_codec.specs.Pointers.{lid_of}
 use Rattle.sled_codec.specs.WellFormed.{LieApart}
-use Rattle.sled_codec.specs.Snapshots.{stable_place}
 use Rattle.sled_store.specs.Accounts.{machine_of}
 use Rattle.sled_store.specs.Device.{Trace, State, state_of}
 use Rattle.sled_store.specs.Outdated.{MayName}
@@ -27,7 +26,7 @@ use Rattle.sled_core.specs.inside.Begun.{AreFilled, line_end}
 use Rattle.sled_core.specs.Begun.{SegmentView, segment_view}
 use Rattle.sled_core.specs.inside.Buffers.{IsChain, IsHeaded, Stands, completed_in}
 use Rattle.sled_core.specs.Buffers.{message_in, pointer_as}
-use Rattle.sled_core.specs.Fits.{Awaits, current_of, line_of, next_place, noted_in, reserved_end, stable_end, synced_end, IsKept}
+use Rattle.sled_core.specs.Fits.{Awaits, IsKept, current_of, held_of, line_of, next_place, noted_in, reserved_end, stable_end, synced_end}
 use Rattle.sled_core.specs.inside.Fits.{HoldBehind, HoldsLine, HoldsNext, log_parts, parts_in, HoldsSegment}
 use Rattle.sled_core.specs.invariants.Fits.{Holds}
 use Rattle.sled_core.specs.inside.LogFile.{StaysBelow}
@@ -37,6 +36,7 @@ use Rattle.sled_core.specs.invariants.Running.{Fits}
 use Rattle.sled_core.specs.Running.{IsStored, KeepsItem}
 use Rattle.sled_core.specs.Reading.{IsInline, BlobIsBelow}
 use Rattle.sled_core.specs.inside.Recoverable.{LiesInSegment}
+use Rattle.sled_core.specs.declared.logger.joined_marks.JoinedMarks.{JoinedMarks}
 use Rattle.sled_core.proofs.Holds.FitsBatches.{stable_noted}
 use Rattle.sled_core.proofs.Logged.Messages.{all_in_log, logged_apart}
 use Rattle.sled_core.proofs.Reached.StableBelow.{stable_low, stable_rises}
@@ -103,7 +103,7 @@ module _ (sum : List ℕ → ℕ) (size : ℕ) (site : SegmentPosition) (device 
   ]
 
 -- Where all of a history is on the device, it ends at the stable end.
-pub kept_past : (sum : List ℕ → ℕ) (size : ℕ) (site : SegmentPosition) (from : ℕ) (device : State) (H : History) → IsKept sum size site from device H → All (λ m. m.place + m.size ≤ site.place + from) H.messages
+pub kept_past : (sum : List ℕ → ℕ) (size : ℕ) (site : SegmentPosition) (from : ℕ) (device : State) (H : History) → {mark durable : ℤ} → IsKept sum mark durable size site from device H → All (λ m. m.place + m.size ≤ site.place + from) H.messages
 kept_past sum size site from device H kept = λ k d lt. (kept.below k d lt).1
 
 -- Of a log that fits a history.
@@ -130,12 +130,12 @@ module _ (sum : List ℕ → ℕ) (size : ℕ) (device : State) (fault : Option 
       let mine = next_below place w stays batches own here in
       (omega (arith, up), subst (All (λ (m : Message). m.place < end_of (last_of x xs))) (sym all) (All-append (λ (m : Message). m.place < end_of (last_of x xs)) own later (λ k d lt. let low = mine k d lt in omega (arith, low, at, inside, up)) far.1))
 
-  pub line_below : (v : SegmentView) (vs : List SegmentView) (H : History) → length v.parts.bytes ≤ size → HoldsLine sum size device fault (v ∷ vs) H → All (λ m. m.place < end_of (last_of v vs)) H.messages
-  line_below v vs H inside holds = by vs holds.later holds.messages holds.others where
+  pub line_below : (marks : JoinedMarks) (v : SegmentView) (vs : List SegmentView) (H : History) → length v.parts.bytes ≤ size → HoldsLine sum marks size device fault (v ∷ vs) H → All (λ m. m.place < end_of (last_of v vs)) H.messages
+  line_below marks v vs H inside holds = by vs holds.later holds.messages holds.others where
     mine : All (λ m. m.place < end_of v) holds.head
     mine = λ k d lt. (all_below sum size v.parts.site device fault v.parts.bytes v.parts.written_len v.parts.sealed v.parts.reserved (record { messages = holds.head; batches = H.batches }) holds.own k d lt).0
 
-    by : (vs : List SegmentView) (later : List Message) → H.messages ≡ holds.head ++ later → HoldBehind sum size device fault (v.parts.site.place + size) (map parts_in vs) (StaysBelow H (stable_place holds.begun.first.stable) v.parts.site.place) H.batches later
+    by : (vs : List SegmentView) (later : List Message) → H.messages ≡ holds.head ++ later → HoldBehind sum size device fault (v.parts.site.place + size) (map parts_in vs) (StaysBelow H (held_of holds.begun) v.parts.site.place) H.batches later
         → All (λ m. m.place < end_of (last_of v vs)) H.messages
     by [] later all none = subst (All (λ (m : Message). m.place < end_of v)) (sym (all ∙ ap (λ (l : List Message). holds.head ++ l) none ∙ append-nil holds.head)) mine
     by (x ∷ xs) later all rest =
@@ -155,7 +155,7 @@ unfolding Fits
 fits_reach trace sum log H A f U fits =
     let size : ℕ = log.config.config.segment_size in
     let past = position_past size (current_of log) (machine_of log.accountant) (current_facts log).short in
-    let low = line_below sum size _ log.fault.kept (segment_view log.segments.first) (map segment_view log.segments.behind.items) (logged H) log.line.lies.in_segment fits.shows.parts.holds in
+    let low = line_below sum size _ log.fault.kept _ (segment_view log.segments.first) (map segment_view log.segments.behind.items) (logged H) log.line.lies.in_segment fits.shows.parts.holds in
     let all = all_in_log (λ (m : Message). m.place < (current_of log).parts.site.place + length (current_of log).parts.bytes) H.messages low in
     λ k d lt. let below = all k d lt in omega (arith, below, past)
 

@@ -23,6 +23,7 @@ use Rattle.sled_core.specs.inside.Recoverable.{NoBatchBegins, NoBatchEnds, Blobs
 use Rattle.sled_core.specs.Reading.{BlobIsBelow}
 use Rattle.sled_core.specs.inside.SealedBuffers.{AreSealed, FirstUnwritten}
 use Rattle.sled_core.specs.SealedBuffers.{AreZeros}
+use Rattle.sled_core.specs.declared.logger.joined_marks.JoinedMarks.{JoinedMarks}
 use Rattle.sled_core.proofs.Holds.Added.{was_or_added}
 use Rattle.sled_core.proofs.Holds.BegunLemmas.{names-adds, blobs-adds, entries-adds}
 use Rattle.sled_core.proofs.Sealed.Padded.{padded_get}
@@ -35,9 +36,10 @@ use Rattle.sled_core.proofs.Logged.Messages.{adds_logged, end_logged, below_in_l
 use Rattle.sled_core.proofs.Holds.OpenEnds.{acknowledged_stable}
 use Rattle.sled_core.proofs.Reached.StableBelow.{stable_low}
 use Rattle.sled_core.proofs.Sealed.Zeros.{begin_zeros}
+use Rattle.sled_core.specs.inside.LogSegments.{held_since}
 
 module _ (sum : List ℕ → ℕ) (size : ℕ) (site : SegmentPosition) (device : State) (fault : Option IoError) (bytes : List ℕ) (from : ℕ) (bs : List Sealed) (rs : List Reserved) (pins : ℕ) (H : History) (A f : ℕ) (U : List Message)
-    {behind : List SegmentParts} {reach : ℕ} (fits : FitsIn sum (log_parts size site device fault bytes from bs rs) behind reach pins H A f U) where
+    {behind : List SegmentParts} {reach : ℕ} {marks : JoinedMarks} (fits : FitsIn sum marks (log_parts size site device fault bytes from bs rs) behind reach pins H A f U) where
   abbrev first : SnapshotModel
   first = fits.holds.begun.first
 
@@ -45,11 +47,11 @@ module _ (sum : List ℕ → ℕ) (size : ℕ) (site : SegmentPosition) (device 
   others = map begun_segment behind
 
   -- Whatever else is held over this device, it was begun from the same snapshot.
-  first_same : (bytes' : List ℕ) (from' : ℕ) (bs' : List Sealed) (rs' : List Reserved) (R : History) (holds : HoldsIn sum (log_parts size site device fault bytes' from' bs' rs') behind R) → first ≡ holds.begun.first
+  first_same : (bytes' : List ℕ) (from' : ℕ) (bs' : List Sealed) (rs' : List Reserved) (R : History) (holds : HoldsIn sum marks (log_parts size site device fault bytes' from' bs' rs') behind R) → first ≡ holds.begun.first
   first_same bytes' from' bs' rs' R holds = one_begin sum device.snapshots.file first holds.begun.first fits.holds.begun.begins holds.begun.begins
 
   -- Other bytes and reservations behind what was written fit the history, where they hold it.
-  pub fits-moved : (bytes' : List ℕ) (from' : ℕ) (bs' : List Sealed) (rs' : List Reserved) → from' ≡ from → HoldsIn sum (log_parts size site device fault bytes' from' bs' rs') behind (logged H) → FitsIn sum (log_parts size site device fault bytes' from' bs' rs') behind reach pins H A f U
+  pub fits-moved : (bytes' : List ℕ) (from' : ℕ) (bs' : List Sealed) (rs' : List Reserved) → from' ≡ from → HoldsIn sum marks (log_parts size site device fault bytes' from' bs' rs') behind (logged H) → FitsIn sum marks (log_parts size site device fault bytes' from' bs' rs') behind reach pins H A f U
   fits-moved bytes' from' bs' rs' is holds =
       let same : first ≡ holds.begun.first = first_same bytes' from' bs' rs' (logged H) holds in
       record {
@@ -60,9 +62,9 @@ module _ (sum : List ℕ → ℕ) (size : ℕ) (site : SegmentPosition) (device 
           no_batch = subst (λ n. NoBatchBegins (logged H) reach (site.place + n)) (sym is) fits.reached.no_batch;
           no_end = subst (λ n. NoBatchEnds (logged H) reach (site.place + n)) (sym is) fits.reached.no_end;
         };
-        among = λ ok none. subst (λ (s : SnapshotModel). StandsAmong sum size device.log.bytes site from' others reach (logged H) s) same (subst (λ n. StandsAmong sum size device.log.bytes site n others reach (logged H) first) (sym is) (fits.among ok none));
-        beyond = λ to far ok none. subst (λ (s : SnapshotModel). StandsAmong sum size (padded to device.log.bytes) site from' others reach (logged H) s) same
-            (subst (λ n. StandsAmong sum size (padded to device.log.bytes) site n others reach (logged H) first) (sym is) (fits.beyond to far ok none));
+        among = λ ok none. subst (λ (s : SnapshotModel). StandsAmong sum (held_since size marks s) size device.log.bytes site from' others reach (logged H) s) same (subst (λ n. StandsAmong sum (held_since size marks first) size device.log.bytes site n others reach (logged H) first) (sym is) (fits.among ok none));
+        beyond = λ to far ok none. subst (λ (s : SnapshotModel). StandsAmong sum (held_since size marks s) size (padded to device.log.bytes) site from' others reach (logged H) s) same
+            (subst (λ n. StandsAmong sum (held_since size marks first) size (padded to device.log.bytes) site n others reach (logged H) first) (sym is) (fits.beyond to far ok none));
         items = fits.items;
         named = record {
           names = subst (λ (s : SnapshotModel). NamesFit sum size device.snapshots (logged H) f s) same fits.named.names;
@@ -74,7 +76,7 @@ module _ (sum : List ℕ → ℕ) (size : ℕ) (site : SegmentPosition) (device 
       }
 
   -- Up to the stable place all may count as acknowledged,
-  pub fits-synced : (end : ℕ) → end ≤ stable_below reach H.batches → FitsIn sum (log_parts size site device fault bytes from bs rs) behind reach pins H end f U
+  pub fits-synced : (end : ℕ) → end ≤ stable_below reach H.batches → FitsIn sum marks (log_parts size site device fault bytes from bs rs) behind reach pins H end f U
   fits-synced end passes = record {
     holds = fits.holds;
     reached = fits.reached;
@@ -88,7 +90,7 @@ module _ (sum : List ℕ → ℕ) (size : ℕ) (site : SegmentPosition) (device 
   }
 
   -- and so each message that begins below the stable place of what is written, and each batch.
-  pub fits-acknowledged : (last : ℕ) (noted : List Batch) → FitsBatches (site.place + from) last noted (logged H) → FitsIn sum (log_parts size site device fault bytes from bs rs) behind reach pins H (max A (end_below (stable_below (site.place + from) noted) H)) f U
+  pub fits-acknowledged : (last : ℕ) (noted : List Batch) → FitsBatches (site.place + from) last noted (logged H) → FitsIn sum marks (log_parts size site device fault bytes from bs rs) behind reach pins H (max A (end_below (stable_below (site.place + from) noted) H)) f U
   fits-acknowledged last noted batches =
       let old = fits.passes in
       let stable = stable_noted (site.place + from) last noted (logged H) batches in
@@ -97,7 +99,7 @@ module _ (sum : List ℕ → ℕ) (size : ℕ) (site : SegmentPosition) (device 
       (let all = subst (λ n. end_below n (logged H) ≤ stable_below reach H.batches) stable passes in let same = end_logged (stable_below (site.place + from) noted) H in omega (arith, old, all, same))
 
   -- Other messages that aren't marked and another count of pins fit, where one is out while there are any.
-  pub fits-pinned : (pins' : ℕ) (V : List Message) → (V ≢ [] → 0 < pins') → FitsIn sum (log_parts size site device fault bytes from bs rs) behind reach pins' H A f V
+  pub fits-pinned : (pins' : ℕ) (V : List Message) → (V ≢ [] → 0 < pins') → FitsIn sum marks (log_parts size site device fault bytes from bs rs) behind reach pins' H A f V
   fits-pinned pins' V pinned = record {
     holds = fits.holds;
     reached = fits.reached;
@@ -112,7 +114,7 @@ module _ (sum : List ℕ → ℕ) (size : ℕ) (site : SegmentPosition) (device 
 
   -- With one more message, which lies behind what was written, it fits the history that has that message.
   module _ (bytes' : List ℕ) (from' : ℕ) (bs' : List Sealed) (rs' : List Reserved) (H' : History) (m : Message) (is : from' ≡ from) (least : 256 ≤ size) (in_segment : length bytes' ≤ size) (ok : fault ≡ None)
-      (holds : HoldsIn sum (log_parts size site device fault bytes' from' bs' rs') behind (logged H')) (adds : AddsMessage H m H') (of_head : Contains holds.head (in_log m)) (above : site.place + from ≤ m.place) (fresh : FirstUnwritten bs) (are : AreSealed from rs bs)
+      (holds : HoldsIn sum marks (log_parts size site device fault bytes' from' bs' rs') behind (logged H')) (adds : AddsMessage H m H') (of_head : Contains holds.head (in_log m)) (above : site.place + from ≤ m.place) (fresh : FirstUnwritten bs) (are : AreSealed from rs bs)
       (below : BlobIsBelow m m.pointer) (stored : KeepsItem sum device.blobs m m.pointer) where
     reached : reach ≤ m.place
     reached = let near = fits.reached.near in omega (arith, near, above)
@@ -133,10 +135,10 @@ module _ (sum : List ℕ → ℕ) (size : ℕ) (site : SegmentPosition) (device 
     inside_segment : m.place < site.place + size
     inside_segment = let inside = lies.room in omega (arith, inside)
 
-    alone_new : NoHeaderOfZeros sum → StandsAmong sum size device.log.bytes site from others reach (logged H') first
+    alone_new : NoHeaderOfZeros sum → StandsAmong sum (held_since size marks first) size device.log.bytes site from others reach (logged H') first
     alone_new none = alone-adds sum size device.log.bytes site from reach (logged H) (logged H') first least none holds.own.records.place_begins clean (in_log m) put above inside_segment room (lies.lies (below_in_log m below)) (fits.among ok none)
 
-    beyond_new : (to : ℕ) → site.slot ≤ to → NoHeaderOfZeros sum → StandsAmong sum size (padded to device.log.bytes) site from others reach (logged H') first
+    beyond_new : (to : ℕ) → site.slot ≤ to → NoHeaderOfZeros sum → StandsAmong sum (held_since size marks first) size (padded to device.log.bytes) site from others reach (logged H') first
     beyond_new to far none = alone-adds sum size (padded to device.log.bytes) site from reach (logged H) (logged H') first least none holds.own.records.place_begins (λ first_one i low high. padded_get to device.log.bytes i ∙ clean first_one i low high) (in_log m) put above inside_segment room (lies.lies (below_in_log m below))
         (fits.beyond to far ok none)
 
@@ -176,7 +178,7 @@ module _ (sum : List ℕ → ℕ) (size : ℕ) (site : SegmentPosition) (device 
         let on = fits.holds.own.written ok in
         settled_recoverable sum size least device H' (stable_below reach H'.batches) f first reach (whole_ascends sum size site device fault bytes' from' bs' rs' (logged H') holds in_segment) stored_behind (rests device.log on.log on.settled) names_new blobs_new (λ none. (alone_new none).stands)
 
-    pub fits-completed : 0 < pins → FitsIn sum (log_parts size site device fault bytes' from' bs' rs') behind reach pins H' A f (m ∷ U)
+    pub fits-completed : 0 < pins → FitsIn sum marks (log_parts size site device fault bytes' from' bs' rs') behind reach pins H' A f (m ∷ U)
     fits-completed out =
         let same : first ≡ holds.begun.first = first_same bytes' from' bs' rs' (logged H') holds in
         record {
@@ -187,9 +189,9 @@ module _ (sum : List ℕ → ℕ) (size : ℕ) (site : SegmentPosition) (device 
             no_batch = λ b there. subst (λ n. (b.low < reach) ⊎ (site.place + n ≤ b.low)) (sym is) (fits.reached.no_batch b (subst (λ (l : List Batch). Contains l b) adds.batches there));
             no_end = λ b there. subst (λ n. (b.peg < reach) ⊎ (site.place + n ≤ b.peg)) (sym is) (fits.reached.no_end b (subst (λ (l : List Batch). Contains l b) adds.batches there));
           };
-          among = λ fine none. subst (λ (s : SnapshotModel). StandsAmong sum size device.log.bytes site from' others reach (logged H') s) same (subst (λ n. StandsAmong sum size device.log.bytes site n others reach (logged H') first) (sym is) (alone_new none));
-          beyond = λ to far fine none. subst (λ (s : SnapshotModel). StandsAmong sum size (padded to device.log.bytes) site from' others reach (logged H') s) same
-              (subst (λ n. StandsAmong sum size (padded to device.log.bytes) site n others reach (logged H') first) (sym is) (beyond_new to far none));
+          among = λ fine none. subst (λ (s : SnapshotModel). StandsAmong sum (held_since size marks s) size device.log.bytes site from' others reach (logged H') s) same (subst (λ n. StandsAmong sum (held_since size marks first) size device.log.bytes site n others reach (logged H') first) (sym is) (alone_new none));
+          beyond = λ to far fine none. subst (λ (s : SnapshotModel). StandsAmong sum (held_since size marks s) size (padded to device.log.bytes) site from' others reach (logged H') s) same
+              (subst (λ n. StandsAmong sum (held_since size marks first) size (padded to device.log.bytes) site n others reach (logged H') first) (sym is) (beyond_new to far none));
           items = record {
             blobs = blobs_new;
             stored = stored_behind;

@@ -102,14 +102,14 @@ module _ (sum : List ℕ → ℕ) (size : ℕ) (log : List ℕ) (some : 256 ≤ 
 
 -- And a write goes on in each segment that was begun where it did, where the message is to lie behind what is written of the first one, and beside all that is found.
 among-adds : (sum : List ℕ → ℕ) (size : ℕ) (log : List ℕ) (site : SegmentPosition) (from reach : ℕ) (H H' : History) (first : SnapshotModel) → 256 ≤ size → (m : Message) → AddsMessage H m H' → site.place + from ≤ m.place → LiesInSegment size m
-    → {others : List BegunSegment} (had : StandsAmong sum size log site from others reach H first) → ((t : Scanned) → Contains had.stands.scanned t → LiesBeside size t m.place) → StandsAmong sum size log site from others reach H' first
+    → {others : List BegunSegment} {held : ℕ} (had : StandsAmong sum held size log site from others reach H first) → ((t : Scanned) → Contains had.stands.scanned t → LiesBeside size t m.place) → StandsAmong sum held size log site from others reach H' first
 unfolding stands-adds
 among-adds sum size log site from reach H H' first some m adds above lies had beside =
     let near : reach ≤ site.place + from = reached_near size H site.place from reach had.reached in
     let marks : (s : Segment) → Contains had.stands.ordering s → s.mark <ℤ pos m.place = λ s there. less_than s.mark (site.place + from) m.place above (had.below s ((had.stands.numbers.found s).0 there)) in
     record {
       stands = stands-adds sum size log some H H' (stable_below reach H.batches) first reach had.stands m beside marks adds (omega (arith, near, above)) lies (stable_below reach H'.batches) (ap (stable_below reach) adds.batches);
-      held = had.held;
+      low = had.low;
       reached = reached_adds had.reached;
       led = had.led;
       here = had.here;
@@ -135,14 +135,14 @@ among-adds sum size log site from reach H H' first some m adds above lies had be
 -- So it is where the message is to lie in the first one,
 pub alone-adds : (sum : List ℕ → ℕ) (size : ℕ) (log : List ℕ) (site : SegmentPosition) (from reach : ℕ) (H H' : History) (first : SnapshotModel) → 256 ≤ size → NoHeaderOfZeros sum → site.place % size ≡ 0
     → (from ≡ 0 → AreZeros log site.slot (site.slot + 20)) → (m : Message) → AddsMessage H m H' → site.place + from ≤ m.place → m.place < site.place + size → from + 32 ≤ size → LiesInSegment size m
-    → {others : List BegunSegment} → StandsAmong sum size log site from others reach H first → StandsAmong sum size log site from others reach H' first
+    → {others : List BegunSegment} → {held : ℕ} → StandsAmong sum held size log site from others reach H first → StandsAmong sum held size log site from others reach H' first
 alone-adds sum size log site from reach H H' first some none place_begins clean m adds above inside room lies alone =
     among-adds sum size log site from reach H H' first some m adds above lies alone (lies_beside sum size log H (stable_below reach H.batches) first reach alone.stands site from some none place_begins clean alone.here room m.place above inside)
 
 -- and where it is to lie in one behind it, behind what is written of that.
 pub other_adds : (sum : List ℕ → ℕ) (size : ℕ) (log : List ℕ) (site : SegmentPosition) (from reach : ℕ) (H H' : History) (first : SnapshotModel) → 256 ≤ size → NoHeaderOfZeros sum → {others : List BegunSegment} (y : BegunSegment) → Contains others y → y.site.place % size ≡ 0
     → (y.from ≡ 0 → AreZeros log y.site.slot (y.site.slot + 20)) → (m : Message) → AddsMessage H m H' → y.site.place + y.from ≤ m.place → m.place < y.site.place + size → y.from + 32 ≤ size → LiesInSegment size m
-    → StandsAmong sum size log site from others reach H first → StandsAmong sum size log site from others reach H' first
+    → {held : ℕ} → StandsAmong sum held size log site from others reach H first → StandsAmong sum held size log site from others reach H' first
 other_adds sum size log site from reach H H' first some none {others} y known place_begins clean m adds above inside room lies had =
     let under = first_below sum size log site from others reach H first some had y.site.place place_begins (follows site others had.apart y known).0 in
     among-adds sum size log site from reach H H' first some m adds (omega (arith, under, above)) lies had

@@ -36,7 +36,7 @@ use Rattle.sled_core.proofs.Torn.WrittenBegun.{none_in_zeros}
 
 -- The peg of a batch that begins behind what is written of the first segment lies in nothing that fills a segment which leads on.
 module _ (sum : List ℕ → ℕ) (none : NoHeaderOfZeros sum) (size : ℕ) (log : List ℕ) (some : 256 ≤ size) (site : SegmentPosition) (from : ℕ) {others : List BegunSegment} (reach : ℕ) (H : History) (first : SnapshotModel)
-    (had : StandsAmong sum size log site from others reach H first) (low peg : ℕ) (above : site.place + from ≤ low) (later : low < peg) (beside : (t : Scanned) → Contains had.stands.scanned t → LiesBeside size t low)
+    {held : ℕ} (had : StandsAmong sum held size log site from others reach H first) (low peg : ℕ) (above : site.place + from ≤ low) (later : low < peg) (beside : (t : Scanned) → Contains had.stands.scanned t → LiesBeside size t low)
     (offs : (x : BegunSegment) → Contains others x → LiesBesideFilling size log peg x) where
   abbrev is : StandsTo sum size log H (stable_below reach H.batches) first reach
   is = had.stands
@@ -185,8 +185,8 @@ module _ (sum : List ℕ → ℕ) (size : ℕ) (log : List ℕ) (some : 256 ≤ 
 
 -- And a write goes on in each segment that was begun where it did, where the batch is to begin behind what is written of the first one, and beside all that is found.
 among-marks : (sum : List ℕ → ℕ) (size : ℕ) (log : List ℕ) (site : SegmentPosition) (from reach : ℕ) (H H' : History) (first : SnapshotModel) → 256 ≤ size → (b : Batch) → AddsBatch H b H' → site.place + from ≤ b.low
-    → ((c : Batch) → Contains H'.batches c → IsPlacedBatch size H' c) → b.low < b.peg → NoHeaderOfZeros sum → {others : List BegunSegment} (had : StandsAmong sum size log site from others reach H first)
-    → ((t : Scanned) → Contains had.stands.scanned t → LiesBeside size t b.low) → ((x : BegunSegment) → Contains others x → LiesBesideFilling size log b.peg x) → StandsAmong sum size log site from others reach H' first
+    → ((c : Batch) → Contains H'.batches c → IsPlacedBatch size H' c) → b.low < b.peg → NoHeaderOfZeros sum → {others : List BegunSegment} {held : ℕ} (had : StandsAmong sum held size log site from others reach H first)
+    → ((t : Scanned) → Contains had.stands.scanned t → LiesBeside size t b.low) → ((x : BegunSegment) → Contains others x → LiesBesideFilling size log b.peg x) → StandsAmong sum held size log site from others reach H' first
 unfolding stands-marks
 among-marks sum size log site from reach H H' first some b adds above placed later none {others} had beside offs =
     let near : reach ≤ site.place + from = reached_near size H site.place from reach had.reached in
@@ -194,7 +194,7 @@ among-marks sum size log site from reach H H' first some b adds above placed lat
     let marks : (s : Segment) → Contains had.stands.ordering s → s.mark <ℤ pos b.low = λ s there. less_than s.mark (site.place + from) b.low above (had.below s ((had.stands.numbers.found s).0 there)) in
     record {
       stands = stands-marks sum size log some H H' (stable_below reach H.batches) first reach had.stands b beside marks adds past placed (peg_apart sum none size log some site from {others = others} reach H first had b.low b.peg above later beside offs) (stable_below reach H'.batches) (ap (stable_below reach) adds.batches ∙ stable_one_more reach H.batches b past);
-      held = had.held;
+      low = had.low;
       reached = reached_marks had.reached;
       led = had.led;
       here = had.here;
@@ -230,7 +230,7 @@ room_before size some place from low aligned begins above inside =
 -- So it is where the batch is to begin in the first one,
 pub alone-marks : (sum : List ℕ → ℕ) (size : ℕ) (log : List ℕ) (site : SegmentPosition) (from reach : ℕ) (H H' : History) (first : SnapshotModel) → 256 ≤ size → NoHeaderOfZeros sum → site.place % size ≡ 0
     → (from ≡ 0 → AreZeros log site.slot (site.slot + 20)) → (b : Batch) → AddsBatch H b H' → site.place + from ≤ b.low → b.low < site.place + size → ((c : Batch) → Contains H'.batches c → IsPlacedBatch size H' c) → b.low < b.peg
-    → {others : List BegunSegment} → ((x : BegunSegment) → Contains others x → LiesBesideFilling size log b.peg x) → StandsAmong sum size log site from others reach H first → StandsAmong sum size log site from others reach H' first
+    → {others : List BegunSegment} → ((x : BegunSegment) → Contains others x → LiesBesideFilling size log b.peg x) → {held : ℕ} → StandsAmong sum held size log site from others reach H first → StandsAmong sum held size log site from others reach H' first
 alone-marks sum size log site from reach H H' first some none place_begins clean b adds above inside placed later offs alone =
     let room = room_before size some site.place from b.low place_begins (placed b (batch_there H H' b adds)).begins above inside in
     among-marks sum size log site from reach H H' first some b adds above placed later none alone (lies_beside sum size log H (stable_below reach H.batches) first reach alone.stands site from some none place_begins clean alone.here room b.low above inside) offs
@@ -238,7 +238,7 @@ alone-marks sum size log site from reach H H' first some none place_begins clean
 -- and where it is to begin in one behind it, behind what is written of that.
 pub other-marks : (sum : List ℕ → ℕ) (size : ℕ) (log : List ℕ) (site : SegmentPosition) (from reach : ℕ) (H H' : History) (first : SnapshotModel) → 256 ≤ size → NoHeaderOfZeros sum → {others : List BegunSegment} (y : BegunSegment) → Contains others y → y.site.place % size ≡ 0
     → (y.from ≡ 0 → AreZeros log y.site.slot (y.site.slot + 20)) → (b : Batch) → AddsBatch H b H' → y.site.place + y.from ≤ b.low → b.low < y.site.place + size → ((c : Batch) → Contains H'.batches c → IsPlacedBatch size H' c) → b.low < b.peg
-    → ((x : BegunSegment) → Contains others x → LiesBesideFilling size log b.peg x) → StandsAmong sum size log site from others reach H first → StandsAmong sum size log site from others reach H' first
+    → ((x : BegunSegment) → Contains others x → LiesBesideFilling size log b.peg x) → {held : ℕ} → StandsAmong sum held size log site from others reach H first → StandsAmong sum held size log site from others reach H' first
 other-marks sum size log site from reach H H' first some none {others} y known place_begins clean b adds above inside placed later offs had =
     let room = room_before size some y.site.place y.from b.low place_begins (placed b (batch_there H H' b adds)).begins above inside in
     let under = first_below sum size log site from others reach H first some had y.site.place place_begins (follows site others had.apart y known).0 in

@@ -11,6 +11,7 @@ use Rattle.sled_core.specs.declared.iobuf.Reserved.{Reserved}
 use Rattle.sled_core.specs.declared.iobuf.Sealed.{Sealed}
 use Rattle.sled_core.specs.declared.iobuf.SegmentPosition.{SegmentPosition}
 use Rattle.sled_core.specs.Begun.{SegmentParts}
+use Rattle.sled_core.specs.declared.logger.joined_marks.JoinedMarks.{JoinedMarks}
 use Rattle.sled_core.specs.inside.Fits.{HoldBehind, HoldsIn, log_parts}
 use Rattle.sled_core.proofs.Flush.Completed.{all_apart, all_below, apart_both}
 use Rattle.sled_core.proofs.Reached.BufferPath.{HasOnly}
@@ -37,7 +38,7 @@ behind_apart sum size device fault place (s ∷ ss) stays batches ms (own, later
     (behind_above sum size device fault (place + size) ss stays batches later rest))
 
 module _ (sum : List ℕ → ℕ) (size : ℕ) (site : SegmentPosition) (device : State) (fault : Option IoError) (bytes : List ℕ) (from : ℕ) (bs : List Sealed) (rs : List Reserved) (H : History)
-    {behind : List SegmentParts} (holds : HoldsIn sum (log_parts size site device fault bytes from bs rs) behind H) where
+    {behind : List SegmentParts} {marks : JoinedMarks} (holds : HoldsIn sum marks (log_parts size site device fault bytes from bs rs) behind H) where
   -- what the first segment holds
   abbrev pub of_first : History
   of_first = record { messages = holds.head; batches = H.batches }

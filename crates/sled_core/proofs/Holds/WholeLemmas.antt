@@ -3,7 +3,6 @@ use Rattle.std.proofs.Common.{◌≡◌, ◌≤◌, ◌<◌, ◌+◌, ◌/◌, �
 use Rattle.std.specs.List.{All, slice_get}
 use Rattle.std.specs.declared.io.Error.{Error as IoError}
 use Rattle.std.proofs.lemmas.List.Elements.{All-contains, Contains-append_cases}
-use Rattle.sled_codec.specs.Snapshots.{stable_place}
 use Rattle.sled_codec.specs.Written.{written}
 use Rattle.sled_codec.specs.History.{Message, Batch, History, AddsMessage}
 use Rattle.sled_store.specs.Device.{State}
@@ -15,47 +14,50 @@ use Rattle.sled_core.specs.declared.iobuf.SegmentPosition.{SegmentPosition}
 use Rattle.sled_core.specs.inside.Buffers.{canceling, completing, ended, HasText}
 use Rattle.sled_core.specs.Buffers.{message_in}
 use Rattle.sled_core.specs.Begun.{SegmentParts}
+use Rattle.sled_core.specs.Fits.{held_of}
 use Rattle.sled_core.specs.inside.Fits.{log_parts, HoldBehind, HoldsIn, HoldsSegment}
 use Rattle.sled_core.specs.inside.LogFile.{StaysBelow}
 use Rattle.sled_core.specs.LogFile.{StaysFrom}
 use Rattle.sled_core.specs.inside.SealedBuffers.{AreSealed, one_ended}
 use Rattle.sled_core.specs.SealedBuffers.{seal_at, sealed_end}
+use Rattle.sled_core.specs.declared.logger.joined_marks.JoinedMarks.{JoinedMarks}
 use Rattle.sled_core.proofs.Flush.FlushLemmas.{holds_over}
 use Rattle.sled_core.proofs.Holds.BegunLemmas.{begun-adds, stays_adds}
 use Rattle.sled_core.proofs.Holds.BehindKept.{behind_fewer}
 use Rattle.sled_core.proofs.Holds.CanceledLemmas.{segment-aborted}
 use Rattle.sled_core.proofs.Holds.CompletedLemmas.{behind_written, ends_within, segment-complete}
+use Rattle.sled_core.proofs.Holds.HeldFrom.{held_reached}
 use Rattle.sled_core.proofs.Holds.HoldsLemmas.{segment-append}
 use Rattle.sled_core.proofs.Holds.SealedCalls.{segment-sealed}
 use Rattle.sled_core.proofs.Holds.WholeHistory.{behind_above}
 use Rattle.sled_core.proofs.Sealed.LaidLemmas.{EndsRise}
 
 module _ (sum : List ℕ → ℕ) (size : ℕ) (site : SegmentPosition) (device : State) (fault : Option IoError) (bytes : List ℕ) (from : ℕ) (bs : List Sealed) (rs : List Reserved) (H : History)
-    {behind : List SegmentParts} (holds : HoldsIn sum (log_parts size site device fault bytes from bs rs) behind H) where
+    {behind : List SegmentParts} {marks : JoinedMarks} (holds : HoldsIn sum marks (log_parts size site device fault bytes from bs rs) behind H) where
   -- what the first segment holds
   abbrev of_first : History
   of_first = record { messages = holds.head; batches = H.batches }
 
   abbrev stable : ℕ
-  stable = stable_place holds.begun.first.stable
+  stable = held_of holds.begun
 
   -- A place is reserved: its placeholder stands behind what is there.
   pub holds-append : (more : List ℕ) (r : Reserved) → 20 ≤ length bytes → All (λ x. x.from + x.len ≤ length bytes) rs
       → r.from ≡ length bytes → r.len ≡ length more → r.state ≡ Open → r.from + 32 ≤ size → EndsRise from bs (length bytes) → HasText sum (site.place / size) (bytes ++ more) r
-      → HoldsIn sum (log_parts size site device fault (bytes ++ more) from bs (rs ++ r ∷ [])) behind H
+      → HoldsIn sum marks (log_parts size site device fault (bytes ++ more) from bs (rs ++ r ∷ [])) behind H
   holds-append more r begun within at long is_open has_room rise stands =
       holds_over sum size site device fault bytes from bs rs behind H holds device fault (bytes ++ more) from bs (rs ++ r ∷ []) refl (omega arith)
       (segment-append sum size site device fault bytes from bs rs of_first holds.own more r begun within at long is_open has_room rise stands) holds.others
 
   -- The current buffer is sealed.
-  pub holds-sealed : (own : List Reserved) → length bytes ≤ size → sealed_end from bs ≤ length bytes → HoldsIn sum (log_parts size site device fault bytes from (bs ++ seal_at (length bytes) own ∷ []) rs) behind H
+  pub holds-sealed : (own : List Reserved) → length bytes ≤ size → sealed_end from bs ≤ length bytes → HoldsIn sum marks (log_parts size site device fault bytes from (bs ++ seal_at (length bytes) own ∷ []) rs) behind H
   holds-sealed own short inside = holds_over sum size site device fault bytes from bs rs behind H holds device fault bytes from (bs ++ seal_at (length bytes) own ∷ []) rs refl (omega arith)
       (segment-sealed sum size site device fault bytes from bs rs own of_first short inside holds.own) holds.others
 
   module _ (i : ℕ) (r : Reserved) (there : slice_get rs i ≡ Some r) (is_open : r.state ≡ Open) (written_low : from ≤ length bytes) (are : AreSealed from rs bs) where
     -- One that is aborted leaves the history as it was.
     pub holds-aborted : (bytes' : List ℕ) (from' : ℕ) (bs' : List Sealed) (rs' : List Reserved) → bytes' ≡ written bytes r.from (canceling sum bytes r) → from' ≡ from → bs' ≡ one_ended i bs → rs' ≡ set rs i (ended Canceled r)
-        → HoldsIn sum (log_parts size site device fault bytes' from' bs' rs') behind H
+        → HoldsIn sum marks (log_parts size site device fault bytes' from' bs' rs') behind H
     holds-aborted bytes' from' bs' rs' is_bytes is_from is_bs is_rs =
         holds_over sum size site device fault bytes from bs rs behind H holds device fault bytes' from' bs' rs' refl (omega (arith, is_from))
         (segment-aborted sum size site device fault bytes bytes' from from' bs bs' rs rs' i r of_first is_bytes is_from is_bs is_rs holds.own there is_open written_low are) holds.others
@@ -97,9 +99,9 @@ module _ (sum : List ℕ → ℕ) (size : ℕ) (site : SegmentPosition) (device 
       }
 
       past : stable ≤ m.place
-      past = let reached = holds.begun.reached in omega (arith, above, reached)
+      past = let reached = held_reached marks.ordered holds.begun in omega (arith, above, reached)
 
-      pub holds-complete : (H' : History) × AddsMessage H m H' × HoldsIn sum (log_parts size site device fault (written bytes r.from (completing r)) from (one_ended i bs) (set rs i (ended Completed r))) behind H'
+      pub holds-complete : (H' : History) × AddsMessage H m H' × HoldsIn sum marks (log_parts size site device fault (written bytes r.from (completing r)) from (one_ended i bs) (set rs i (ended Completed r))) behind H'
       holds-complete = (
         now,
         adds,

@@ -20,6 +20,7 @@ use Rattle.sled_core.specs.inside.Full.{FitsFull, StandsFull}
 use Rattle.sled_core.specs.inside.LogFile.{padded}
 use Rattle.sled_core.specs.inside.Reached.{StandsAmong}
 use Rattle.sled_core.specs.Recoverable.{NoHeaderOfZeros}
+use Rattle.sled_core.specs.declared.logger.joined_marks.JoinedMarks.{JoinedMarks}
 use Rattle.sled_core.specs.inside.Lasting.{LeavesRecovering}
 use Rattle.sled_core.specs.inside.Recoverable.{NoBatchBegins, NoBatchEnds}
 use Rattle.sled_core.specs.inside.Running.{BlobsFit, FitsIn, KeepsEntries, KeepsItems, NamesFit}
@@ -31,16 +32,17 @@ use Rattle.sled_core.proofs.Reached.StandsTo.{StandsTo}
 use Rattle.sled_core.proofs.Sealed.WriteMoments as moments
 use Rattle.sled_core.proofs.Reached.StableBelow.{stable_rises}
 use Rattle.sled_core.proofs.Torn.TornLemmas.{after_write}
+use Rattle.sled_core.specs.inside.LogSegments.{held_since}
 
 -- A write to a log that fits, and the sync behind it, where what a crash leaves of the write stands as before, and all of it up to a place no lower, behind all messages that are written then.
 module _ (sum : List ℕ → ℕ) (size : ℕ) (site : SegmentPosition) (device : State) (fault : Option IoError) (bytes : List ℕ) (from : ℕ) (bs : List Sealed) (rs : List Reserved) (pins : ℕ) (H : History) (A f : ℕ) (U : List Message)
-    {behind : List SegmentParts} {reach : ℕ} (fits : FitsIn sum (log_parts size site device fault bytes from bs rs) behind reach pins H A f U) (short : length bytes ≤ size) (big : 256 ≤ size) (whole : fault ≡ None) (to : ℕ) (grown : from ≤ to)
+    {behind : List SegmentParts} {reach : ℕ} {marks : JoinedMarks} (fits : FitsIn sum marks (log_parts size site device fault bytes from bs rs) behind reach pins H A f U) (short : length bytes ≤ size) (big : 256 ≤ size) (whole : fault ≡ None) (to : ℕ) (grown : from ≤ to)
     (reach' : ℕ) (up : reach ≤ reach') (near' : reach' ≤ site.place + to) (ends' : (m : Message) → Contains (logged H).messages m → m.place < site.place + to
     → (m.place < reach') × (m.place + m.size ≤ reach')) (beside' : NoBatchBegins (logged H) reach' (site.place + to) × NoBatchEnds (logged H) reach' (site.place + to)) (at : ℕ) (asked : List ℕ)
-    (torn : NoHeaderOfZeros sum → StandsAmong sum size device.log.bytes site from (map begun_segment behind) reach (logged H) fits.holds.begun.first → (now left : List ℕ) → length now ≤ length asked → LeavesLog (after_write device.log.bytes at asked now) left
+    (torn : NoHeaderOfZeros sum → StandsAmong sum (held_since size marks fits.holds.begun.first) size device.log.bytes site from (map begun_segment behind) reach (logged H) fits.holds.begun.first → (now left : List ℕ) → length now ≤ length asked → LeavesLog (after_write device.log.bytes at asked now) left
     → (placed : List Placement) → NoForeignLog sum size (after_write device.log.bytes at asked now) placed left → StandsTo sum size left (logged H) (stable_below reach H.batches) fits.holds.begun.first reach)
     {Standing : List ℕ → Type 0} (standing : (l : List ℕ) → Standing l → StandsTo sum size l (logged H) (stable_below reach' H.batches) fits.holds.begun.first reach')
-    (alone : NoHeaderOfZeros sum → (end : ℕ) → site.slot ≤ end → StandsAmong sum size (padded end device.log.bytes) site from (map begun_segment behind) reach (logged H) fits.holds.begun.first
+    (alone : NoHeaderOfZeros sum → (end : ℕ) → site.slot ≤ end → StandsAmong sum (held_since size marks fits.holds.begun.first) size (padded end device.log.bytes) site from (map begun_segment behind) reach (logged H) fits.holds.begun.first
     → Standing (padded end (overwritten device.log.bytes at asked)))
     (reaches : site.slot ≤ length (overwritten device.log.bytes at asked)) where
   abbrev after_sync : State
@@ -87,9 +89,9 @@ module _ (sum : List ℕ → ℕ) (size : ℕ) (site : SegmentPosition) (device 
   left_now = moments.synced_leaves sum size big device rest_now H f fits.holds.begun.first reach reach' up ordered fits.items.stored fits.named.names fits.items.blobs fits.left at asked torn_now stands_now
 
   -- Where it stands up to there in the first segment.
-  pub fits_behind : (cs : List Sealed) (others : List Reserved) (holds : HoldsIn sum (log_parts size site after_sync fault bytes to cs others) behind (logged H))
-      → holds.begun.first ≡ fits.holds.begun.first → ((l : List ℕ) → Standing l → StandsAmong sum size l site to (map begun_segment behind) reach' (logged H) fits.holds.begun.first)
-      → FitsIn sum (log_parts size site after_sync fault bytes to cs others) behind reach' pins H A f U
+  pub fits_behind : (cs : List Sealed) (others : List Reserved) (holds : HoldsIn sum marks (log_parts size site after_sync fault bytes to cs others) behind (logged H))
+      → holds.begun.first ≡ fits.holds.begun.first → ((l : List ℕ) → Standing l → StandsAmong sum (held_since size marks fits.holds.begun.first) size l site to (map begun_segment behind) reach' (logged H) fits.holds.begun.first)
+      → FitsIn sum marks (log_parts size site after_sync fault bytes to cs others) behind reach' pins H A f U
   fits_behind cs others holds same among = record {
     holds = holds;
     reached = record {
@@ -98,8 +100,8 @@ module _ (sum : List ℕ → ℕ) (size : ℕ) (site : SegmentPosition) (device 
       no_batch = beside'.0;
       no_end = beside'.1;
     };
-    among = λ none zeros. subst (λ (s : SnapshotModel). StandsAmong sum size (overwritten device.log.bytes at asked) site to (map begun_segment behind) reach' (logged H) s) (sym same) (among (overwritten device.log.bytes at asked) (alone_now zeros));
-    beyond = λ end far none zeros. subst (λ (s : SnapshotModel). StandsAmong sum size (padded end (overwritten device.log.bytes at asked)) site to (map begun_segment behind) reach' (logged H) s) (sym same) (among (padded end (overwritten device.log.bytes at asked)) (padded_now zeros end));
+    among = λ none zeros. subst (λ (s : SnapshotModel). StandsAmong sum (held_since size marks s) size (overwritten device.log.bytes at asked) site to (map begun_segment behind) reach' (logged H) s) (sym same) (among (overwritten device.log.bytes at asked) (alone_now zeros));
+    beyond = λ end far none zeros. subst (λ (s : SnapshotModel). StandsAmong sum (held_since size marks s) size (padded end (overwritten device.log.bytes at asked)) site to (map begun_segment behind) reach' (logged H) s) (sym same) (among (padded end (overwritten device.log.bytes at asked)) (padded_now zeros end));
     items = record {
       blobs = blobs_now;
       stored = stored_now;
@@ -116,9 +118,9 @@ module _ (sum : List ℕ → ℕ) (size : ℕ) (site : SegmentPosition) (device 
   }
 
   -- Where it stands behind it, as all of it is written.
-  pub fits_filled : (filled : to ≡ size) (holds : HoldsIn sum (log_parts size site after_sync fault bytes size [] []) behind (logged H))
-      → holds.begun.first ≡ fits.holds.begun.first → ((l : List ℕ) → Standing l → StandsFull sum size l (site.place + size) (map begun_segment behind) reach' (logged H) fits.holds.begun.first)
-      → FitsFull sum size after_sync fault (site.place + size) behind reach' pins H A f U
+  pub fits_filled : (filled : to ≡ size) (holds : HoldsIn sum marks (log_parts size site after_sync fault bytes size [] []) behind (logged H))
+      → holds.begun.first ≡ fits.holds.begun.first → ((l : List ℕ) → Standing l → StandsFull sum (held_since size marks fits.holds.begun.first) size l (site.place + size) (map begun_segment behind) reach' (logged H) fits.holds.begun.first)
+      → FitsFull sum marks size after_sync fault (site.place + size) behind reach' pins H A f U
   fits_filled filled holds same full = record {
     site = site;
     bytes = bytes;
@@ -130,7 +132,7 @@ module _ (sum : List ℕ → ℕ) (size : ℕ) (site : SegmentPosition) (device 
       no_batch = subst (λ n. NoBatchBegins (logged H) reach' (site.place + n)) filled beside'.0;
       no_end = subst (λ n. NoBatchEnds (logged H) reach' (site.place + n)) filled beside'.1;
     };
-    beyond = λ end none zeros. subst (λ (s : SnapshotModel). StandsFull sum size (padded end (overwritten device.log.bytes at asked)) (site.place + size) (map begun_segment behind) reach' (logged H) s) (sym same) (full (padded end (overwritten device.log.bytes at asked)) (padded_now zeros end));
+    beyond = λ end none zeros. subst (λ (s : SnapshotModel). StandsFull sum (held_since size marks s) size (padded end (overwritten device.log.bytes at asked)) (site.place + size) (map begun_segment behind) reach' (logged H) s) (sym same) (full (padded end (overwritten device.log.bytes at asked)) (padded_now zeros end));
     items = record {
       blobs = blobs_now;
       stored = stored_now;

@@ -25,6 +25,7 @@ use Rattle.sled_core.specs.Fits.{line_of, machine_at, noted_in, stable_end, sync
 use Rattle.sled_core.specs.inside.FreeSlots.{HasSlot}
 use Rattle.sled_core.specs.Iterators.{GivesMessages, GoesOver}
 use Rattle.sled_core.specs.LogFile.{HasHeader}
+use Rattle.sled_core.specs.inside.LogSegments.{held_since}
 use Rattle.sled_core.specs.LogSegments.{begins_from}
 use Rattle.sled_core.specs.Logged.{logged}
 use Rattle.sled_core.specs.OnFile.{item_of}
@@ -104,17 +105,17 @@ module _ {D C : Type 0} (trace : D → Trace) (sum : List ℕ → ℕ) (log : Lo
   abbrev some : 256 ≤ size
   some = log.config.config.least
 
-  module _ (fits : FitsWith sum (noted_in log) size sees None line m log.pins H A f U) (zeros : NoHeaderOfZeros sum) where
+  module _ (fits : FitsWith sum log.marks (noted_in log) size sees None line m log.pins H A f U) (zeros : NoHeaderOfZeros sum) where
     abbrev first : SnapshotModel
     first = fits.parts.holds.begun.first
 
-    among : StandsAmong sum size file log.segments.first.site from (map begun_segment (map parts_in vs)) fits.reach H first
+    among : StandsAmong sum (held_since size log.marks first) size file log.segments.first.site from (map begun_segment (map parts_in vs)) fits.reach H first
     among = among_alike (logged H) H (logged_twice H) sum size file log.segments.first.site from (map begun_segment (map parts_in vs)) fits.reach first
         (fits.parts.among refl zeros)
 
     -- what is shown stands in the file
     there : ReadsShown sum size m file real
-    there = file_reads sum (noted_in log) size some state None refl zeros m log.pins H A f U v vs (line_segments log) fits
+    there = file_reads sum log.marks (noted_in log) size some state None refl zeros m log.pins H A f U v vs (line_segments log) fits
 
     taken : (n : ℕ) (u : SegmentView) → slice_get line n ≡ Some u → HasSlot size m u
     taken n u at = at_there (HasSlot size m) line n u at fits.slots.taken
@@ -175,7 +176,7 @@ module _ {D C : Type 0} (trace : D → Trace) (sum : List ℕ → ℕ) (log : Lo
       -- its header stands there,
       header_shown : (mark : ℤ) × IsHeader sum (part file (k * size) 20) (pos (slot_at m k).lsn) mark
       header_shown =
-          let has : HasHeader sum file log.segments.first.site = headers_line sum size sees None refl line 0 v (logged H) fits.parts.holds refl more in (
+          let has : HasHeader sum file log.segments.first.site = headers_line sum size _ sees None refl line 0 v (logged H) fits.parts.holds refl more in (
             has.mark,
             subst (λ n. IsHeader sum (part file n 20) (pos (slot_at m k).lsn) has.mark) in_slot
                 (subst (λ n. IsHeader sum (part file log.segments.first.site.slot 20) (pos n) has.mark) (sym at) has.header),

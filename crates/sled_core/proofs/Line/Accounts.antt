@@ -1,11 +1,10 @@
 -- The account of what is marked of a history, as a message is completed or marked, a batch is noted, and a slot is handed out.
-use Rattle.std.proofs.Common.{if◌then◌else◌, ⊎_elim, ◌≡◌, ◌≢◌, ◌∙◌, ◌||◌, ◌==◌, ◌<◌, ℕ, ℤ, Bool, true, false, not, List, [], ◌∷◌, ◌++◌, filter, Option, refl, sym, ap, subst, arith, eq-eqb, inl}
+use Rattle.std.proofs.Common.{if◌then◌else◌, ⊎_elim, ◌≡◌, ◌≢◌, ◌∙◌, ◌||◌, ◌==◌, ◌<◌, ℕ, ℤ, Bool, true, false, not, List, [], ◌∷◌, ◌++◌, filter, Option, refl, sym, ap, subst, arith, eq-eqb, inl, ◌≤◌, inr}
 use Rattle.std.specs.List.{Contains}
 use Rattle.std.proofs.lemmas.Bool.{eqb-true}
 use Rattle.std.proofs.lemmas.Bool.Decides.{eqb_tells}
 use Rattle.std.proofs.lemmas.List.Elements.{filter-append}
 use Rattle.sled_codec.specs.History.{AddsMessage, ChangesPage, History, Message, begins_page}
-use Rattle.sled_codec.specs.Snapshots.{stable_place}
 use Rattle.sled_store.specs.Marks.{Completes, IsFormerState, IsNewPlace, info_of}
 use Rattle.sled_store.specs.Outdated.{AreOutdated, NoneShares}
 use Rattle.sled_store.specs.SegmentStates.{Machine, MayMark, SlotState, handed_out, linked, replaced, slot_at}
@@ -22,7 +21,10 @@ use Rattle.sled_store.proofs.Marks.SameSlots.{replaced_segments}
 use Rattle.sled_store.proofs.Marks.UnmarkedSteps.{in_active_handed, in_active_more, in_active_same}
 use Rattle.sled_core.specs.Marking.{TakesMark, but_for}
 use Rattle.sled_core.specs.Unmarked.{is_among, without}
+use Rattle.sled_core.specs.declared.logger.joined_marks.JoinedMarks.{JoinedMarks}
+use Rattle.sled_core.specs.inside.LogSegments.{held_since}
 use Rattle.sled_core.specs.inside.Slots.{HasAccount}
+use Rattle.sled_store.proofs.Marks.MarkedLemmas.{more_tracks}
 
 -- Lists.
 
@@ -140,14 +142,14 @@ module _ (H : History) (x : Message) where
 
 -- Accounts.
 
-module _ (sum : List ℕ → ℕ) (size : ℕ) (snapshots : ℤ → Option (List ℕ)) (H : History) (U : List Message) (m : Machine)
-    (has : HasAccount sum size snapshots H U m) where
+module _ (sum : List ℕ → ℕ) (size : ℕ) (snapshots : ℤ → Option (List ℕ)) (H : History) (U : List Message) (m : Machine) {marks : JoinedMarks}
+    (has : HasAccount sum marks size snapshots H U m) where
   abbrev base : ℕ
-  base = stable_place has.first.stable
+  base = held_since size marks has.first
 
   -- the account is that of the same messages
   same_marked : (G : History) (V : List Message) → (without V G).messages ≡ (without U H).messages → AreOutdated size G m → AreInActive size m V
-      → HasAccount sum size snapshots G V m
+      → HasAccount sum marks size snapshots G V m
   same_marked G V same outdated unmarked = record {
     first = has.first;
     begins = has.begins;
@@ -156,20 +158,32 @@ module _ (sum : List ℕ → ℕ) (size : ℕ) (snapshots : ℤ → Option (List
     unmarked = unmarked;
   }
 
+  -- Tables may count from a higher place.
+  pub account_raised : (now : JoinedMarks) → base ≤ held_since size now has.first → HasAccount sum now size snapshots H U m
+  account_raised now up = record {
+    first = has.first;
+    begins = has.begins;
+    account = more_tracks size base (held_since size now has.first) (without U H) (without U H) (IsNoEntry (without U H) base)
+        (IsNoEntry (without U H) (held_since size now has.first)) m has.account up (λ x there. there) (λ x there. inr there)
+        (λ e there none cut le entry. none cut (omega (arith, up, le)) entry);
+    outdated = has.outdated;
+    unmarked = has.unmarked;
+  }
+
   -- A message is completed that lies in an active segment, and names no blob that goes.
   pub account_completed : (H' : History) (x : Message) → AddsMessage H x H' → NamesNoOutdated m x → IsInActive size m x
-      → HasAccount sum size snapshots H' (x ∷ U) m
+      → HasAccount sum marks size snapshots H' (x ∷ U) m
   account_completed H' x adds none active =
       same_marked H' (x ∷ U) (completed_same H x H' U adds) (completed_outdated size H x H' m adds none has.outdated)
       (in_active_more size m x U active has.unmarked)
 
-  pub account_noted : (H' : History) → H'.messages ≡ H.messages → HasAccount sum size snapshots H' U m
+  pub account_noted : (H' : History) → H'.messages ≡ H.messages → HasAccount sum marks size snapshots H' U m
   account_noted H' same =
       same_marked H' U (ap (filter (λ (x : Message). not (is_among U x.place))) same)
       (outdated_kept size H H' m m has.outdated (blobs_same m.slots) (λ x there. subst (λ (ms : List Message). Contains ms x) (sym same) there)
       (λ x there. inl (subst (λ (ms : List Message). Contains ms x) same there))) has.unmarked
 
-  pub account_handed : (place : ℕ) → IsNewPlace size place m → HasAccount sum size snapshots H U (handed_out place m)
+  pub account_handed : (place : ℕ) → IsNewPlace size place m → HasAccount sum marks size snapshots H U (handed_out place m)
   account_handed place new_place = record {
     first = has.first;
     begins = has.begins;
@@ -178,7 +192,7 @@ module _ (sum : List ℕ → ℕ) (size : ℕ) (snapshots : ℤ → Option (List
     unmarked = in_active_handed size m place U (next_free size base (without U H) (IsNoEntry (without U H) base) m has.account) has.unmarked;
   }
 
-  pub account_popped : (n : Machine) → n.slots ≡ m.slots → n.tip ≡ m.tip → HasAccount sum size snapshots H U n
+  pub account_popped : (n : Machine) → n.slots ≡ m.slots → n.tip ≡ m.tip → HasAccount sum marks size snapshots H U n
   account_popped n slots tip = record {
     first = has.first;
     begins = has.begins;
@@ -200,7 +214,7 @@ module _ (sum : List ℕ → ℕ) (size : ℕ) (snapshots : ℤ → Option (List
     fewer : (e : Message) → Contains V e → Contains U e
     fewer e there = (from_filter (λ (u : Message). not (u.place == x.place)) U e (subst (λ (l : List Message). Contains l e) takes.left there)).0
 
-    pub account_linked : ChangesPage x.kind → HasAccount sum size snapshots H V (linked size x.page (info_of x) m)
+    pub account_linked : ChangesPage x.kind → HasAccount sum marks size snapshots H V (linked size x.page (info_of x) m)
     account_linked changes = record {
       first = has.first;
       begins = has.begins;
@@ -211,7 +225,7 @@ module _ (sum : List ℕ → ℕ) (size : ℕ) (snapshots : ℤ → Option (List
 
     pub account_replaced : ChangesPage x.kind → (old : List CacheInfo) → MayMark size m (info_of x) old → begins_page x.kind ≡ true
         → IsFormerState (without U H) x.page old → NoneShares H x old
-        → HasAccount sum size snapshots H V (replaced size x.page (info_of x) old m)
+        → HasAccount sum marks size snapshots H V (replaced size x.page (info_of x) old m)
     account_replaced changes old may_old begins former none = record {
       first = has.first;
       begins = has.begins;

@@ -7,16 +7,15 @@ use Rattle.std.proofs.lemmas.Bool.{cases_Bool}
 use Rattle.std.proofs.lemmas.Nat.{div-add-mod', div-mul-add, mod_below}
 use Rattle.sled_codec.specs.History.{History, Message}
 use Rattle.sled_codec.specs.Pointers.{lid_of}
-use Rattle.sled_codec.specs.Snapshots.{SnapshotModel, stable_place}
 use Rattle.sled_store.specs.Device.{State}
 use Rattle.sled_store.specs.Marks.{slot_with}
 use Rattle.sled_store.specs.SegmentStates.{Machine, is_active, slot_at}
 use Rattle.sled_store.specs.inside.Outdated.{IsInActive}
-use Rattle.sled_store.proofs.Names.OneBegin.{one_begin}
 use Rattle.sled_core.specs.declared.iobuf.Reserved.{Reserved}
 use Rattle.sled_core.specs.Begun.{SegmentView}
 use Rattle.sled_core.specs.Buffers.{message_in}
-use Rattle.sled_core.specs.Logged.{in_log}
+use Rattle.sled_core.specs.Logged.{in_log, logged}
+use Rattle.sled_core.specs.declared.logger.joined_marks.JoinedMarks.{JoinedMarks}
 use Rattle.sled_core.specs.inside.Begun.{first_place}
 use Rattle.sled_core.specs.inside.Buffers.{IsHeaded}
 use Rattle.sled_core.specs.inside.FreeSlots.{HasSlot}
@@ -24,8 +23,10 @@ use Rattle.sled_core.specs.inside.Running.{FitsLine}
 use Rattle.sled_core.specs.inside.Slots.{HasAccount}
 use Rattle.sled_core.proofs.Holds.Facts.{IsSegment}
 use Rattle.sled_core.proofs.Holds.ReachLemmas.{lid_as}
+use Rattle.sled_core.proofs.Line.OlderSlots.{held_low}
 use Rattle.sled_core.proofs.Read.ScanLemmas.{aligned_offset}
 use Rattle.sled_core.proofs.Reserve.Ranges.{at_there}
+use Rattle.sled_core.specs.inside.LogSegments.{held_since}
 
 -- a reservation begins in its segment
 pub inside_segment : {size place : ℕ} {v : SegmentView} → IsSegment size place v → (i : ℕ) (r : Reserved) → slice_get v.parts.reserved i ≡ Some r
@@ -37,27 +38,26 @@ inside_segment {v = v} facts i r at =
     omega (arith, within, some, short)
 
 module _ (sum : List ℕ → ℕ) (size : ℕ) (device : State) (fault : Option IoError) where
-  -- the place where the log began lies no higher than the segment of its first one's end
-  begun_low : (line : List SegmentView) (reach pins : ℕ) (H : History) (A f : ℕ) (U : List Message) → FitsLine sum size device fault line reach pins H A f U
-      → (m : Machine)
-      → (has : HasAccount sum size device.snapshots.file H U m) → stable_place has.first.stable / size * size ≤ first_place line
-  begun_low [] reach pins H A f U fits m has = absurd fits
-  begun_low (w ∷ ws) reach pins H A f U fits m has =
-      let begun = fits.holds.begun in
-      subst (λ (s : SnapshotModel). stable_place s.stable / size * size ≤ w.parts.site.place)
-      (sym (one_begin sum device.snapshots.file has.first begun.first has.begins begun.begins)) begun.least
+  -- the place from which all counts lies no higher than the segment of its first one's end
+  begun_low : 256 ≤ size → (marks : JoinedMarks) (line : List SegmentView) (reach pins : ℕ) (H : History) (A f : ℕ) (U : List Message)
+      → FitsLine sum marks size device fault line reach pins H A f U → (m : Machine) (has : HasAccount sum marks size device.snapshots.file H U m)
+      → held_since size marks has.first / size * size ≤ first_place line
+  begun_low big marks [] reach pins H A f U fits m has = absurd fits
+  begun_low big marks (w ∷ ws) reach pins H A f U fits m has =
+      held_low sum size big marks device fault (w ∷ ws) (logged H) fits.holds has.first has.begins
 
   module _ (line : List SegmentView) (reach pins : ℕ) (H : History) (A f : ℕ) (U : List Message)
-      (fits : FitsLine sum size device fault line reach pins H A f U) (m : Machine)
-      (has : HasAccount sum size device.snapshots.file H U m) (some : 0 < size) (v : SegmentView) (low : first_place line ≤ v.parts.site.place)
+      {marks : JoinedMarks} (fits : FitsLine sum marks size device fault line reach pins H A f U) (m : Machine)
+      (has : HasAccount sum marks size device.snapshots.file H U m) (some : 256 ≤ size) (v : SegmentView) (low : first_place line ≤ v.parts.site.place)
       (slot : HasSlot size m v) where
     pub line_active : is_active (slot_at m slot.number).state ≡ true
     line_active = ⊎_elim (λ active. active) (λ idle. absurd (
         let ends = has.account.stable slot.number slot.taken idle in
         let at = slot.is in
-        let begun = begun_low line reach pins H A f U fits m has in
-        let whole = div-add-mod' (stable_place has.first.stable) size in
-        let inside = mod_below (stable_place has.first.stable) size some in
+        let begun = begun_low some marks line reach pins H A f U fits m has in
+        let base : ℕ = held_since size marks has.first in
+        let whole = div-add-mod' base size in
+        let inside = mod_below base size (omega (arith, some)) in
         omega (arith, ends, at, begun, whole, inside, low))) (cases_Bool (is_active (slot_at m slot.number).state))
 
     -- A message of one of its reservations lies there.

@@ -30,7 +30,7 @@ use Rattle.sled_core.specs.inside.Turned.{ChangesLine, NotesBatch, ended_now}
 use Rattle.sled_core.specs.Waiting.{last_of, spans, start_in, unwritten}
 use Rattle.sled_core.proofs.Behind.FirstHoldsMarked.{noted_adds, noted_history}
 use Rattle.sled_core.proofs.Cleared.Calls.{cleared_ended}
-use Rattle.sled_core.proofs.Cleared.Shown.{ShowsSame}
+use Rattle.sled_core.proofs.Cleared.Shown.{ShowsSame, shown_bytes}
 use Rattle.sled_core.proofs.Line.AccountBehind.{account_same}
 use Rattle.sled_core.proofs.Line.KeptCalls.{goes_on_quietly, position_further}
 use Rattle.sled_core.proofs.Line.EndedKeeps.{keeps_ended, position_ended}
@@ -47,6 +47,7 @@ use Rattle.sled_core.proofs.Reached.ByPlace.{stable_with_batch}
 use Rattle.sled_core.proofs.Reserve.Ranges.{at_there}
 use Rattle.sled_core.proofs.Line.Places.{reserved_ends, reserved_in_reach}
 use Rattle.sled_core.proofs.Line.TicketEnds.{EndsAt, IsReservedAt, is_there, ticket_fillings, ticket_given, ticket_heads, ticket_opens, ticket_others}
+use Rattle.sled_core.specs.inside.MarksFit.{MarksFitFrom}
 
 -- A log has noted a batch, and is otherwise what it was.
 module _ {D C : Type 0} (mid new : Log D C) (rest : NotesBatch mid new) where
@@ -225,7 +226,7 @@ module _ {D C : Type 0} (trace : D → Trace) (sum : List ℕ → ℕ) (old mid 
         (λ c known. elim (apart c known) [ inl front ↦ inl (omega (arith, ints, front, at)) | inr behind ↦ inr behind ]) (logged H) (log_off old peg within lies) holds.shows in (
           noted_history H b,
           subst (λ (x : Batch). AddsBatch H x (noted_history H b)) (λ j. record { low = (sym begins ∙ low_is) j; peg = peg }) (noted_adds H b later),
-          holds_as trace sum old new now_config (rest.fault ∙ ended.fault) (with_batch b (noted_in old)) now_noted (set (line_of old) n (ended_now i r (marking sum v.parts.bytes r peg) Manifest v)) (noted_line mid new rest ∙ line) (machine_of old.accountant)
+          holds_as trace sum old new now_config (rest.fault ∙ ended.fault) (rest.marks ∙ ended.marks) (with_batch b (noted_in old)) now_noted (set (line_of old) n (ended_now i r (marking sum v.parts.bytes r peg) Manifest v)) (noted_line mid new rest ∙ line) (machine_of old.accountant)
               (ap machine_of (rest.accountant ∙ ended.accountant)) same_shown holds.rests (noted_history H b) now,
         )
 
@@ -240,15 +241,18 @@ module _ {D C : Type 0} (trace : D → Trace) (sum : List ℕ → ℕ) (old mid 
         let reach = reserved_in_reach old in
         let ends = reserved_ends old in
         let now = fits_noted sum size (shown_of trace old) old.fault.kept (line_of old) n v f.among old.segments.first.site.place (nth_facts old) i r f.there f.own.open_yet (of_manifest old ticket n index f manifest) peg (omega (arith, within, reach)) later (omega (arith, within, ends)) (machine_of old.accountant) (noted_in old)
-        (λ c known. elim (apart c known) [ inl front ↦ inl (omega (arith, ints, front, at)) | inr behind ↦ inr behind ]) old.pins H A f' U old.config.config.least none (log_off old peg within lies) fits.shows in (
+        (λ c known. elim (apart c known) [ inl front ↦ inl (omega (arith, ints, front, at)) | inr behind ↦ inr behind ]) old.pins H A f' U old.config.config.least none (log_off old peg within lies) old.marks
+        (λ zeros. subst (λ (l : List ℕ). MarksFitFrom sum size (state_of (trace old.config.device)).snapshots.file l old.marks)
+        (sym (shown_bytes size old.fault.kept (machine_of old.accountant) (line_of old) (state_of (trace old.config.device)) none)) (fits.marked none zeros))
+        fits.shows in (
           noted_history H b,
           subst (λ (x : Batch). AddsBatch H x (noted_history H b)) (λ j. record { low = (sym begins ∙ low_is) j; peg = peg }) (noted_adds H b later),
-          fits_as trace sum old new now_config (rest.fault ∙ ended.fault) (with_batch b (noted_in old)) now_noted (set (line_of old) n (ended_now i r (marking sum v.parts.bytes r peg) Manifest v)) (noted_line mid new rest ∙ line) (machine_of old.accountant)
+          fits_as trace sum old new now_config (rest.fault ∙ ended.fault) (rest.marks ∙ ended.marks) (with_batch b (noted_in old)) now_noted (set (line_of old) n (ended_now i r (marking sum v.parts.bytes r peg) Manifest v)) (noted_line mid new rest ∙ line) (machine_of old.accountant)
               (ap machine_of (rest.accountant ∙ ended.accountant)) same_shown fits.rests (noted_history H b) A f' U (rest.pins ∙ ended.pins)
               (λ whole zeros. from_as sum size (omega (arith, old.config.config.least))
               (state_of (trace old.config.device)) (machine_of old.accountant) (machine_of old.accountant)
               (line_of old) (set (line_of old) n (ended_now i r (marking sum v.parts.bytes r peg) Manifest v)) (logged H) (logged (noted_history H b))
               (λ j. refl) (λ j. refl) (same_shown (state_of (trace old.config.device)).log.bytes)
               (omega (arith, end_set size (line_of old) n v (ended_now i r (marking sum v.parts.bytes r peg) Manifest v) f.among refl))
-              (fits.hides whole zeros)) now,
+              (fits.hides whole zeros)) fits.marked now,
         )

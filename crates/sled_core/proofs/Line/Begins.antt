@@ -46,6 +46,7 @@ use Rattle.sled_core.specs.inside.Slots.{AreWhole, HasAccount}
 use Rattle.sled_core.specs.inside.Shown.{shown_of}
 use Rattle.sled_core.specs.inside.Turned.{ChangesSlots, begun_view, next_line}
 use Rattle.sled_core.specs.Waiting.{at_last, closed_now, filled_now, last_of}
+use Rattle.sled_core.specs.declared.logger.joined_marks.JoinedMarks.{JoinedMarks}
 use Rattle.sled_core.proofs.Behind.Around.{behind_place, behind_place_is}
 use Rattle.sled_core.proofs.Behind.Begins.{behind-begins}
 use Rattle.sled_core.proofs.Behind.FitsBegun.{behind-fits-begun}
@@ -127,51 +128,51 @@ module _ (sum : List ℕ → ℕ) (size : ℕ) (device : State) (fault : Option 
     above : (v : SegmentView) (vs : List SegmentView) → place ≡ first_place (v ∷ vs) + length (v ∷ vs) * size → v.parts.site.place + size ≤ place
     above v vs at = omega (arith, at, suc-mul (length vs) size)
 
-    written_within : (H : History) (v : SegmentView) (vs : List SegmentView) → HoldsLine sum size device fault (v ∷ vs) H → v.parts.written_len ≤ length v.parts.bytes
-    written_within H v vs holds =
+    written_within : (marks : JoinedMarks) (H : History) (v : SegmentView) (vs : List SegmentView) → HoldsLine sum marks size device fault (v ∷ vs) H → v.parts.written_len ≤ length v.parts.bytes
+    written_within marks H v vs holds =
         let grown = grows sum size v.parts.site device fault v.parts.bytes v.parts.written_len v.parts.sealed v.parts.reserved (record { messages = holds.head; batches = H.batches }) holds.own in
         omega (arith, grown)
 
-    written_before : (H : History) (v : SegmentView) (vs : List SegmentView) → place ≡ first_place (v ∷ vs) + length (v ∷ vs) * size → length v.parts.bytes ≤ size → HoldsLine sum size device fault (v ∷ vs) H → written_to (v ∷ vs) ≤ place
-    written_before H v vs at short holds =
+    written_before : (marks : JoinedMarks) (H : History) (v : SegmentView) (vs : List SegmentView) → place ≡ first_place (v ∷ vs) + length (v ∷ vs) * size → length v.parts.bytes ≤ size → HoldsLine sum marks size device fault (v ∷ vs) H → written_to (v ∷ vs) ≤ place
+    written_before marks H v vs at short holds =
         let up = above v vs at in
-        let within = written_within H v vs holds in
+        let within = written_within _ H v vs holds in
         omega (arith, up, within, short)
 
     -- The mark is the place before this one, which is written, and in front of which no batch is open; and all batches end before the new segment.
     module _ (H : History) (stable : ℕ) (line : List SegmentView) (low : stable ≤ written_to line) (ended : (b : Batch) → Contains H.batches b → b.low < stable → b.peg < stable) (within : CloseBelow place H.batches)
         (at : place ≡ first_place line + length line * size) (short : FirstShort size line) (has : HasSlots size line device.log.bytes fault m) where
-      mark_of : (v : SegmentView) (vs : List SegmentView) → line ≡ v ∷ vs → HoldsLine sum size device fault (v ∷ vs) H → HasMark sum (record { place = place; slot = next_slot m * size }) (header_at place stable) H
-      mark_of v vs is holds =
-          let before = written_before H v vs (subst (λ (l : List SegmentView). place ≡ first_place l + length l * size) is at) (subst (FirstShort size) is short) holds in
+      mark_of : (marks : JoinedMarks) (v : SegmentView) (vs : List SegmentView) → line ≡ v ∷ vs → HoldsLine sum marks size device fault (v ∷ vs) H → HasMark sum (record { place = place; slot = next_slot m * size }) (header_at place stable) H
+      mark_of marks v vs is holds =
+          let before = written_before _ H v vs (subst (λ (l : List SegmentView). place ≡ first_place l + length l * size) is at) (subst (FirstShort size) is short) holds in
           let under = subst (λ (l : List SegmentView). stable ≤ written_to l) is low in
           marked H (record { place = place; slot = next_slot m * size }) stable (omega (arith, before, under)) ended
 
     -- What the others hold is held with it,
-    pub line_begun : (H : History) (stable : ℕ) (line : List SegmentView) → stable ≤ written_to line → ((b : Batch) → Contains H.batches b → b.low < stable → b.peg < stable) → CloseBelow place H.batches
-        → place ≡ first_place line + length line * size → place < 2 ^ 63 → FirstShort size line → HasSlots size line device.log.bytes fault m → HoldsLine sum size device fault line H
-        → HoldsLine sum size device fault (line ++ begun_at place stable ∷ []) H
+    pub line_begun : (marks : JoinedMarks) (H : History) (stable : ℕ) (line : List SegmentView) → stable ≤ written_to line → ((b : Batch) → Contains H.batches b → b.low < stable → b.peg < stable) → CloseBelow place H.batches
+        → place ≡ first_place line + length line * size → place < 2 ^ 63 → FirstShort size line → HasSlots size line device.log.bytes fault m → HoldsLine sum marks size device fault line H
+        → HoldsLine sum marks size device fault (line ++ begun_at place stable ∷ []) H
     unfolding mark_of marked
-    line_begun H stable [] low ended within at small short has holds = absurd holds
-    line_begun H stable (v ∷ vs) low ended within at small short has holds =
-        subst (λ (ss : List SegmentParts). HoldsIn sum (log_parts size v.parts.site device fault v.parts.bytes v.parts.written_len v.parts.sealed v.parts.reserved) ss H) (sym (map-append parts_in vs (begun_at place stable ∷ [])))
+    line_begun marks H stable [] low ended within at small short has holds = absurd holds
+    line_begun marks H stable (v ∷ vs) low ended within at small short has holds =
+        subst (λ (ss : List SegmentParts). HoldsIn sum marks (log_parts size v.parts.site device fault v.parts.bytes v.parts.written_len v.parts.sealed v.parts.reserved) ss H) (sym (map-append parts_in vs (begun_at place stable ∷ [])))
         (behind-begins sum size v.parts.site device fault v.parts.bytes v.parts.written_len v.parts.sealed v.parts.reserved H (map parts_in vs) holds big short
         (record { place = place; slot = next_slot m * size }) (header_at place stable) (place_is v vs at) (mul-mod_left (next_slot m) size) (length-short_header sum (pos place) (pos stable -ℤ pos 1))
-        (mark_of H stable (v ∷ vs) low ended within at short has v vs refl holds) (next_other m slots size (omega (arith, big)) v (All-head (HasSlot size m) v vs has.taken))
+        (mark_of H stable (v ∷ vs) low ended within at short has _ v vs refl holds) (next_other m slots size (omega (arith, big)) v (All-head (HasSlot size m) v vs has.taken))
         (next_others m slots size (omega (arith, big)) vs (All-tail (HasSlot size m) v vs has.taken)) (λ none. has.zeros none (next_slot m) (next_free m slots)) within
         (mark_lower stable (v.parts.site.place + v.parts.written_len) low) small)
 
     -- and what they fit is fitted.
-    pub line_fits_begun : (reach pins : ℕ) (H : History) (A f : ℕ) (U : List Message) (stable : ℕ) (line : List SegmentView) → stable ≤ written_to line → ((b : Batch) → Contains H.batches b → b.low < stable → b.peg < stable) → CloseBelow place H.batches
+    pub line_fits_begun : (marks : JoinedMarks) (reach pins : ℕ) (H : History) (A f : ℕ) (U : List Message) (stable : ℕ) (line : List SegmentView) → stable ≤ written_to line → ((b : Batch) → Contains H.batches b → b.low < stable → b.peg < stable) → CloseBelow place H.batches
         → place ≡ first_place line + length line * size → place < 2 ^ 63 → FirstShort size line → HasSlots size line device.log.bytes fault m
-        → FitsLine sum size device fault line reach pins H A f U → FitsLine sum size device fault (line ++ begun_at place stable ∷ []) reach pins H A f U
+        → FitsLine sum marks size device fault line reach pins H A f U → FitsLine sum marks size device fault (line ++ begun_at place stable ∷ []) reach pins H A f U
     unfolding mark_of marked
-    line_fits_begun reach pins H A f U stable [] low ended within at small short has fits = absurd fits
-    line_fits_begun reach pins H A f U stable (v ∷ vs) low ended within at small short has fits =
-        subst (λ (ss : List SegmentParts). FitsIn sum (log_parts size v.parts.site device fault v.parts.bytes v.parts.written_len v.parts.sealed v.parts.reserved) ss reach pins H A f U) (sym (map-append parts_in vs (begun_at place stable ∷ [])))
+    line_fits_begun marks reach pins H A f U stable [] low ended within at small short has fits = absurd fits
+    line_fits_begun marks reach pins H A f U stable (v ∷ vs) low ended within at small short has fits =
+        subst (λ (ss : List SegmentParts). FitsIn sum marks (log_parts size v.parts.site device fault v.parts.bytes v.parts.written_len v.parts.sealed v.parts.reserved) ss reach pins H A f U) (sym (map-append parts_in vs (begun_at place stable ∷ [])))
         (behind-fits-begun sum size v.parts.site device fault v.parts.bytes v.parts.written_len v.parts.sealed v.parts.reserved pins H A f U (map parts_in vs) fits big short
         (record { place = place; slot = next_slot m * size }) (header_at place stable) (place_is v vs at) (mul-mod_left (next_slot m) size) (length-short_header sum (pos place) (pos stable -ℤ pos 1))
-        (mark_of (logged H) stable (v ∷ vs) low ended within at short has v vs refl fits.holds) (next_other m slots size (omega (arith, big)) v (All-head (HasSlot size m) v vs has.taken))
+        (mark_of (logged H) stable (v ∷ vs) low ended within at short has _ v vs refl fits.holds) (next_other m slots size (omega (arith, big)) v (All-head (HasSlot size m) v vs has.taken))
         (next_others m slots size (omega (arith, big)) vs (All-tail (HasSlot size m) v vs has.taken)) (λ none. has.zeros none (next_slot m) (next_free m slots)) within
         (mark_lower stable (v.parts.site.place + v.parts.written_len) low) small)
 
@@ -257,8 +258,8 @@ module _ (sum : List ℕ → ℕ) (size : ℕ) where
             above = λ k taken. let low = has.own.below k taken in omega (arith, low, ends_there, big);
           }
 
-      account_next : (H : History) (U : List Message) → HasSlots size (v ∷ vs) device.log.bytes fault m → HasAccount sum size device.snapshots.file H U m
-          → HasAccount sum size device.snapshots.file H U (handed_out place m)
+      account_next : (H : History) (U : List Message) → HasSlots size (v ∷ vs) device.log.bytes fault m → {marks : JoinedMarks} → HasAccount sum marks size device.snapshots.file H U m
+          → HasAccount sum marks size device.snapshots.file H U (handed_out place m)
       account_next H U has account = account_handed sum size device.snapshots.file H U m account place (is_new has)
 
       slots_next : HasSlots size (v ∷ vs) device.log.bytes fault m → HasSlots size next device.log.bytes fault (handed_out place m)
@@ -305,19 +306,19 @@ module _ (sum : List ℕ → ℕ) (size : ℕ) where
         batches_next : FitsBatches (written_to next) (line_end size next) noted H
         batches_next = batches_up (written_to (v ∷ vs)) (written_to next) (line_end size (v ∷ vs)) (line_end size next) noted H (let same = next_written in omega (arith, same)) next_end fits
 
-      pub holds_next : (H : History) → HoldsWith sum noted size device fault (v ∷ vs) m H → HoldsWith sum noted size device fault next (handed_out place m) H
+      pub holds_next : (H : History) → {marks : JoinedMarks} → HoldsWith sum marks noted size device fault (v ∷ vs) m H → HoldsWith sum marks noted size device fault next (handed_out place m) H
       holds_next H holds = record {
-        holds = line_begun sum size device fault m big slots place H stable (closed (v ∷ vs)) low (ended H holds.batches) (within H holds.batches) at in_reach (closed_short v vs short small) (closed_slots (v ∷ vs) device.log.bytes fault m holds.slots)
-            (line_closed sum size device fault H v vs closable holds.holds);
+        holds = line_begun sum size device fault m big slots place _ H stable (closed (v ∷ vs)) low (ended H holds.batches) (within H holds.batches) at in_reach (closed_short v vs short small) (closed_slots (v ∷ vs) device.log.bytes fault m holds.slots)
+            (line_closed sum size device fault _ H v vs closable holds.holds);
         batches = batches_next H holds.batches;
         slots = slots_next holds.slots;
       }
 
-      pub fits_next : (pins : ℕ) (H : History) (A f : ℕ) (U : List Message) → FitsWith sum noted size device fault (v ∷ vs) m pins H A f U → FitsWith sum noted size device fault next (handed_out place m) pins H A f U
+      pub fits_next : (pins : ℕ) (H : History) (A f : ℕ) (U : List Message) → {marks : JoinedMarks} → FitsWith sum marks noted size device fault (v ∷ vs) m pins H A f U → FitsWith sum marks noted size device fault next (handed_out place m) pins H A f U
       fits_next pins H A f U fits = record {
         reach = fits.reach;
-        parts = line_fits_begun sum size device fault m big slots place fits.reach pins H A f U stable (closed (v ∷ vs)) low (ended (logged H) fits.batches) (within (logged H) fits.batches) at in_reach (closed_short v vs short small) (closed_slots (v ∷ vs) device.log.bytes fault m fits.slots)
-            (line_fits_closed sum size device fault fits.reach pins H A f U v vs closable fits.parts);
+        parts = line_fits_begun sum size device fault m big slots place _ fits.reach pins H A f U stable (closed (v ∷ vs)) low (ended (logged H) fits.batches) (within (logged H) fits.batches) at in_reach (closed_short v vs short small) (closed_slots (v ∷ vs) device.log.bytes fault m fits.slots)
+            (line_fits_closed sum size device fault _ fits.reach pins H A f U v vs closable fits.parts);
         batches = batches_next (logged H) fits.batches;
         slots = slots_next fits.slots;
         whole = λ none zeros. whole_next (logged H) (fits.whole none zeros);
@@ -508,11 +509,11 @@ module _ {D C : Type 0} (trace : D → Trace) (sum : List ℕ → ℕ) (old new 
       record {
         goes_on = goes_on_quietly trace sum old new (record { config = ap (λ (x : RunningConfig D C). x.config) rest.config; checksum = ap (λ (x : RunningConfig D C). x.checksum) rest.config })
             (ap (λ (x : RunningConfig D C). trace x.device) rest.config) (let same = begins_synced in omega (arith, same)) (λ none. sym rest.fault ∙ none);
-        history = λ H holds. holds_as trace sum old new rest.config rest.fault (noted_in old) begins_noted _ line _ machine same_shown holds.rests H
+        history = λ H holds. holds_as trace sum old new rest.config rest.fault rest.marks (noted_in old) begins_noted _ line _ machine same_shown holds.rests H
             (holds_next sum its_size device (fault_of old) (machine_at old) big old.account.slots first behind closes g.short small lies f.place_small (noted_in old) (logged H) holds.shows);
-        fits = λ H A f' U fits. fits_as trace sum old new rest.config rest.fault (noted_in old) begins_noted _ line _ machine same_shown fits.rests H A f' U rest.pins
+        fits = λ H A f' U fits. fits_as trace sum old new rest.config rest.fault rest.marks (noted_in old) begins_noted _ line _ machine same_shown fits.rests H A f' U rest.pins
             (λ none zeros. from_next sum its_size device (fault_of old) (machine_at old) big old.account.slots first behind closes g.short small lies
-            f.place_small (noted_in old) (state_of (trace (device_of old))) (logged H) fits.shows.slots same_shown (fits.hides none zeros))
+            f.place_small (noted_in old) (state_of (trace (device_of old))) (logged H) fits.shows.slots same_shown (fits.hides none zeros)) fits.marked
             (fits_next sum its_size device (fault_of old) (machine_at old) big old.account.slots first behind closes g.short small lies f.place_small (noted_in old) (pins_of old) H A f' U fits.shows);
         noted = noted_later old new rest.noted (let same = begins_synced in omega (arith, same));
         kept = kept_same old new rest.noted;

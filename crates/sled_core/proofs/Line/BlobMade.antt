@@ -26,6 +26,7 @@ use Rattle.sled_core.specs.Recoverable.{LeavesRecoverable, RecoverableIfOwn}
 use Rattle.sled_core.specs.invariants.Running.{Fits}
 use Rattle.sled_core.specs.inside.Running.{FitsShown}
 use Rattle.sled_core.specs.Running.{IsStored, KeepsItem}
+use Rattle.sled_core.specs.declared.logger.joined_marks.JoinedMarks.{JoinedMarks}
 use Rattle.sled_core.specs.inside.Turned.{ChangesDevice}
 use Rattle.sled_core.proofs.Blobs.StaysOwn.{own_same}
 use Rattle.sled_core.proofs.Blobs.Along.{fits_made, leaves_making}
@@ -44,10 +45,10 @@ abbrev pub IsMadeOrSame : Option IoError → Trace → Trace → ℤ → List �
 IsMadeOrSame fault before after p bytes = fault ≡ None → (after ≡ before) ⊎ (((state_of before).blobs.file p ≡ None) × (after ≡ after_all (making p bytes) before))
 
 -- What a log holds hangs on its blobs in nothing, and on its snapshots by what is read of them.
-holds_along : (sum : List ℕ → ℕ) (size : ℕ) (p : ℤ) (bytes : List ℕ) (noted : List Batch) (fault : Option IoError) (line : List SegmentView) (m : Machine) (H : History) (s : State) → HoldsShown sum noted size s fault line m H
-    → Along (λ t. HoldsShown sum noted size t fault line m H) (making p bytes) s
-holds_along sum size p bytes noted fault line m H s holds =
-    let P : State → Type 0 = λ t. HoldsShown sum noted size t fault line m H in
+holds_along : {marks : JoinedMarks} (sum : List ℕ → ℕ) (size : ℕ) (p : ℤ) (bytes : List ℕ) (noted : List Batch) (fault : Option IoError) (line : List SegmentView) (m : Machine) (H : History) (s : State) → HoldsShown sum marks noted size s fault line m H
+    → Along (λ t. HoldsShown sum marks noted size t fault line m H) (making p bytes) s
+holds_along {marks} sum size p bytes noted fault line m H s holds =
+    let P : State → Type 0 = λ t. HoldsShown sum marks noted size t fault line m H in
     let made : (asked now : List ℕ) (done : Bool) → P (step (BlobMade p asked now done) s) = λ asked now done. shown_holds_over sum size s _ _ fault refl noted line m H holds in
     let whole : State = step (BlobMade p bytes bytes true) s in
     let synced : State = step (BlobSynced p) whole in
@@ -89,16 +90,16 @@ module _ {D C : Type 0} (trace : D → Trace) (sum : List ℕ → ℕ) (old new 
   holds : (H : History) → Holds trace sum old H → Holds trace sum new H
   unfolding Holds
   holds H held =
-      let P : State → Type 0 = λ s. HoldsShown sum (noted_in old) (segment_size_of old) s (fault_of old) (line_of old) (machine_at old) (logged H) in
+      let P : State → Type 0 = λ s. HoldsShown sum old.marks (noted_in old) (segment_size_of old) s (fault_of old) (line_of old) (machine_at old) (logged H) in
       device_holds old new rest trace sum kept H (at_last P (trace (device_of old)) (trace (device_of new)) (performs_throughout P (making p bytes) (trace (device_of old)) (trace (device_of new)) calls
       (holds_along sum (segment_size_of old) p bytes (noted_in old) (fault_of old) (line_of old) (machine_at old) (logged H) before held)))
 
   fits_on : (H : History) (A f : ℕ) (U : List Message) → Fits trace sum old H A f U → Fits trace sum new H A f U
   unfolding Fits
   fits_on H A f U fits =
-      let P : State → Type 0 = λ s. FitsShown sum (noted_in old) (segment_size_of old) s (fault_of old) (line_of old) (machine_at old) (pins_of old) H A f U in
+      let P : State → Type 0 = λ s. FitsShown sum old.marks (noted_in old) (segment_size_of old) s (fault_of old) (line_of old) (machine_at old) (pins_of old) H A f U in
       device_fits old new rest trace sum kept H A f U (at_last P (trace (device_of old)) (trace (device_of new))
-      (fits_made sum (segment_size_of old) p H (trace (device_of old)) (trace (device_of new)) bytes (reads H A f U fits) calls (unnamed H A f U fits) (noted_in old) (fault_of old) (line_of old) (machine_at old) (pins_of old) A f U fits))
+      (fits_made sum (segment_size_of old) p H (trace (device_of old)) (trace (device_of new)) bytes (reads H A f U fits) calls (unnamed H A f U fits) old.marks (noted_in old) (fault_of old) (line_of old) (machine_at old) (pins_of old) A f U fits))
 
   items : fault_of new ≡ None → (m : Message) → IsStored trace sum old m → IsStored trace sum new m
   items well m stored = elim (whole well) [

@@ -52,6 +52,7 @@ use Rattle.sled_core.proofs.Logged.Messages.{logged_ascends, logged_there, logge
 use Rattle.sled_core.proofs.Logged.Stands.{among_alike}
 use Rattle.sled_core.proofs.Reached.MetWritten.{reached_begins}
 use Rattle.sled_core.proofs.Reached.StableBelow.{stable_is, stable_low, stable_open}
+use Rattle.sled_core.specs.inside.LogSegments.{held_since}
 
 -- Behind two sums the same follows.
 behind_sums : (a b : ℕ) (xs ys : List ℕ) → low_bytes 4 a ++ xs ≡ low_bytes 4 b ++ ys → xs ≡ ys
@@ -133,11 +134,11 @@ module _ {D C : Type 0} (trace : D → Trace) (sum : List ℕ → ℕ) (log : Lo
   state = shown_of trace log
 
   -- A reader finds in the log file what is written of the history, as far as he comes.
-  pub among : (fits : FitsWith sum (noted_in log) size state log.fault.kept (line_of log) (machine_at log) log.pins H A f U) → log.fault.kept ≡ None → NoHeaderOfZeros sum
-      → StandsAmong sum size state.log.bytes log.segments.first.site log.segments.first.buffer.written_len (map begun_segment (map parts_in (map segment_view log.segments.behind.items))) fits.reach H fits.parts.holds.begun.first
+  pub among : (fits : FitsWith sum log.marks (noted_in log) size state log.fault.kept (line_of log) (machine_at log) log.pins H A f U) → log.fault.kept ≡ None → NoHeaderOfZeros sum
+      → StandsAmong sum (held_since size log.marks fits.parts.holds.begun.first) size state.log.bytes log.segments.first.site log.segments.first.buffer.written_len (map begun_segment (map parts_in (map segment_view log.segments.behind.items))) fits.reach H fits.parts.holds.begun.first
   among fits none zeros = among_alike (logged H) H (logged_twice H) sum size state.log.bytes log.segments.first.site log.segments.first.buffer.written_len (map begun_segment (map parts_in (map segment_view log.segments.behind.items))) fits.reach fits.parts.holds.begun.first (fits.parts.among none zeros)
 
-  module _ (fits : FitsWith sum (noted_in log) size state log.fault.kept (line_of log) (machine_at log) log.pins H A f U) (m : Message) (entry : Contains (table H (stable_end log) m.page) m) where
+  module _ (fits : FitsWith sum log.marks (noted_in log) size state log.fault.kept (line_of log) (machine_at log) log.pins H A f U) (m : Message) (entry : Contains (table H (stable_end log) m.page) m) where
     abbrev cut : ℕ
     cut = stable_below fits.reach H.batches
 

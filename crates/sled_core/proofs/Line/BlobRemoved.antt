@@ -27,6 +27,7 @@ use Rattle.sled_core.specs.Recoverable.{LeavesRecoverable, RecoverableIfOwn}
 use Rattle.sled_core.specs.invariants.Running.{Fits}
 use Rattle.sled_core.specs.inside.Running.{FitsShown}
 use Rattle.sled_core.specs.Running.{IsStored, KeepsItem}
+use Rattle.sled_core.specs.declared.logger.joined_marks.JoinedMarks.{JoinedMarks}
 use Rattle.sled_core.specs.inside.Turned.{ChangesDevice}
 use Rattle.sled_core.proofs.Blobs.Along.{fits_removed, leaves_removing}
 use Rattle.sled_core.proofs.Blobs.ItemsStay.{items_removed}
@@ -50,10 +51,10 @@ removed_whole (Err (error.ReportableBug text)) before after P did memory done no
 removed_whole (Err (error.Held at)) before after P did memory done none = absurd did
 
 -- What a log holds hangs on its blobs in nothing.
-holds_along : (sum : List ℕ → ℕ) (size : ℕ) (p : ℤ) (noted : List Batch) (fault : Option IoError) (line : List SegmentView) (m : Machine) (H : History) (s : State) → HoldsShown sum noted size s fault line m H
-    → Along (λ t. HoldsShown sum noted size t fault line m H) (removing_blobs (p ∷ [])) s
-holds_along sum size p noted fault line m H s holds =
-    let P : State → Type 0 = λ t. HoldsShown sum noted size t fault line m H in
+holds_along : {marks : JoinedMarks} (sum : List ℕ → ℕ) (size : ℕ) (p : ℤ) (noted : List Batch) (fault : Option IoError) (line : List SegmentView) (m : Machine) (H : History) (s : State) → HoldsShown sum marks noted size s fault line m H
+    → Along (λ t. HoldsShown sum marks noted size t fault line m H) (removing_blobs (p ∷ [])) s
+holds_along {marks} sum size p noted fault line m H s holds =
+    let P : State → Type 0 = λ t. HoldsShown sum marks noted size t fault line m H in
     let gone : (done : Bool) → P (step (BlobRemoved p done) s) = λ done. shown_holds_over sum size s _ _ fault refl noted line m H holds in
     (holds, λ torn tears. subst (λ (e : Event). P (step e s)) (sym tears.1) (gone tears.0), gone true)
 
@@ -75,16 +76,16 @@ module _ {D C : Type 0} (trace : D → Trace) (sum : List ℕ → ℕ) (old new 
   holds : (H : History) → Holds trace sum old H → Holds trace sum new H
   unfolding Holds
   holds H held =
-      let P : State → Type 0 = λ s. HoldsShown sum (noted_in old) (segment_size_of old) s (fault_of old) (line_of old) (machine_at old) (logged H) in
+      let P : State → Type 0 = λ s. HoldsShown sum old.marks (noted_in old) (segment_size_of old) s (fault_of old) (line_of old) (machine_at old) (logged H) in
       device_holds old new rest trace sum kept H (at_last P (trace (device_of old)) (trace (device_of new)) (performs_throughout P (removing_blobs (p ∷ [])) (trace (device_of old)) (trace (device_of new)) calls
       (holds_along sum (segment_size_of old) p (noted_in old) (fault_of old) (line_of old) (machine_at old) (logged H) before held)))
 
   fits_on : (H : History) (A f : ℕ) (U : List Message) → Fits trace sum old H A f U → AreBeside (Some p) H → Fits trace sum new H A f U
   unfolding Fits
   fits_on H A f U fits beside =
-      let P : State → Type 0 = λ s. FitsShown sum (noted_in old) (segment_size_of old) s (fault_of old) (line_of old) (machine_at old) (pins_of old) H A f U in
+      let P : State → Type 0 = λ s. FitsShown sum old.marks (noted_in old) (segment_size_of old) s (fault_of old) (line_of old) (machine_at old) (pins_of old) H A f U in
       device_fits old new rest trace sum kept H A f U (at_last P (trace (device_of old)) (trace (device_of new))
-      (fits_removed sum (segment_size_of old) p H (trace (device_of old)) (trace (device_of new)) calls beside (noted_in old) (fault_of old) (line_of old) (machine_at old) (pins_of old) A f U fits))
+      (fits_removed sum (segment_size_of old) p H (trace (device_of old)) (trace (device_of new)) calls beside old.marks (noted_in old) (fault_of old) (line_of old) (machine_at old) (pins_of old) A f U fits))
 
   items : fault_of new ≡ None → (m : Message) → IsBeside (Some p) m → IsStored trace sum old m → IsStored trace sum new m
   items well m beside stored = record {

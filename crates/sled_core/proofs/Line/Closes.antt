@@ -18,6 +18,7 @@ use Rattle.sled_core.specs.Logged.{logged}
 use Rattle.sled_core.specs.inside.Running.{FitsIn, FitsLine}
 use Rattle.sled_core.specs.SealedBuffers.{seal_at, sealed_count}
 use Rattle.sled_core.specs.Waiting.{at_last, closed_now, filled_now, last_of, sealed_now, with_filling}
+use Rattle.sled_core.specs.declared.logger.joined_marks.JoinedMarks.{JoinedMarks}
 use Rattle.sled_core.proofs.Behind.Calls.{behind-filled, behind-sealed, segment-filled}
 use Rattle.sled_core.proofs.Behind.FitsCalls.{behind-fits-filled, behind-fits-sealed}
 use Rattle.sled_core.proofs.Flush.FlushLemmas.{holds_over}
@@ -136,50 +137,50 @@ module _ (sum : List ℕ → ℕ) (size : ℕ) where
     as_first v = log_parts size v.parts.site device fault v.parts.bytes v.parts.written_len v.parts.sealed v.parts.reserved
 
     -- The first one is filled,
-    first_filled : (H : History) (v : SegmentView) → IsClosable size v → (behind : List SegmentParts) → HoldsIn sum (as_first v) behind H → HoldsIn sum (as_first (filled_now sum size v)) behind H
-    first_filled H v its behind holds = by_filled (λ (x : SegmentView). HoldsIn sum (as_first x) behind H) v
+    first_filled : {marks : JoinedMarks} (H : History) (v : SegmentView) → IsClosable size v → (behind : List SegmentParts) → HoldsIn sum marks (as_first v) behind H → HoldsIn sum marks (as_first (filled_now sum size v)) behind H
+    first_filled {marks} H v its behind holds = by_filled (λ (x : SegmentView). HoldsIn sum marks (as_first x) behind H) v
         (λ less. holds_over sum size v.parts.site device fault v.parts.bytes v.parts.written_len v.parts.sealed v.parts.reserved behind H holds device fault (v.parts.bytes ++ more_of v) v.parts.written_len v.parts.sealed (v.parts.reserved ++ padding_at size (length v.parts.bytes) ∷ []) refl (omega arith)
         (segment-filled sum size v.parts.site device fault v.parts.bytes v.parts.written_len v.parts.sealed v.parts.reserved (record { messages = holds.head; batches = H.batches }) less its.small its.rise holds.own) holds.others)
         (λ _. holds)
 
-    first_closed : (H : History) (v : SegmentView) → IsClosable size v → (behind : List SegmentParts) → HoldsIn sum (as_first v) behind H → HoldsIn sum (as_first (closed_now sum size v)) behind H
+    first_closed : (H : History) (v : SegmentView) → IsClosable size v → (behind : List SegmentParts) → {marks : JoinedMarks} → HoldsIn sum marks (as_first v) behind H → HoldsIn sum marks (as_first (closed_now sum size v)) behind H
     first_closed H v its behind holds = first_sealed sum size device fault H (filled_now sum size v) (filled_some v its) (first_filled H v its behind holds)
 
     -- or one behind it.
-    behind_filled : (H : History) (v : SegmentView) (pre : List SegmentParts) (w : SegmentView) → IsClosable size w → HoldsIn sum (as_first v) (pre ++ w.parts ∷ []) H → HoldsIn sum (as_first v) (pre ++ (filled_now sum size w).parts ∷ []) H
-    behind_filled H v pre w its holds = by_filled (λ (x : SegmentView). HoldsIn sum (as_first v) (pre ++ x.parts ∷ []) H) w
+    behind_filled : {marks : JoinedMarks} (H : History) (v : SegmentView) (pre : List SegmentParts) (w : SegmentView) → IsClosable size w → HoldsIn sum marks (as_first v) (pre ++ w.parts ∷ []) H → HoldsIn sum marks (as_first v) (pre ++ (filled_now sum size w).parts ∷ []) H
+    behind_filled {marks} H v pre w its holds = by_filled (λ (x : SegmentView). HoldsIn sum marks (as_first v) (pre ++ x.parts ∷ []) H) w
         (λ less. behind-filled sum size v.parts.site device fault v.parts.bytes v.parts.written_len v.parts.sealed v.parts.reserved H pre w.parts [] holds less its.small)
         (λ _. holds)
 
-    behind_fits_filled : (reach pins : ℕ) (H : History) (A f : ℕ) (U : List Message) (v : SegmentView) (pre : List SegmentParts) (w : SegmentView) → IsClosable size w → FitsIn sum (as_first v) (pre ++ w.parts ∷ []) reach pins H A f U
-        → FitsIn sum (as_first v) (pre ++ (filled_now sum size w).parts ∷ []) reach pins H A f U
-    behind_fits_filled reach pins H A f U v pre w its fits = by_filled (λ (x : SegmentView). FitsIn sum (as_first v) (pre ++ x.parts ∷ []) reach pins H A f U) w
+    behind_fits_filled : {marks : JoinedMarks} (reach pins : ℕ) (H : History) (A f : ℕ) (U : List Message) (v : SegmentView) (pre : List SegmentParts) (w : SegmentView) → IsClosable size w → FitsIn sum marks (as_first v) (pre ++ w.parts ∷ []) reach pins H A f U
+        → FitsIn sum marks (as_first v) (pre ++ (filled_now sum size w).parts ∷ []) reach pins H A f U
+    behind_fits_filled {marks} reach pins H A f U v pre w its fits = by_filled (λ (x : SegmentView). FitsIn sum marks (as_first v) (pre ++ x.parts ∷ []) reach pins H A f U) w
         (λ less. behind-fits-filled sum size v.parts.site device fault v.parts.bytes v.parts.written_len v.parts.sealed v.parts.reserved pins H A f U pre w.parts [] fits less its.small)
         (λ _. fits)
 
     -- What segments hold they hold then,
-    pub line_closed : (H : History) (v : SegmentView) (vs : List SegmentView) → IsClosable size (last_of v vs) → HoldsLine sum size device fault (v ∷ vs) H → HoldsLine sum size device fault (at_last (closed_now sum size) (v ∷ vs)) H
-    line_closed H = by_last (λ line. HoldsLine sum size device fault line H) (IsClosable size) (closed_now sum size)
+    pub line_closed : (marks : JoinedMarks) (H : History) (v : SegmentView) (vs : List SegmentView) → IsClosable size (last_of v vs) → HoldsLine sum marks size device fault (v ∷ vs) H → HoldsLine sum marks size device fault (at_last (closed_now sum size) (v ∷ vs)) H
+    line_closed marks H = by_last (λ line. HoldsLine sum marks size device fault line H) (IsClosable size) (closed_now sum size)
         (λ v its holds. first_closed H v its [] holds)
-        (λ v pre w its holds. subst (λ (ss : List SegmentParts). HoldsIn sum (as_first v) ss H) (sym (map-append parts_in pre (closed_now sum size w ∷ [])))
+        (λ v pre w its holds. subst (λ (ss : List SegmentParts). HoldsIn sum marks (as_first v) ss H) (sym (map-append parts_in pre (closed_now sum size w ∷ [])))
         (behind-sealed sum size v.parts.site device fault v.parts.bytes v.parts.written_len v.parts.sealed v.parts.reserved H (map parts_in pre) (filled_now sum size w).parts []
-        (behind_filled H v (map parts_in pre) w its (subst (λ (ss : List SegmentParts). HoldsIn sum (as_first v) ss H) (map-append parts_in pre (w ∷ [])) holds)) (filled_some w its).some))
+        (behind_filled H v (map parts_in pre) w its (subst (λ (ss : List SegmentParts). HoldsIn sum marks (as_first v) ss H) (map-append parts_in pre (w ∷ [])) holds)) (filled_some w its).some))
 
     -- and what they fit they fit.
-    pub line_fits_closed : (reach pins : ℕ) (H : History) (A f : ℕ) (U : List Message) (v : SegmentView) (vs : List SegmentView) → IsClosable size (last_of v vs) → FitsLine sum size device fault (v ∷ vs) reach pins H A f U
-        → FitsLine sum size device fault (at_last (closed_now sum size) (v ∷ vs)) reach pins H A f U
-    line_fits_closed reach pins H A f U = by_last (λ line. FitsLine sum size device fault line reach pins H A f U) (IsClosable size) (closed_now sum size)
+    pub line_fits_closed : (marks : JoinedMarks) (reach pins : ℕ) (H : History) (A f : ℕ) (U : List Message) (v : SegmentView) (vs : List SegmentView) → IsClosable size (last_of v vs) → FitsLine sum marks size device fault (v ∷ vs) reach pins H A f U
+        → FitsLine sum marks size device fault (at_last (closed_now sum size) (v ∷ vs)) reach pins H A f U
+    line_fits_closed marks reach pins H A f U = by_last (λ line. FitsLine sum marks size device fault line reach pins H A f U) (IsClosable size) (closed_now sum size)
         (λ v its fits. first_moved v its fits)
-        (λ v pre w its fits. subst (λ (ss : List SegmentParts). FitsIn sum (as_first v) ss reach pins H A f U) (sym (map-append parts_in pre (closed_now sum size w ∷ [])))
+        (λ v pre w its fits. subst (λ (ss : List SegmentParts). FitsIn sum marks (as_first v) ss reach pins H A f U) (sym (map-append parts_in pre (closed_now sum size w ∷ [])))
         (behind-fits-sealed sum size v.parts.site device fault v.parts.bytes v.parts.written_len v.parts.sealed v.parts.reserved pins H A f U (map parts_in pre) (filled_now sum size w).parts []
-        (behind_fits_filled reach pins H A f U v (map parts_in pre) w its (subst (λ (ss : List SegmentParts). FitsIn sum (as_first v) ss reach pins H A f U) (map-append parts_in pre (w ∷ [])) fits)) (filled_some w its).some))
+        (behind_fits_filled reach pins H A f U v (map parts_in pre) w its (subst (λ (ss : List SegmentParts). FitsIn sum marks (as_first v) ss reach pins H A f U) (map-append parts_in pre (w ∷ [])) fits)) (filled_some w its).some))
       where
-        first_moved : (v : SegmentView) → IsClosable size v → FitsIn sum (as_first v) [] reach pins H A f U → FitsIn sum (as_first (closed_now sum size v)) [] reach pins H A f U
-        first_moved v its fits = by_filled (λ (x : SegmentView). HoldsIn sum (as_first (sealed_now x)) [] (logged H) → FitsIn sum (as_first (sealed_now x)) [] reach pins H A f U) v
+        first_moved : {marks : JoinedMarks} (v : SegmentView) → IsClosable size v → FitsIn sum marks (as_first v) [] reach pins H A f U → FitsIn sum marks (as_first (closed_now sum size v)) [] reach pins H A f U
+        first_moved {marks} v its fits = by_filled (λ (x : SegmentView). HoldsIn sum marks (as_first (sealed_now x)) [] (logged H) → FitsIn sum marks (as_first (sealed_now x)) [] reach pins H A f U) v
             (λ _ holds. moved (sealed_now (filled_up v)).parts.bytes (sealed_now (filled_up v)).parts.sealed (sealed_now (filled_up v)).parts.reserved holds)
             (λ _ holds. moved (sealed_now v).parts.bytes (sealed_now v).parts.sealed (sealed_now v).parts.reserved holds)
             (first_closed (logged H) v its [] fits.holds)
           where
-            moved : (bytes : List ℕ) (bs : List Sealed) (rs : List Reserved) → HoldsIn sum (log_parts size v.parts.site device fault bytes v.parts.written_len bs rs) [] (logged H)
-                → FitsIn sum (log_parts size v.parts.site device fault bytes v.parts.written_len bs rs) [] reach pins H A f U
+            moved : (bytes : List ℕ) (bs : List Sealed) (rs : List Reserved) → HoldsIn sum marks (log_parts size v.parts.site device fault bytes v.parts.written_len bs rs) [] (logged H)
+                → FitsIn sum marks (log_parts size v.parts.site device fault bytes v.parts.written_len bs rs) [] reach pins H A f U
             moved bytes bs rs holds = fits-moved sum size v.parts.site device fault v.parts.bytes v.parts.written_len v.parts.sealed v.parts.reserved pins H A f U fits bytes v.parts.written_len bs rs refl holds

@@ -73,7 +73,7 @@ module _ {D C : Type 0} {old : Log D C} {ticket : Reservation} {n index : ℕ} (
       completed_holds holds =
           let done = holds_completed sum size (shown_of trace old) old.fault.kept (line_of old) n v f.among least (nth_facts old) i r f.there f.own.open_yet
           machine (noted_in old) plain (logged H) holds.shows in
-          let real = put_real (HoldsWith sum (noted_in old) size (shown_of trace old) old.fault.kept
+          let real = put_real (HoldsWith sum old.marks (noted_in old) size (shown_of trace old) old.fault.kept
           (set (line_of old) n (ended_now i r (completing r) Completed v)) machine) H m done.0
           (subst (λ (x : Message). AddsMessage (logged H) x done.0) (sym its) done.1) done.2 in
           (real.0, real.1, ticket_holds ends_completed rest trace sum real.0 holds.rests real.2)
@@ -86,4 +86,4 @@ module _ {D C : Type 0} {old : Log D C} {ticket : Reservation} {n index : ℕ} (
           let none = none_outdated size H machine apart fits.shows.account.outdated m may in
           let done = fits_completed sum size (shown_of trace old) old.fault.kept (line_of old) n v f.among least (nth_facts old) i r f.there f.own.open_yet
           machine (noted_in old) m its stored.below stored.item none plain old.pins H A g U old.config.config.least ok out fits.shows in
-          (done.0, done.1, ticket_fits ends_completed rest trace sum H done.0 A g (m ∷ U) fits.hides fits.rests done.2)
+          (done.0, done.1, ticket_fits ends_completed rest trace sum H done.0 A g (m ∷ U) fits.hides fits.marked fits.rests done.2)

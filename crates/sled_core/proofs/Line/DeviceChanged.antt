@@ -46,15 +46,15 @@ module _ {D C : Type 0} (old new : Log D C) (rest : ChangesDevice old new) where
     abbrev after : State
     after = state_of (trace (device_of new))
 
-    pub device_holds : (H : History) → HoldsShown sum (noted_in old) (segment_size_of old) after (fault_of old) (line_of old) (machine_at old) (logged H) → Holds trace sum new H
+    pub device_holds : (H : History) → HoldsShown sum old.marks (noted_in old) (segment_size_of old) after (fault_of old) (line_of old) (machine_at old) (logged H) → Holds trace sum new H
     unfolding Holds
     device_holds H then =
-        holds_with_same sum _ _ _ _ _ _ _ _ _ _ (logged H) batches_same refl refl refl
-        (holds_with_kept sum (noted_in old) _ _ after after _ _ _ _ _ _ (logged H) size_same line_same slots_same refl kept then)
+        holds_with_same sum _ _ _ _ _ _ _ _ _ _ _ _ (logged H) refl batches_same refl refl refl
+        (holds_with_kept sum _ _ (noted_in old) _ _ after after _ _ _ _ _ _ (logged H) rest.marks size_same line_same slots_same refl kept then)
 
-    pub device_fits : (H : History) (A f : ℕ) (U : List Message) → FitsShown sum (noted_in old) (segment_size_of old) after (fault_of old) (line_of old) (machine_at old) (pins_of old) H A f U → Fits trace sum new H A f U
+    pub device_fits : (H : History) (A f : ℕ) (U : List Message) → FitsShown sum old.marks (noted_in old) (segment_size_of old) after (fault_of old) (line_of old) (machine_at old) (pins_of old) H A f U → Fits trace sum new H A f U
     unfolding Fits
     device_fits H A f U then =
-        fits_with_same sum _ _ _ _ _ _ _ _ _ _ _ _ H A f U batches_same refl refl refl refl
-        (fits_with_kept sum (noted_in old) _ _ after after _ _ _ _ _ _ _ _ H A f U size_same line_same slots_same rest.pins refl kept then
+        fits_with_same sum _ _ _ _ _ _ _ _ _ _ _ _ _ _ H A f U refl batches_same refl refl refl refl
+        (fits_with_kept sum _ _ (noted_in old) _ _ after after _ _ _ _ _ _ _ _ H A f U rest.marks size_same line_same slots_same rest.pins refl kept then
         (log_leaves sum old H A f U after then))

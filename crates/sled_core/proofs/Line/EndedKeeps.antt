@@ -1,13 +1,11 @@
 -- A call that ends a reservation of a log changes nothing else that a caller sees: the position, the stable end, and that no buffer is sealed; and what the changed segments hold and fit the log does.
-use Rattle.std.proofs.Common.{◌≤◌, ◌≡◌, ◌∙◌, ◌+◌, ◌-◌, ap, sym, refl, arith, ℕ, suc, Bool, true, false, nat_lt, if◌then◌else◌, List, [], ◌∷◌, length, take, drop, set, map, Some, subst, Option, None}
-use Rattle.std.specs.declared.io.Error.{Error as IoError}
+use Rattle.std.proofs.Common.{◌≤◌, ◌≡◌, ◌∙◌, ◌+◌, ◌-◌, ap, sym, refl, arith, ℕ, suc, Bool, true, false, nat_lt, if◌then◌else◌, List, [], ◌∷◌, length, take, drop, set, map, Some, None}
 use Rattle.std.specs.List.{slice_get}
 use Rattle.std.proofs.lemmas.List.{length-set}
-use Rattle.sled_codec.specs.History.{Batch, History, Message}
+use Rattle.sled_codec.specs.History.{History, Message}
 use Rattle.sled_store.specs.Accounts.{machine_of}
 use Rattle.sled_store.specs.Device.{Trace, state_of}
 use Rattle.sled_store.specs.declared.config.RunningConfig.{RunningConfig}
-use Rattle.sled_store.specs.declared.segment.accountant.SegmentAccountant.{SegmentAccountant}
 use Rattle.sled_store.specs.SegmentStates.{Machine}
 use Rattle.sled_core.specs.declared.iobuf.ReservationState.{ReservationState}
 use Rattle.sled_core.specs.declared.iobuf.ReservationState.TheVariants.{Open}
@@ -24,7 +22,7 @@ use Rattle.sled_core.specs.Logged.{logged}
 use Rattle.sled_core.specs.Positions.{is_short, next_segment_at, position_in}
 use Rattle.sled_core.specs.OpenBatches.{not_whole}
 use Rattle.sled_core.specs.invariants.Running.{Fits}
-use Rattle.sled_core.specs.inside.Running.{FitsWith, FitsShown}
+use Rattle.sled_core.specs.inside.Running.{FitsWith}
 use Rattle.sled_core.specs.Recoverable.{NoHeaderOfZeros}
 use Rattle.sled_core.specs.inside.Hides.{HidesFrom}
 use Rattle.sled_core.specs.inside.SealedBuffers.{one_ended, one_fewer}
@@ -34,8 +32,7 @@ use Rattle.sled_core.specs.Waiting.{buffer_at, unwritten_in}
 use Rattle.sled_core.proofs.Cleared.Calls.{cleared_ended}
 use Rattle.sled_core.proofs.Cleared.Shown.{ShowsSame}
 use Rattle.sled_core.proofs.Line.KeptCalls.{goes_on_quietly}
-use Rattle.sled_core.proofs.Line.Moves.{holds_as}
-use Rattle.sled_core.proofs.Line.Shown.{fits_shown}
+use Rattle.sled_core.proofs.Line.Moves.{MarksStand, fits_as, holds_as}
 use Rattle.sled_core.proofs.Line.LineEnds.{end_set, kept_same, noted_later, noted_same}
 use Rattle.sled_core.proofs.Numbers.HidesAs.{from_as}
 use Rattle.sled_core.proofs.Line.EndedLine.{over_bytes}
@@ -131,29 +128,25 @@ module _ {D C : Type 0} (old new : Log D C) (n : ℕ) (v : SegmentView) (there :
 
   pub holds_ended : (trace : D → Trace) (sum : List ℕ → ℕ) (H : History)
       → RestsWhole old.fault.kept (state_of (trace old.config.device)).log
-      → HoldsWith sum (noted_in old) old.config.config.segment_size (shown_of trace old) old.fault.kept (set (line_of old) n e)
+      → HoldsWith sum old.marks (noted_in old) old.config.config.segment_size (shown_of trace old) old.fault.kept (set (line_of old) n e)
       (machine_of old.accountant) (logged H)
       → Holds trace sum new H
   holds_ended trace sum H rests holds =
-      holds_as trace sum old new rest.config rest.fault (noted_in old) noted_ended (set (line_of old) n e) line (machine_of old.accountant)
+      holds_as trace sum old new rest.config rest.fault rest.marks (noted_in old) noted_ended (set (line_of old) n e) line (machine_of old.accountant)
       (ap machine_of rest.accountant) shows_ended rests H holds
 
   pub fits_ended : (trace : D → Trace) (sum : List ℕ → ℕ) (H' H : History) (A f : ℕ) (U : List Message)
       → (old.fault.kept ≡ None → NoHeaderOfZeros sum → HidesFrom sum old.config.config.segment_size (state_of (trace old.config.device))
       (machine_of old.accountant) (line_of old) (logged H'))
+      → MarksStand trace sum old
       → RestsWhole old.fault.kept (state_of (trace old.config.device)).log
-      → FitsWith sum (noted_in old) old.config.config.segment_size (shown_of trace old) old.fault.kept (set (line_of old) n e) (machine_of old.accountant) old.pins H A f U → Fits trace sum new H A f U
-  unfolding Fits
-  fits_ended trace sum H' H A f U hides rests fits =
-      subst (λ (c : RunningConfig D C). FitsShown sum (noted_in new) c.config.segment_size (state_of (trace c.device)) new.fault.kept (line_of new) (machine_of new.accountant) new.pins H A f U) (sym rest.config)
-      (subst (λ (x : Option IoError). FitsShown sum (noted_in new) old.config.config.segment_size (state_of (trace old.config.device)) x (line_of new) (machine_of new.accountant) new.pins H A f U) (sym rest.fault)
-      (subst (λ (l : List SegmentView). FitsShown sum (noted_in new) old.config.config.segment_size (state_of (trace old.config.device)) old.fault.kept l (machine_of new.accountant) new.pins H A f U) (sym line)
-      (subst (λ (a : SegmentAccountant). FitsShown sum (noted_in new) old.config.config.segment_size (state_of (trace old.config.device)) old.fault.kept (set (line_of old) n e) (machine_of a) new.pins H A f U) (sym rest.accountant)
-      (subst (λ (p : ℕ). FitsShown sum (noted_in new) old.config.config.segment_size (state_of (trace old.config.device)) old.fault.kept (set (line_of old) n e) (machine_of old.accountant) p H A f U) (sym rest.pins)
-      (subst (λ (bs : List Batch). FitsShown sum bs old.config.config.segment_size (state_of (trace old.config.device)) old.fault.kept (set (line_of old) n e) (machine_of old.accountant) old.pins H A f U) (sym noted_ended)
-      (fits_shown sum (noted_in old) old.config.config.segment_size (state_of (trace old.config.device)) old.fault.kept (machine_of old.accountant)
-      (machine_of old.accountant) (line_of old) (set (line_of old) n e) shows_ended rests old.pins H A f U
+      → FitsWith sum old.marks (noted_in old) old.config.config.segment_size (shown_of trace old) old.fault.kept (set (line_of old) n e) (machine_of old.accountant)
+      old.pins H A f U
+      → Fits trace sum new H A f U
+  fits_ended trace sum H' H A f U hides marked rests =
+      fits_as trace sum old new rest.config rest.fault rest.marks (noted_in old) noted_ended (set (line_of old) n e) line (machine_of old.accountant)
+      (ap machine_of rest.accountant) shows_ended rests H A f U rest.pins
       (λ none zeros. from_as sum old.config.config.segment_size (omega (arith, old.config.config.least)) (state_of (trace old.config.device))
       (machine_of old.accountant) (machine_of old.accountant) (line_of old) (set (line_of old) n e) (logged H') (logged H) (λ j. refl) (λ j. refl)
       (shows_ended (state_of (trace old.config.device)).log.bytes)
-      (omega (arith, end_set old.config.config.segment_size (line_of old) n v e there refl)) (hides none zeros)) fits))))))
+      (omega (arith, end_set old.config.config.segment_size (line_of old) n v e there refl)) (hides none zeros)) marked

@@ -29,6 +29,7 @@ use Rattle.sled_core.specs.GivenUp.{canceled_state, given_up_along}
 use Rattle.sled_core.specs.inside.Fits.{HoldsLine}
 use Rattle.sled_core.specs.OpenPlaces.{TakesOut, open_places_along}
 use Rattle.sled_core.specs.Tickets.{IsFor, index_of, place_of}
+use Rattle.sled_core.specs.declared.logger.joined_marks.JoinedMarks.{JoinedMarks}
 use Rattle.sled_core.specs.inside.Turned.{ended_now}
 use Rattle.sled_core.proofs.Holds.CompletedLemmas.{others_stay}
 use Rattle.sled_core.proofs.Line.Ends.{with_segment}
@@ -98,9 +99,9 @@ module _ (size : ℕ) (line : List SegmentView) (base n : ℕ) (v : SegmentView)
   ended_gives is head = set_given_more line n v e (message_in v.parts.site v.parts.bytes r) there (canceled_given v (facts n v there) i r at is_open text short state head is)
 
   -- Other tickets are for what they were for.
-  pub others_await : (sum : List ℕ → ℕ) (device : State) (fault : Option IoError) (H : History) → HoldsLine sum size device fault line H → (ticket other : Reservation) (m : Message) → place_of ticket ≡ pos (v.parts.site.place + r.from)
+  pub others_await : (sum : List ℕ → ℕ) (marks : JoinedMarks) (device : State) (fault : Option IoError) (H : History) → HoldsLine sum marks size device fault line H → (ticket other : Reservation) (m : Message) → place_of ticket ≡ pos (v.parts.site.place + r.from)
       → AwaitsIn line other m → place_of other ≢ place_of ticket → AwaitsIn (set line n e) other m
-  others_await sum device fault H holds ticket other m place awaits apart = elim (cases_eq awaits.number n) [
+  others_await sum marks device fault H holds ticket other m place awaits apart = elim (cases_eq awaits.number n) [
     | inl same ↦ (
         let mine : slice_get line n ≡ Some awaits.segment = subst (λ (j : ℕ). slice_get line j ≡ Some awaits.segment) same awaits.among in
         let both : Some awaits.segment ≡ Some v = sym mine ∙ there in
@@ -111,7 +112,7 @@ module _ (size : ℕ) (line : List SegmentView) (base n : ℕ) (v : SegmentView)
         let own : IsFor v.parts.site x other = subst (λ (w : SegmentView). IsFor w.parts.site x other) is awaits.own in
         let message : m ≡ message_in v.parts.site v.parts.bytes x = subst (λ (w : SegmentView). m ≡ message_in w.parts.site w.parts.bytes x) is awaits.message in
         let elsewhere : x.from ≡ r.from → ⊥ = λ alike. apart (own.place ∙ ap (λ (k : ℕ). pos (v.parts.site.place + k)) alike ∙ sym place) in
-        with_segment sum size device fault line n v H holds there (λ stays mine_holds segment.
+        with_segment sum size device fault _ line n v H holds there (λ stays mine_holds segment.
         let stay = others_stay sum size v.parts.site device fault v.parts.bytes v.parts.written_len v.parts.sealed v.parts.reserved i (index_of other - v.gone) r x mine_holds text state short segment at is_open at_x own.open_yet elsewhere in
         record {
           number = n;

@@ -5,7 +5,6 @@ use Rattle.std.specs.List.{Contains, slice_get}
 use Rattle.std.proofs.lemmas.List.Elements.{All-set}
 use Rattle.sled_codec.specs.Written.{written}
 use Rattle.sled_codec.specs.History.{Batch, AddsMessage, History, Message}
-use Rattle.sled_codec.specs.Snapshots.{stable_place}
 use Rattle.sled_store.specs.Foreign.{HeaderWasPlaced, RecordWasPlaced}
 use Rattle.sled_store.specs.Device.{State}
 use Rattle.sled_store.specs.SegmentStates.{Machine}
@@ -28,6 +27,7 @@ use Rattle.sled_core.specs.Running.{KeepsItem}
 use Rattle.sled_core.specs.inside.Slots.{AreWhole}
 use Rattle.sled_core.specs.inside.Turned.{ended_now}
 use Rattle.sled_core.specs.Reading.{BlobIsBelow}
+use Rattle.sled_core.specs.declared.logger.joined_marks.JoinedMarks.{JoinedMarks}
 use Rattle.sled_core.proofs.Behind.Calls.{behind-aborted, ended_long, held_here}
 use Rattle.sled_core.proofs.Behind.Completes.{adds_here, behind-complete, completed_history}
 use Rattle.sled_core.proofs.Behind.FitsCalls.{behind-fits-aborted, behind-fits-completed}
@@ -42,7 +42,7 @@ use Rattle.sled_core.proofs.Holds.Facts.{IsSegment}
 use Rattle.sled_core.proofs.Line.LineEnds.{end_set, first_set}
 use Rattle.sled_core.proofs.Holds.Nth.{parts_set, parts_split}
 use Rattle.sled_core.proofs.Line.EntryPlaces.{line_unwritten}
-use Rattle.sled_core.proofs.Line.NeededSlots.{message_in_slot, newest_written, slots_added}
+use Rattle.sled_core.proofs.Line.NeededSlots.{message_in_slot, held_written, slots_added}
 use Rattle.sled_core.proofs.Line.OlderSlots.{whole_grown}
 use Rattle.sled_core.proofs.Line.Segments.{first_below, from_each}
 use Rattle.sled_core.proofs.OwnLog.Calls.{own_ended}
@@ -51,6 +51,7 @@ use Rattle.sled_core.proofs.Reserve.Ranges.{at_there}
 use Rattle.sled_core.proofs.Sealed.Ended.{ends_up}
 use Rattle.sled_core.proofs.Line.Accounts.{account_completed}
 use Rattle.sled_core.proofs.Line.ActiveSegments.{inside_segment, lies_active}
+use Rattle.sled_core.specs.inside.LogSegments.{held_since}
 
 -- What the one that is set has as the one before it had it, each has as before.
 pub set_keeps : {T X : Type 0} (f : T → X) (xs : List T) (n : ℕ) (x y : T) → slice_get xs n ≡ Some x → f y ≡ f x → (k : ℕ) (a b : T) → slice_get xs k ≡ Some a
@@ -74,32 +75,32 @@ module _ (sum : List ℕ → ℕ) (size : ℕ) (device : State) (fault : Option 
   parts_of v = log_parts size v.parts.site device fault v.parts.bytes v.parts.written_len v.parts.sealed v.parts.reserved
 
   -- Each of the segments that hold a history holds a part of it, with all batches.
-  pub with_part : {P : Type 0} (line : List SegmentView) (n : ℕ) (v : SegmentView) (H : History) → HoldsLine sum size device fault line H
+  pub with_part : (marks : JoinedMarks) {P : Type 0} (line : List SegmentView) (n : ℕ) (v : SegmentView) (H : History) → HoldsLine sum marks size device fault line H
       → slice_get line n ≡ Some v
       → ((stays : Message → Type 0) (own : List Message) → HoldsSegment sum (parts_of v) stays (record { messages = own; batches = H.batches }) → P) → P
-  with_part [] n v H holds there go = cc
-  with_part {P} (w ∷ ws) zero v H holds there go =
+  with_part marks [] n v H holds there go = cc
+  with_part marks {P} (w ∷ ws) zero v H holds there go =
       let same : w ≡ v = cc in
       subst (λ (x : SegmentView).
       ((stays : Message → Type 0) (own : List Message) → HoldsSegment sum (parts_of x) stays (record { messages = own; batches = H.batches }) → P) → P) same
       (λ given. given _ holds.head holds.own) go
-  with_part {P} (w ∷ ws) (suc k) v H holds there go =
-      let its : HoldsIn sum (parts_of w) (map parts_in (take k ws) ++ v.parts ∷ map parts_in (drop (suc k) ws)) H =
-      subst (λ (l : List SegmentParts). HoldsIn sum (parts_of w) l H) (parts_split ws k v there) holds in
+  with_part marks {P} (w ∷ ws) (suc k) v H holds there go =
+      let its : HoldsIn sum marks (parts_of w) (map parts_in (take k ws) ++ v.parts ∷ map parts_in (drop (suc k) ws)) H =
+      subst (λ (l : List SegmentParts). HoldsIn sum marks (parts_of w) l H) (parts_split ws k v there) holds in
       go _ _ (held_here sum size w.parts.site device fault w.parts.bytes w.parts.written_len w.parts.sealed w.parts.reserved H (map parts_in (take k ws))
       v.parts (map parts_in (drop (suc k) ws)) its).segment
 
-  pub with_segment : {P : Type 0} (line : List SegmentView) (n : ℕ) (v : SegmentView) (H : History) → HoldsLine sum size device fault line H
+  pub with_segment : (marks : JoinedMarks) {P : Type 0} (line : List SegmentView) (n : ℕ) (v : SegmentView) (H : History) → HoldsLine sum marks size device fault line H
       → slice_get line n ≡ Some v
       → ((stays : Message → Type 0) (own : History) → HoldsSegment sum (parts_of v) stays own → P) → P
-  with_segment line n v H holds there go =
-      with_part line n v H holds there (λ stays own segment. go stays (record { messages = own; batches = H.batches }) segment)
+  with_segment marks line n v H holds there go =
+      with_part _ line n v H holds there (λ stays own segment. go stays (record { messages = own; batches = H.batches }) segment)
 
   -- Segments that fit a history hold it.
-  pub line_holds : (line : List SegmentView) (reach pins : ℕ) (H : History) (A f : ℕ) (U : List Message)
-      → FitsLine sum size device fault line reach pins H A f U → HoldsLine sum size device fault line (logged H)
-  line_holds [] reach pins H A f U fits = fits
-  line_holds (v ∷ vs) reach pins H A f U fits = fits.holds
+  pub line_holds : (marks : JoinedMarks) (line : List SegmentView) (reach pins : ℕ) (H : History) (A f : ℕ) (U : List Message)
+      → FitsLine sum marks size device fault line reach pins H A f U → HoldsLine sum marks size device fault line (logged H)
+  line_holds marks [] reach pins H A f U fits = fits
+  line_holds marks (v ∷ vs) reach pins H A f U fits = fits.holds
 
   -- An open reservation of the n-th one.
   module _ (v : SegmentView) (i : ℕ) (r : Reserved) (at : slice_get v.parts.reserved i ≡ Some r) (is_open : r.state ≡ Open) where
@@ -113,60 +114,60 @@ module _ (sum : List ℕ → ℕ) (size : ℕ) (device : State) (fault : Option 
     m = message_in v.parts.site v.parts.bytes r
 
     -- It is aborted: the segments hold what they held.
-    pub abort_holds : (line : List SegmentView) (n : ℕ) {place : ℕ} (H : History) → slice_get line n ≡ Some v → IsSegment size place v
-        → HoldsLine sum size device fault line H → HoldsLine sum size device fault (set line n canceled) H
-    abort_holds [] n H there facts holds = cc
-    abort_holds (w ∷ ws) zero H there facts holds =
+    pub abort_holds : (marks : JoinedMarks) (line : List SegmentView) (n : ℕ) {place : ℕ} (H : History) → slice_get line n ≡ Some v → IsSegment size place v
+        → HoldsLine sum marks size device fault line H → HoldsLine sum marks size device fault (set line n canceled) H
+    abort_holds marks [] n H there facts holds = cc
+    abort_holds marks (w ∷ ws) zero H there facts holds =
         let same : w ≡ v = cc in
-        let its : HoldsLine sum size device fault (v ∷ ws) H = subst (λ (x : SegmentView). HoldsLine sum size device fault (x ∷ ws) H) same holds in
+        let its : HoldsLine sum marks size device fault (v ∷ ws) H = subst (λ (x : SegmentView). HoldsLine sum marks size device fault (x ∷ ws) H) same holds in
         holds-aborted sum size v.parts.site device fault v.parts.bytes v.parts.written_len v.parts.sealed v.parts.reserved H its i r at is_open
         (written_inside v facts) facts.are _ _ _ _ refl refl refl refl
-    abort_holds (w ∷ ws) (suc k) H there facts holds =
-        let its : HoldsIn sum (parts_of w) (map parts_in (take k ws) ++ v.parts ∷ map parts_in (drop (suc k) ws)) H =
-        subst (λ (l : List SegmentParts). HoldsIn sum (parts_of w) l H) (parts_split ws k v there) holds in
-        subst (λ (l : List SegmentParts). HoldsIn sum (parts_of w) l H) (sym (parts_set ws k v canceled there))
+    abort_holds marks (w ∷ ws) (suc k) H there facts holds =
+        let its : HoldsIn sum marks (parts_of w) (map parts_in (take k ws) ++ v.parts ∷ map parts_in (drop (suc k) ws)) H =
+        subst (λ (l : List SegmentParts). HoldsIn sum marks (parts_of w) l H) (parts_split ws k v there) holds in
+        subst (λ (l : List SegmentParts). HoldsIn sum marks (parts_of w) l H) (sym (parts_set ws k v canceled there))
         (behind-aborted sum size w.parts.site device fault w.parts.bytes w.parts.written_len w.parts.sealed w.parts.reserved H (map parts_in (take k ws))
         v.parts (map parts_in (drop (suc k) ws)) its i r at is_open)
 
     -- and they fit what they fitted
-    pub abort_fits : (line : List SegmentView) (n : ℕ) {place : ℕ} (reach pins : ℕ) (H : History) (A f : ℕ) (U : List Message) → slice_get line n ≡ Some v
+    pub abort_fits : (marks : JoinedMarks) (line : List SegmentView) (n : ℕ) {place : ℕ} (reach pins : ℕ) (H : History) (A f : ℕ) (U : List Message) → slice_get line n ≡ Some v
         → IsSegment size place v
-        → FitsLine sum size device fault line reach pins H A f U → FitsLine sum size device fault (set line n canceled) reach pins H A f U
-    abort_fits [] n reach pins H A f U there facts fits = cc
-    abort_fits (w ∷ ws) zero reach pins H A f U there facts fits =
+        → FitsLine sum marks size device fault line reach pins H A f U → FitsLine sum marks size device fault (set line n canceled) reach pins H A f U
+    abort_fits marks [] n reach pins H A f U there facts fits = cc
+    abort_fits marks (w ∷ ws) zero reach pins H A f U there facts fits =
         let same : w ≡ v = cc in
-        let its : FitsLine sum size device fault (v ∷ ws) reach pins H A f U =
-        subst (λ (x : SegmentView). FitsLine sum size device fault (x ∷ ws) reach pins H A f U) same fits in
+        let its : FitsLine sum marks size device fault (v ∷ ws) reach pins H A f U =
+        subst (λ (x : SegmentView). FitsLine sum marks size device fault (x ∷ ws) reach pins H A f U) same fits in
         fits-moved sum size v.parts.site device fault v.parts.bytes v.parts.written_len v.parts.sealed v.parts.reserved pins H A f U its _ _ _ _ refl
         (holds-aborted sum size v.parts.site device fault v.parts.bytes v.parts.written_len v.parts.sealed v.parts.reserved (logged H) its.holds i r at is_open
         (written_inside v facts) facts.are _ _ _ _ refl refl refl refl)
-    abort_fits (w ∷ ws) (suc k) reach pins H A f U there facts fits =
-        let its : FitsIn sum (parts_of w) (map parts_in (take k ws) ++ v.parts ∷ map parts_in (drop (suc k) ws)) reach pins H A f U =
-        subst (λ (l : List SegmentParts). FitsIn sum (parts_of w) l reach pins H A f U) (parts_split ws k v there) fits in
-        subst (λ (l : List SegmentParts). FitsIn sum (parts_of w) l reach pins H A f U) (sym (parts_set ws k v canceled there))
+    abort_fits marks (w ∷ ws) (suc k) reach pins H A f U there facts fits =
+        let its : FitsIn sum marks (parts_of w) (map parts_in (take k ws) ++ v.parts ∷ map parts_in (drop (suc k) ws)) reach pins H A f U =
+        subst (λ (l : List SegmentParts). FitsIn sum marks (parts_of w) l reach pins H A f U) (parts_split ws k v there) fits in
+        subst (λ (l : List SegmentParts). FitsIn sum marks (parts_of w) l reach pins H A f U) (sym (parts_set ws k v canceled there))
         (behind-fits-aborted sum size w.parts.site device fault w.parts.bytes w.parts.written_len w.parts.sealed w.parts.reserved pins H A f U
         (map parts_in (take k ws)) v.parts (map parts_in (drop (suc k) ws)) its i r at is_open)
 
     -- It is completed: the segments hold the history with its message,
-    pub complete_holds : is_manifest r.log_kind r.page ≡ false → (line : List SegmentView) (n place : ℕ) (H : History) → slice_get line n ≡ Some v
+    pub complete_holds : (marks : JoinedMarks) → is_manifest r.log_kind r.page ≡ false → (line : List SegmentView) (n place : ℕ) (H : History) → slice_get line n ≡ Some v
         → ((k : ℕ) (x : SegmentView) → slice_get line k ≡ Some x → IsSegment size (place + k * size) x)
-        → HoldsLine sum size device fault line H → (H' : History) × AddsMessage H m H' × HoldsLine sum size device fault (set line n completed) H'
-    complete_holds none [] n place H there facts holds = cc
-    complete_holds none (w ∷ ws) zero place H there facts holds =
+        → HoldsLine sum marks size device fault line H → (H' : History) × AddsMessage H m H' × HoldsLine sum marks size device fault (set line n completed) H'
+    complete_holds marks none [] n place H there facts holds = cc
+    complete_holds marks none (w ∷ ws) zero place H there facts holds =
         let same : w ≡ v = cc in
-        let its : HoldsLine sum size device fault (v ∷ ws) H = subst (λ (x : SegmentView). HoldsLine sum size device fault (x ∷ ws) H) same holds in
+        let its : HoldsLine sum marks size device fault (v ∷ ws) H = subst (λ (x : SegmentView). HoldsLine sum marks size device fault (x ∷ ws) H) same holds in
         let own = facts zero v there in
         holds-complete sum size v.parts.site device fault v.parts.bytes v.parts.written_len v.parts.sealed v.parts.reserved H its i r at is_open
         (written_inside v own) own.are own.short none
-    complete_holds none (w ∷ ws) (suc k) place H there facts holds =
-        let its : HoldsIn sum (parts_of w) (map parts_in (take k ws) ++ v.parts ∷ map parts_in (drop (suc k) ws)) H =
-        subst (λ (l : List SegmentParts). HoldsIn sum (parts_of w) l H) (parts_split ws k v there) holds in
+    complete_holds marks none (w ∷ ws) (suc k) place H there facts holds =
+        let its : HoldsIn sum marks (parts_of w) (map parts_in (take k ws) ++ v.parts ∷ map parts_in (drop (suc k) ws)) H =
+        subst (λ (l : List SegmentParts). HoldsIn sum marks (parts_of w) l H) (parts_split ws k v there) holds in
         let short : length w.parts.bytes ≤ size = (facts zero w refl).short in (
           completed_history sum size w.parts.site device fault w.parts.bytes w.parts.written_len w.parts.sealed w.parts.reserved H (map parts_in (take k ws))
               v.parts (map parts_in (drop (suc k) ws)) its short i r at is_open none,
           adds_here sum size w.parts.site device fault w.parts.bytes w.parts.written_len w.parts.sealed w.parts.reserved H (map parts_in (take k ws)) v.parts
               (map parts_in (drop (suc k) ws)) its short i r at is_open none,
-          subst (λ (l : List SegmentParts). HoldsIn sum (parts_of w) l
+          subst (λ (l : List SegmentParts). HoldsIn sum marks (parts_of w) l
               (completed_history sum size w.parts.site device fault w.parts.bytes w.parts.written_len w.parts.sealed w.parts.reserved H
               (map parts_in (take k ws)) v.parts (map parts_in (drop (suc k) ws)) its short i r at is_open none))
               (sym (parts_set ws k v completed there))
@@ -175,24 +176,24 @@ module _ (sum : List ℕ → ℕ) (size : ℕ) (device : State) (fault : Option 
         )
 
     -- and they fit it, where a pin is out.
-    pub complete_fits : (x : Message) → in_log x ≡ m → BlobIsBelow x x.pointer → KeepsItem sum device.blobs x x.pointer → is_manifest r.log_kind r.page ≡ false
+    pub complete_fits : (marks : JoinedMarks) (x : Message) → in_log x ≡ m → BlobIsBelow x x.pointer → KeepsItem sum device.blobs x x.pointer → is_manifest r.log_kind r.page ≡ false
         → (line : List SegmentView) (n place reach pins : ℕ) (H : History) (A f : ℕ) (U : List Message) → 256 ≤ size → fault ≡ None → 0 < pins
         → slice_get line n ≡ Some v
         → ((k : ℕ) (x : SegmentView) → slice_get line k ≡ Some x → IsSegment size (place + k * size) x)
-        → FitsLine sum size device fault line reach pins H A f U
-        → (H' : History) × AddsMessage H x H' × FitsLine sum size device fault (set line n completed) reach pins H' A f (x ∷ U)
-    complete_fits x its_message below stored none [] n place reach pins H A f U least ok out there facts fits = cc
-    complete_fits x its_message below stored none (w ∷ ws) zero place reach pins H A f U least ok out there facts fits =
+        → FitsLine sum marks size device fault line reach pins H A f U
+        → (H' : History) × AddsMessage H x H' × FitsLine sum marks size device fault (set line n completed) reach pins H' A f (x ∷ U)
+    complete_fits marks x its_message below stored none [] n place reach pins H A f U least ok out there facts fits = cc
+    complete_fits marks x its_message below stored none (w ∷ ws) zero place reach pins H A f U least ok out there facts fits =
         let same : w ≡ v = cc in
-        let its : FitsLine sum size device fault (v ∷ ws) reach pins H A f U =
-        subst (λ (x : SegmentView). FitsLine sum size device fault (x ∷ ws) reach pins H A f U) same fits in
+        let its : FitsLine sum marks size device fault (v ∷ ws) reach pins H A f U =
+        subst (λ (x : SegmentView). FitsLine sum marks size device fault (x ∷ ws) reach pins H A f U) same fits in
         let own = facts zero v there in
         let short = own.short in
         let first : History = record { messages = its.holds.head; batches = H.batches } in
         let of_log =
         holds-complete sum size v.parts.site device fault v.parts.bytes v.parts.written_len v.parts.sealed v.parts.reserved (logged H) its.holds i r at is_open
         (written_inside v own) own.are short none in
-        let done = put_real (HoldsIn sum _ (map parts_in ws)) H x of_log.0
+        let done = put_real (HoldsIn sum marks _ (map parts_in ws)) H x of_log.0
         (subst (λ (y : Message). AddsMessage (logged H) y of_log.0) (sym its_message) of_log.1) of_log.2 in
         let put = adds_logged H x done.0 done.1 in
         let placed = ap (λ (y : Message). y.place) its_message in
@@ -209,9 +210,9 @@ module _ (sum : List ℕ → ℕ) (size : ℕ) (device : State) (fault : Option 
               (of_head sum size v.parts.site device fault _ _ _ _ (logged done.0) done.2 (in_log x) (added_there (logged H) (logged done.0) (in_log x) put)
               (omega (arith, near, short, placed))) (omega (arith, above, placed)) own.fresh own.are below stored out,
         )
-    complete_fits x its_message below stored none (w ∷ ws) (suc k) place reach pins H A f U least ok out there facts fits =
-        let its : FitsIn sum (parts_of w) (map parts_in (take k ws) ++ v.parts ∷ map parts_in (drop (suc k) ws)) reach pins H A f U =
-        subst (λ (l : List SegmentParts). FitsIn sum (parts_of w) l reach pins H A f U) (parts_split ws k v there) fits in
+    complete_fits marks x its_message below stored none (w ∷ ws) (suc k) place reach pins H A f U least ok out there facts fits =
+        let its : FitsIn sum marks (parts_of w) (map parts_in (take k ws) ++ v.parts ∷ map parts_in (drop (suc k) ws)) reach pins H A f U =
+        subst (λ (l : List SegmentParts). FitsIn sum marks (parts_of w) l reach pins H A f U) (parts_split ws k v there) fits in
         let short : length w.parts.bytes ≤ size = (facts zero w refl).short in
         let done =
         behind-fits-completed sum size w.parts.site device fault w.parts.bytes w.parts.written_len w.parts.sealed w.parts.reserved pins H A f U
@@ -219,7 +220,7 @@ module _ (sum : List ℕ → ℕ) (size : ℕ) (device : State) (fault : Option 
         (facts (suc k) v there).fresh out in (
           done.0,
           done.1,
-          subst (λ (l : List SegmentParts). FitsIn sum (parts_of w) l reach pins done.0 A f (x ∷ U)) (sym (parts_set ws k v completed there)) done.2,
+          subst (λ (l : List SegmentParts). FitsIn sum marks (parts_of w) l reach pins done.0 A f (x ∷ U)) (sym (parts_set ws k v completed there)) done.2,
         )
 
 -- The slots are those that they were.
@@ -258,25 +259,25 @@ module _ (sum : List ℕ → ℕ) (size : ℕ) (device : State) (fault : Option 
       (let same = written_set line n v w there site from in omega (arith, same)) (let same = end_set size line n v w there site in omega (arith, same)) fits
 
   -- The message lies beside all batches.
-  beside : (H : History) → HoldsLine sum size device fault line H → (b : Batch) → Contains H.batches b
+  beside : (marks : JoinedMarks) (H : History) → HoldsLine sum marks size device fault line H → (b : Batch) → Contains H.batches b
       → (b.low ≤ v.parts.site.place + r.from) ⊎ (v.parts.site.place + r.from + r.len ≤ b.low)
-  beside H holds b among = with_part sum size device fault line n v H holds there
+  beside marks H holds b among = with_part sum size device fault _ line n v H holds there
       (λ stays own segment. batch_beside sum size v.parts.site device fault v.parts.bytes v.parts.written_len v.parts.sealed v.parts.reserved
       (record { messages = own; batches = H.batches }) segment i r at is_open (facts n v there).short b among)
 
-  pub holds_aborted : (H : History) → HoldsWith sum noted size device fault line machine H
-      → HoldsWith sum noted size device fault (set line n (ended_now i r (canceling sum v.parts.bytes r) Canceled v)) machine H
+  pub holds_aborted : (H : History) → {marks : JoinedMarks} → HoldsWith sum marks noted size device fault line machine H
+      → HoldsWith sum marks noted size device fault (set line n (ended_now i r (canceling sum v.parts.bytes r) Canceled v)) machine H
   holds_aborted H holds = record {
-    holds = abort_holds sum size device fault v i r at is_open line n H there (facts n v there) holds.holds;
+    holds = abort_holds sum size device fault v i r at is_open _ line n H there (facts n v there) holds.holds;
     batches = batches_set (ended_now i r (canceling sum v.parts.bytes r) Canceled v) refl refl H holds.batches;
     slots = slots_set size line device.log.bytes fault machine n v (ended_now i r (canceling sum v.parts.bytes r) Canceled v) there refl holds.slots;
   }
 
-  pub fits_aborted : (pins : ℕ) (H : History) (A f : ℕ) (U : List Message) → FitsWith sum noted size device fault line machine pins H A f U
-      → FitsWith sum noted size device fault (set line n (ended_now i r (canceling sum v.parts.bytes r) Canceled v)) machine pins H A f U
+  pub fits_aborted : (pins : ℕ) (H : History) (A f : ℕ) (U : List Message) → {marks : JoinedMarks} → FitsWith sum marks noted size device fault line machine pins H A f U
+      → FitsWith sum marks noted size device fault (set line n (ended_now i r (canceling sum v.parts.bytes r) Canceled v)) machine pins H A f U
   fits_aborted pins H A f U fits = record {
     reach = fits.reach;
-    parts = abort_fits sum size device fault v i r at is_open line n fits.reach pins H A f U there (facts n v there) fits.parts;
+    parts = abort_fits sum size device fault v i r at is_open _ line n fits.reach pins H A f U there (facts n v there) fits.parts;
     batches = batches_set (ended_now i r (canceling sum v.parts.bytes r) Canceled v) refl refl (logged H) fits.batches;
     slots = slots_set size line device.log.bytes fault machine n v (ended_now i r (canceling sum v.parts.bytes r) Canceled v) there refl fits.slots;
     whole = λ none zeros. subst (λ p. AreWhole sum size device.log.bytes (logged H) p machine)
@@ -293,52 +294,52 @@ module _ (sum : List ℕ → ℕ) (size : ℕ) (device : State) (fault : Option 
   pub first_before : first_place line ≤ v.parts.site.place + r.from
   first_before = let low = first_below size place line (from_each size place line facts) n v there in omega (arith, low)
 
-  pub holds_completed : is_manifest r.log_kind r.page ≡ false → (H : History) → HoldsWith sum noted size device fault line machine H
+  pub holds_completed : is_manifest r.log_kind r.page ≡ false → (H : History) → {marks : JoinedMarks} → HoldsWith sum marks noted size device fault line machine H
       → (H' : History) × AddsMessage H (message_in v.parts.site v.parts.bytes r) H'
-      × HoldsWith sum noted size device fault (set line n (ended_now i r (completing r) Completed v)) machine H'
+      × HoldsWith sum marks noted size device fault (set line n (ended_now i r (completing r) Completed v)) machine H'
   holds_completed none H holds =
-      let done = complete_holds sum size device fault v i r at is_open none line n place H there facts holds.holds in (
+      let done = complete_holds sum size device fault v i r at is_open _ none line n place H there facts holds.holds in (
         done.0,
         done.1,
         record {
           holds = done.2;
           batches = batches_set (ended_now i r (completing r) Completed v) refl refl done.0 (batches_completed (written_to line) (line_end size line) noted H
-              done.0 (message_in v.parts.site v.parts.bytes r) done.1 (beside H holds.holds) holds.batches);
+              done.0 (message_in v.parts.site v.parts.bytes r) done.1 (beside _ H holds.holds) holds.batches);
           slots = slots_set size line device.log.bytes fault machine n v (ended_now i r (completing r) Completed v) there refl holds.slots;
         },
       )
 
   -- What tables need is in the slots with that message, too.
-  slots_completed : (H : History) (reach : ℕ) (x : Message) → in_log x ≡ message_in v.parts.site v.parts.bytes r
-      → HoldsLine sum size device fault line (logged H)
+  slots_completed : (marks : JoinedMarks) (H : History) (reach : ℕ) (x : Message) → in_log x ≡ message_in v.parts.site v.parts.bytes r
+      → HoldsLine sum marks size device fault line (logged H)
       → HasSlots size line device.log.bytes fault machine → (H' : History) → AddsMessage H x H'
-      → HaveSlotsFrom sum size device.snapshots.file H (stable_below reach H.batches) machine
-      → HaveSlotsFrom sum size device.snapshots.file H' (stable_below reach H'.batches) machine
-  slots_completed H reach x is held slots H' adds has first begins =
+      → HaveSlotsFrom sum marks size device.snapshots.file H (stable_below reach H.batches) machine
+      → HaveSlotsFrom sum marks size device.snapshots.file H' (stable_below reach H'.batches) machine
+  slots_completed marks H reach x is held slots H' adds has first begins =
       let its : HasSlot size machine v = at_there (HasSlot size machine) line n v there slots.taken in
       let aligned : v.parts.site.place % size ≡ 0 = ap (λ (p : ℕ). p % size) (sym its.is) ∙ slots.own.aligned its.number its.taken in
-      let low = newest_written sum size device fault line (logged H) held first begins in
+      let low = held_written sum size _ device fault line (logged H) held first begins in
       let unwritten = line_unwritten size v i r at (facts n v there) line n place there facts in
       let here = ap (λ (y : Message). y.place) is in
-      subst (λ (bs : List Batch). HaveSlots sum size (stable_place first.stable) H' (stable_below reach bs) machine) (sym adds.batches)
-      (slots_added sum size (stable_place first.stable) (stable_below reach H.batches) H machine (has first begins) H' x adds
+      subst (λ (bs : List Batch). HaveSlots sum size (held_since size marks first) H' (stable_below reach bs) machine) (sym adds.batches)
+      (slots_added sum size (held_since size marks first) (stable_below reach H.batches) H machine (has first begins) H' x adds
       (omega (arith, low, unwritten, here))
       (message_in_slot sum size machine v its aligned (facts n v there) i r at x is))
 
   pub fits_completed : (x : Message) → in_log x ≡ message_in v.parts.site v.parts.bytes r → BlobIsBelow x x.pointer → KeepsItem sum device.blobs x x.pointer
       → NamesNoOutdated machine x → is_manifest r.log_kind r.page ≡ false → (pins : ℕ) (H : History) (A f : ℕ) (U : List Message) → 256 ≤ size → fault ≡ None
       → 0 < pins
-      → FitsWith sum noted size device fault line machine pins H A f U
+      → {marks : JoinedMarks} → FitsWith sum marks noted size device fault line machine pins H A f U
       → (H' : History) × AddsMessage H x H'
-      × FitsWith sum noted size device fault (set line n (ended_now i r (completing r) Completed v)) machine pins H' A f (x ∷ U)
+      × FitsWith sum marks noted size device fault (set line n (ended_now i r (completing r) Completed v)) machine pins H' A f (x ∷ U)
   fits_completed x its_message below stored fresh none pins H A f U least ok out fits =
       let done =
-      complete_fits sum size device fault v i r at is_open x its_message below stored none line n place fits.reach pins H A f U least ok out there facts
+      complete_fits sum size device fault v i r at is_open _ x its_message below stored none line n place fits.reach pins H A f U least ok out there facts
       fits.parts in
-      let held = line_holds sum size device fault line fits.reach pins H A f U fits.parts in
+      let held = line_holds sum size device fault _ line fits.reach pins H A f U fits.parts in
       let put = adds_logged H x done.0 done.1 in
       let apart : (b : Batch) → Contains H.batches b → (b.low ≤ x.place) ⊎ (x.place + x.size ≤ b.low) =
-      λ b among. subst (λ (y : Message). (b.low ≤ y.place) ⊎ (y.place + y.size ≤ b.low)) (sym its_message) (beside (logged H) held b among) in
+      λ b among. subst (λ (y : Message). (b.low ≤ y.place) ⊎ (y.place + y.size ≤ b.low)) (sym its_message) (beside _ (logged H) held b among) in
       let past : first_place line ≤ x.place = subst (λ (y : Message). first_place line ≤ y.place) (sym its_message) first_before in (
         done.0,
         done.1,
@@ -356,11 +357,11 @@ module _ (sum : List ℕ → ℕ) (size : ℕ) (device : State) (fault : Option 
           own = λ none zeros. own_ended sum size (HeaderWasPlaced device.placed) (RecordWasPlaced sum size device.placed) device.log.bytes line n v i r
               (completing r) Completed there (fits.own none zeros);
           account = account_completed sum size device.snapshots.file H U machine fits.account done.0 x done.1 fresh
-              (lies_active sum size device fault line fits.reach pins H A f U fits.parts machine fits.account (omega (arith, least)) v
+              (lies_active sum size device fault line fits.reach pins H A f U fits.parts machine fits.account least v
               (first_below size place line (from_each size place line facts) n v there)
               (at_there (HasSlot size machine) line n v there fits.slots.taken) x v.parts.bytes r its_message (inside_segment (facts n v there) i r at));
           numbers = λ zeros. subst (HasNumbers sum size 0 device machine) (sym (end_set size line n v (ended_now i r (completing r) Completed v) there refl))
               (fits.numbers zeros);
-          in_slots = slots_completed H fits.reach x its_message held fits.slots done.0 done.1 fits.in_slots;
+          in_slots = slots_completed _ H fits.reach x its_message held fits.slots done.0 done.1 fits.in_slots;
         },
       )

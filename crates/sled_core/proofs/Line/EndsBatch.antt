@@ -5,7 +5,6 @@ use Rattle.std.specs.declared.io.Error.{Error as IoError}
 use Rattle.std.proofs.lemmas.Bool.{cases_lt}
 use Rattle.std.proofs.lemmas.List.Elements.{All-contains, Contains-append_cases}
 use Rattle.sled_codec.specs.History.{Batch, History, Message, table}
-use Rattle.sled_codec.specs.Snapshots.{stable_place}
 use Rattle.sled_store.specs.Foreign.{HeaderWasPlaced, RecordWasPlaced}
 use Rattle.sled_store.specs.Device.{State}
 use Rattle.sled_store.specs.SegmentStates.{Machine}
@@ -20,6 +19,7 @@ use Rattle.sled_core.specs.Logged.{logged}
 use Rattle.sled_core.specs.Manifests.{is_manifest}
 use Rattle.sled_core.specs.NoForeign.{NoHeaderOfZeros}
 use Rattle.sled_core.specs.OpenBatches.{stable_below, with_batch}
+use Rattle.sled_core.specs.declared.logger.joined_marks.JoinedMarks.{JoinedMarks}
 use Rattle.sled_core.specs.inside.Numbers.{HasNumbers, HaveSlots}
 use Rattle.sled_core.specs.inside.Running.{FitsWith}
 use Rattle.sled_core.specs.inside.Slots.{AreWhole}
@@ -34,15 +34,17 @@ use Rattle.sled_core.proofs.Line.EntryPlaces.{entry_low, line_unwritten}
 use Rattle.sled_core.proofs.Line.Ends.{first_before, line_holds, slots_set, written_set}
 use Rattle.sled_core.proofs.Holds.Facts.{IsSegment}
 use Rattle.sled_core.proofs.Line.LineEnds.{end_set, first_set}
-use Rattle.sled_core.proofs.Line.NeededSlots.{newest_stable}
+use Rattle.sled_core.proofs.Line.NeededSlots.{held_stable}
 use Rattle.sled_core.proofs.Line.Noted.{mark_fits, mark_holds, mark_placed}
 use Rattle.sled_core.proofs.Line.OlderSlots.{whole_grown}
 use Rattle.sled_core.proofs.Reached.AddedBatch.{batch_grows}
 use Rattle.sled_core.proofs.OwnLog.Calls.{own_ended}
 use Rattle.sled_core.proofs.Line.Accounts.{account_noted}
+use Rattle.sled_core.specs.inside.LogSegments.{held_since}
+use Rattle.sled_core.specs.inside.MarksFit.{MarksFitFrom}
 
 -- one of these parts is of one of the segments
-parts_there : (vs : List SegmentView) (k : ℕ) (v : SegmentView) → slice_get vs k ≡ Some v → Contains (map parts_in vs) v.parts
+pub parts_there : (vs : List SegmentView) (k : ℕ) (v : SegmentView) → slice_get vs k ≡ Some v → Contains (map parts_in vs) v.parts
 parts_there [] k v there = cc
 parts_there (w ∷ ws) zero v there = let same : w ≡ v = cc in subst (λ (x : SegmentView). Contains (parts_in w ∷ map parts_in ws) x.parts) same (in_first (parts_in w) (map parts_in ws))
 parts_there (w ∷ ws) (suc k) v there = in_rest (parts_in w) v.parts (map parts_in ws) (parts_there ws k v there)
@@ -79,10 +81,10 @@ module _ (sum : List ℕ → ℕ) (size : ℕ) (device : State) (fault : Option 
         | inr behind ↦ behind_before (place + size) ws stays batches later rest k there m behind lower
       ]
 
-  pub line_before : (line : List SegmentView) (n place : ℕ) (H : History) → slice_get line n ≡ Some v → ((k : ℕ) (x : SegmentView) → slice_get line k ≡ Some x → IsSegment size (place + k * size) x) → HoldsLine sum size device fault line H
+  pub line_before : (marks : JoinedMarks) (line : List SegmentView) (n place : ℕ) (H : History) → slice_get line n ≡ Some v → ((k : ℕ) (x : SegmentView) → slice_get line k ≡ Some x → IsSegment size (place + k * size) x) → HoldsLine sum marks size device fault line H
       → (m : Message) → Contains H.messages m → m.place < low → m.place + m.size ≤ low
-  line_before [] n place H there facts holds m known lower = cc
-  line_before (w ∷ ws) zero place H there facts holds m known lower =
+  line_before marks [] n place H there facts holds m known lower = cc
+  line_before marks (w ∷ ws) zero place H there facts holds m known lower =
       let same : w ≡ v = cc in
       elim (Contains-append_cases holds.head holds.later m (subst (λ (l : List Message). Contains l m) holds.messages known)) [
         | inl mine ↦ subst (λ (x : SegmentView). (j : ℕ) (y : Reserved) → slice_get x.parts.reserved j ≡ Some y → y.state ≡ Open → m.place < x.parts.site.place + y.from → m.place + m.size ≤ x.parts.site.place + y.from) same
@@ -94,7 +96,7 @@ module _ (sum : List ℕ → ℕ) (size : ℕ) (device : State) (fault : Option 
             let inside = entry_low v i r own_facts at in
             omega (arith, far, begins, inside, lower))
       ]
-  line_before (w ∷ ws) (suc k) place H there facts holds m known lower =
+  line_before marks (w ∷ ws) (suc k) place H there facts holds m known lower =
       elim (Contains-append_cases holds.head holds.later m (subst (λ (l : List Message). Contains l m) holds.messages known)) [
         | inl mine ↦ (
             let ends = (All-contains (λ (x : Message). (x.place < w.parts.site.place + length w.parts.bytes) × (x.place + x.size ≤ w.parts.site.place + length w.parts.bytes)) holds.head m
@@ -123,24 +125,24 @@ module _ (sum : List ℕ → ℕ) (size : ℕ) (device : State) (fault : Option 
     | inr open_yet ↦ apart c (fits.all c known open_yet)
   ]
 
-  batches_now : (H : History) → HoldsLine sum size device fault line H → FitsBatches (written_to line) (line_end size line) noted H
+  batches_now : (marks : JoinedMarks) (H : History) → HoldsLine sum marks size device fault line H → FitsBatches (written_to line) (line_end size line) noted H
       → FitsBatches (written_to (set line n (ended_now i r (marking sum v.parts.bytes r peg) Manifest v))) (line_end size (set line n (ended_now i r (marking sum v.parts.bytes r peg) Manifest v))) (with_batch (record { low = v.parts.site.place + r.from; peg = peg }) noted)
       (noted_history H (record { low = v.parts.site.place + r.from; peg = peg }))
-  batches_now H holds fits =
+  batches_now marks H holds fits =
       let marked : SegmentView = ended_now i r (marking sum v.parts.bytes r peg) Manifest v in
       let now : History = noted_history H b in
       batches_up (written_to line) (written_to (set line n marked)) (line_end size line) (line_end size (set line n marked)) (with_batch b noted) now
       (let same = written_set line n v marked there (λ j. v.parts.site) (λ j. v.parts.written_len) in omega (arith, same)) (let same = end_set size line n v marked there (λ j. v.parts.site) in omega (arith, same))
       (batches_noted (written_to line) (line_end size line) noted H now b (noted_adds H b later) unwritten short (λ c known open_yet. others H fits c known)
-      (line_before sum size device fault v i r at is_open (facts n v there) line n place H there facts holds) fits)
+      (line_before sum size device fault v i r at is_open (facts n v there) _ line n place H there facts holds) fits)
 
   -- What is held then, and fitted, is the history with the batch.
 
-  pub holds_noted : (H : History) → ((k : ℕ) (x : SegmentView) → slice_get line k ≡ Some x → IsOff size peg x.parts) → HoldsWith sum noted size device fault line machine H
-      → HoldsWith sum (with_batch (record { low = v.parts.site.place + r.from; peg = peg }) noted) size device fault (set line n (ended_now i r (marking sum v.parts.bytes r peg) Manifest v)) machine (noted_history H (record { low = v.parts.site.place + r.from; peg = peg }))
+  pub holds_noted : (H : History) → ((k : ℕ) (x : SegmentView) → slice_get line k ≡ Some x → IsOff size peg x.parts) → {marks : JoinedMarks} → HoldsWith sum marks noted size device fault line machine H
+      → HoldsWith sum marks (with_batch (record { low = v.parts.site.place + r.from; peg = peg }) noted) size device fault (set line n (ended_now i r (marking sum v.parts.bytes r peg) Manifest v)) machine (noted_history H (record { low = v.parts.site.place + r.from; peg = peg }))
   holds_noted H offs holds = record {
-    holds = mark_holds sum size device fault v i r at is_open manifest peg small later line n place H there facts offs holds.holds;
-    batches = batches_now H holds.holds holds.batches;
+    holds = mark_holds sum size device fault v i r at is_open manifest peg small later _ line n place H there facts offs holds.holds;
+    batches = batches_now _ H holds.holds holds.batches;
     slots = slots_set size line device.log.bytes fault machine n v (ended_now i r (marking sum v.parts.bytes r peg) Manifest v) there (λ j. v.parts.site) holds.slots;
   }
 
@@ -149,17 +151,19 @@ module _ (sum : List ℕ → ℕ) (size : ℕ) (device : State) (fault : Option 
   unfolding table
   slots_noted base A H has B low = record { later = has.later; older = has.older; not_above = low }
 
-  pub fits_noted : (pins : ℕ) (H : History) (A f : ℕ) (U : List Message) → 256 ≤ size → fault ≡ None → ((k : ℕ) (x : SegmentView) → slice_get line k ≡ Some x → IsOff size peg x.parts) → FitsWith sum noted size device fault line machine pins H A f U
-      → FitsWith sum (with_batch (record { low = v.parts.site.place + r.from; peg = peg }) noted) size device fault (set line n (ended_now i r (marking sum v.parts.bytes r peg) Manifest v)) machine pins (noted_history H (record { low = v.parts.site.place + r.from; peg = peg })) A f U
-  fits_noted pins H A f U least ok offs fits =
-      let holds = line_holds sum size device fault line fits.reach pins H A f U fits.parts in
+  pub fits_noted : (pins : ℕ) (H : History) (A f : ℕ) (U : List Message) → 256 ≤ size → fault ≡ None → ((k : ℕ) (x : SegmentView) → slice_get line k ≡ Some x → IsOff size peg x.parts) → (marks : JoinedMarks)
+      → (NoHeaderOfZeros sum → MarksFitFrom sum size device.snapshots.file device.log.bytes marks)
+      → FitsWith sum marks noted size device fault line machine pins H A f U
+      → FitsWith sum marks (with_batch (record { low = v.parts.site.place + r.from; peg = peg }) noted) size device fault (set line n (ended_now i r (marking sum v.parts.bytes r peg) Manifest v)) machine pins (noted_history H (record { low = v.parts.site.place + r.from; peg = peg })) A f U
+  fits_noted pins H A f U least ok offs marks stand fits =
+      let holds = line_holds sum size device fault _ line fits.reach pins H A f U fits.parts in
       let fitted =
-      mark_fits sum size device fault v i r at is_open manifest peg small later line n place fits.reach pins H A f U least ok there facts offs
-      (λ placed. mark_placed sum size device fault v i r at is_open manifest peg small later line n place (logged H) there facts offs holds placed (others (logged H) fits.batches)) fits.parts in
+      mark_fits sum size device fault v i r at is_open manifest peg small later _ line n place fits.reach pins H A f U least ok there facts offs
+      (λ placed. mark_placed sum size device fault v i r at is_open manifest peg small later _ line n place (logged H) there facts offs holds placed (others (logged H) fits.batches)) fits.parts in
       record {
         reach = fits.reach;
         parts = fitted;
-        batches = batches_now (logged H) holds fits.batches;
+        batches = batches_now _ (logged H) holds fits.batches;
         slots = slots_set size line device.log.bytes fault machine n v (ended_now i r (marking sum v.parts.bytes r peg) Manifest v) there (λ j. v.parts.site) fits.slots;
         whole = λ none zeros. subst (λ p. AreWhole sum size device.log.bytes (noted_history (logged H) b) p machine) (sym (first_set line n v (ended_now i r (marking sum v.parts.bytes r peg) Manifest v) there (λ j. v.parts.site)))
             (whole_grown sum size least device.log.bytes (logged H) (noted_history (logged H) b) b.low (first_place line) machine
@@ -168,6 +172,6 @@ module _ (sum : List ℕ → ℕ) (size : ℕ) (device : State) (fault : Option 
         own = λ none zeros. own_ended sum size (HeaderWasPlaced device.placed) (RecordWasPlaced sum size device.placed) device.log.bytes line n v i r (marking sum v.parts.bytes r peg) Manifest there (fits.own none zeros);
         account = account_noted sum size device.snapshots.file H U machine fits.account (noted_history H b) refl;
         numbers = λ zeros. subst (HasNumbers sum size 0 device machine) (sym (end_set size line n v (ended_now i r (marking sum v.parts.bytes r peg) Manifest v) there refl)) (fits.numbers zeros);
-        in_slots = λ first begins. slots_noted (stable_place first.stable) (stable_below fits.reach H.batches) H (fits.in_slots first begins) (stable_below fits.reach (noted_history H b).batches)
-            (λ zeros. newest_stable sum size device fault ok (set line n (ended_now i r (marking sum v.parts.bytes r peg) Manifest v)) fits.reach pins (noted_history H b) A f U fitted zeros first begins);
+        in_slots = λ first begins. slots_noted (held_since size marks first) (stable_below fits.reach H.batches) H (fits.in_slots first begins) (stable_below fits.reach (noted_history H b).batches)
+            (λ zeros. held_stable sum size least _ device fault ok (set line n (ended_now i r (marking sum v.parts.bytes r peg) Manifest v)) fits.reach pins (noted_history H b) A f U fitted zeros (stand zeros) first begins);
       }

@@ -37,6 +37,7 @@ use Rattle.sled_core.proofs.Line.Reads.{fault_missed}
 use Rattle.sled_core.proofs.Line.Rewritten.{kept, ordered, synced_before}
 use Rattle.sled_core.proofs.Logged.Messages.{in_map, logged_ascends, logged_there}
 use Rattle.sled_core.proofs.Reached.MetWritten.{reached_begins, written_begins}
+use Rattle.sled_core.specs.inside.LogSegments.{held_since}
 
 -- Of segments one behind another that stand in the file as far as each is written: a message of them begins in what is written, or in a buffer.
 module _ (sum : List ℕ → ℕ) (size : ℕ) (big : 256 ≤ size) (device : State) (fault : Option IoError) (H : History) (A : ℕ) (first : SnapshotModel) (reach : ℕ) (is : StandsTo sum size device.log.bytes H A first reach) (ordered : Ascends H.messages)
@@ -68,7 +69,7 @@ module _ {D C : Type 0} (trace : D → Trace) (sum : List ℕ → ℕ) (log : Lo
   abbrev state : State
   state = shown_of trace log
 
-  module _ (fits : FitsWith sum (noted_in log) size state log.fault.kept (line_of log) (machine_at log) log.pins H A f U) (m : Message) (entry : Contains (table H (next_place log) m.page) m) where
+  module _ (fits : FitsWith sum log.marks (noted_in log) size state log.fault.kept (line_of log) (machine_at log) log.pins H A f U) (m : Message) (entry : Contains (table H (next_place log) m.page) m) where
     there : Contains H.messages m
     there = (from_table H (next_place log) m.page m entry).0
 
@@ -79,7 +80,7 @@ module _ {D C : Type 0} (trace : D → Trace) (sum : List ℕ → ℕ) (log : Lo
     has_blob = item_read sum state.blobs m m.pointer (kept trace sum log H A f U fits m.page m entry)
 
     module _ (none : log.fault.kept ≡ None) (zeros : NoHeaderOfZeros sum) where
-      found : StandsAmong sum size state.log.bytes log.segments.first.site log.segments.first.buffer.written_len (map begun_segment (map parts_in (map segment_view log.segments.behind.items))) fits.reach H fits.parts.holds.begun.first
+      found : StandsAmong sum (held_since size log.marks fits.parts.holds.begun.first) size state.log.bytes log.segments.first.site log.segments.first.buffer.written_len (map begun_segment (map parts_in (map segment_view log.segments.behind.items))) fits.reach H fits.parts.holds.begun.first
       found = among trace sum log H A f U fits none zeros
 
       abbrev stands : StandsTo sum size state.log.bytes H (stable_below fits.reach H.batches) fits.parts.holds.begun.first fits.reach

@@ -12,6 +12,7 @@ use Rattle.sled_core.specs.Logged.{logged}
 use Rattle.sled_core.specs.OpenBatches.{stable_below}
 use Rattle.sled_core.specs.Recoverable.{NoHeaderOfZeros}
 use Rattle.sled_core.specs.declared.iobuf.Sealed.{Sealed}
+use Rattle.sled_core.specs.declared.logger.joined_marks.JoinedMarks.{JoinedMarks}
 use Rattle.sled_core.specs.inside.Lasting.{LeavesRecovering}
 use Rattle.sled_core.specs.inside.Running.{FitsShown}
 use Rattle.sled_core.specs.inside.SealedBuffers.{is_ready}
@@ -30,10 +31,10 @@ use Rattle.sled_core.proofs.Reached.StartedStands.{both_along}
 use Rattle.sled_core.proofs.Sealed.Marked.{ready_closed, ready_fresh}
 use Rattle.sled_core.proofs.Start.StartedMoments.{along_if}
 
-module _ (sum : List ℕ → ℕ) (noted left : List Batch) (size : ℕ) (big : 256 ≤ size) (device : State) (fault : Option IoError) (whole : fault ≡ None)
-    (m : Machine) (pins : ℕ) (H : History) (A f : ℕ) (U : List Message) where
+module _ (sum : List ℕ → ℕ) (marks now : JoinedMarks) (noted left : List Batch) (size : ℕ) (big : 256 ≤ size) (device : State) (fault : Option IoError)
+    (whole : fault ≡ None) (m : Machine) (pins : ℕ) (H : History) (A f : ℕ) (U : List Message) where
   -- A buffer of a segment is written.
-  module _ (place : ℕ) (line : List SegmentView) (are : AreSegments size place line) (fits : FitsShown sum noted size device fault line m pins H A f U) (n : ℕ)
+  module _ (place : ℕ) (line : List SegmentView) (are : AreSegments size place line) (fits : FitsShown sum marks noted size device fault line m pins H A f U) (n : ℕ)
       (u : SegmentView) (at : slice_get line n ≡ Some u) (k : ℕ) (b : Sealed) (there : slice_get u.parts.sealed k ≡ Some b) (ready : is_ready b ≡ true) where
     abbrev stable : ℕ
     stable = stable_below fits.shows.reach H.batches
@@ -54,14 +55,14 @@ module _ (sum : List ℕ → ℕ) (noted left : List Batch) (size : ℕ) (big : 
     abbrev synced : State
     synced = buffer_synced sum size big device fault whole u k b there ready
 
-    module _ (behind : ℕ) (are_left : AreSegments size behind line_left) (later : FitsShown sum left size synced None line_left m pins H A f U)
+    module _ (behind : ℕ) (are_left : AreSegments size behind line_left) (later : FitsShown sum now left size synced None line_left m pins H A f U)
         (along : Along Recovers calls sees) where
       left_if : NoHeaderOfZeros sum → Along Recovers calls device
       left_if zeros = by line are at fits along are_left later where
-        by : (l : List SegmentView) → AreSegments size place l → slice_get l n ≡ Some u → (its : FitsShown sum noted size device fault l m pins H A f U)
+        by : (l : List SegmentView) → AreSegments size place l → slice_get l n ≡ Some u → (its : FitsShown sum marks noted size device fault l m pins H A f U)
             → Along (LeavesRecovering sum size H (stable_below its.shows.reach H.batches) f) calls (shown size fault m l device)
             → AreSegments size behind (promoted size (set l n (written_now k u)))
-            → FitsShown sum left size synced None (promoted size (set l n (written_now k u))) m pins H A f U
+            → FitsShown sum now left size synced None (promoted size (set l n (written_now k u))) m pins H A f U
             → Along (LeavesRecovering sum size H (stable_below its.shows.reach H.batches) f) calls device
         by [] l_are l_at its moments l_left then = absurd its.shows.parts
         by (v ∷ vs) l_are l_at its moments l_left then =
@@ -69,24 +70,24 @@ module _ (sum : List ℕ → ℕ) (noted left : List Batch) (size : ℕ) (big : 
             let parts = its.shows.parts in
             let first : SnapshotModel = parts.holds.begun.first in
             let small = (nth_segment size place (v ∷ vs) l_are n u l_at).place_small in
-            with_part sum size (shown size fault m (v ∷ vs) device) fault (v ∷ vs) n u (logged H) parts.holds l_at (λ stays own segment.
-            along_shown sum zeros size big m v vs here (file_taken sum noted size big device fault whole zeros m pins H A f U v vs here its.shows)
+            with_part sum size (shown size fault m (v ∷ vs) device) fault _ (v ∷ vs) n u (logged H) parts.holds l_at (λ stays own segment.
+            along_shown sum zeros size big m v vs here (file_taken sum marks noted size big device fault whole zeros m pins H A f U v vs here its.shows)
             its.shows.slots.own device 0 (logged H) first its.shows.reach (its.hides whole zeros first parts.holds.begun.begins)
-            (file_whole sum noted size big device fault whole zeros m pins H A f U v vs here its.shows)
-            (file_among sum noted size big device fault whole zeros m pins H A f U v vs here its.shows)
-            (file_own sum noted size big device fault whole zeros m pins H A f U v vs here its.shows) (omega arith) n u l_at k b there (ready_fresh b ready)
+            (file_whole sum marks noted size big device fault whole zeros m pins H A f U v vs here its.shows)
+            (file_among sum marks noted size big device fault whole zeros m pins H A f U v vs here its.shows)
+            (file_own sum marks noted size big device fault whole zeros m pins H A f U v vs here its.shows) (omega arith) n u l_at k b there (ready_fresh b ready)
             (ready_closed b ready) segment.records.stand
-            (file_written sum noted size big device fault whole zeros m pins H A f U v vs here its.shows n u l_at).stand
+            (file_written sum marks noted size big device fault whole zeros m pins H A f U v vs here its.shows n u l_at).stand
             (written_so sum size big (shown size fault m (v ∷ vs) device) fault whole u k b there ready place (v ∷ vs) l_are n l_at m its.shows.slots
-            (logged H) parts.holds zeros (its.shows.own whole zeros))
+            (logged H) _ parts.holds zeros (its.shows.own whole zeros))
             (λ fresh. let mark = segment.records.header fresh in
             (mark.mark, buffer_header sum u.parts.site u.parts.bytes (record { messages = own; batches = (logged H).batches }) mark (omega (arith, small))))
-            (line_reads sum left size big synced None refl zeros m pins H A f U behind (promoted size (set (v ∷ vs) n (written_now k u))) l_left then.shows)
+            (line_reads sum now left size big synced None refl zeros m pins H A f U behind (promoted size (set (v ∷ vs) n (written_now k u))) l_left then.shows)
             (its.rests whole) (omega arith) H (logged_twice H) (logged H) f parts.named.names (stable_below its.shows.reach H.batches) f
             (then.hides refl zeros first parts.holds.begun.begins)
             (reads_placed sum size big zeros (shown size None m (promoted size (set (v ∷ vs) n (written_now k u))) synced) None refl behind
-            (promoted size (set (v ∷ vs) n (written_now k u))) l_left (logged H)
-            (line_holds sum size (shown size None m (promoted size (set (v ∷ vs) n (written_now k u))) synced) None
+            (promoted size (set (v ∷ vs) n (written_now k u))) l_left (logged H) now
+            (line_holds sum size (shown size None m (promoted size (set (v ∷ vs) n (written_now k u))) synced) None _
             (promoted size (set (v ∷ vs) n (written_now k u))) then.shows.reach pins H A f U then.shows.parts) (then.shows.own refl zeros))
             (subst (Along (LeavesRecovering sum size H (stable_below its.shows.reach H.batches) f) calls)
             (ap (λ (o : Option IoError). shown size o m (v ∷ vs) device) whole) moments))

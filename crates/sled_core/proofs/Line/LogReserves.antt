@@ -218,21 +218,21 @@ module _ {D C : Type 0} (trace : D → Trace) (sum : List ℕ → ℕ) (old new 
   reserves_keeps = record {
     goes_on = goes_on_quietly trace sum old new (record { config = ap (λ (x : RunningConfig D C). x.config) rest.config; checksum = ap (λ (x : RunningConfig D C). x.checksum) rest.config })
         (ap (λ (x : RunningConfig D C). trace x.device) rest.config) (let same = reserves_synced in omega (arith, same)) (λ none. sym rest.fault ∙ none);
-    history = λ H holds. holds_as trace sum old new rest.config rest.fault (noted_in old) kept_noted (at_last (reserved_now more r) (line_of old)) line (machine_at old) machine same_shown holds.rests H
+    history = λ H holds. holds_as trace sum old new rest.config rest.fault rest.marks (noted_in old) kept_noted (at_last (reserved_now more r) (line_of old)) line (machine_at old) machine same_shown holds.rests H
         (record {
-          holds = line_reserved sum its_size more r (shown_of trace old) (fault_of old) (logged H) v vs fits holds.shows.holds;
+          holds = line_reserved sum its_size more r (shown_of trace old) (fault_of old) _ (logged H) v vs fits holds.shows.holds;
           batches = batches_up (written_to (line_of old)) (written_to (at_last (reserved_now more r) (line_of old))) (line_end its_size (line_of old)) (line_end its_size (at_last (reserved_now more r) (line_of old))) (noted_in old) (logged H) (let same = kept_written v vs in omega (arith, same))
               (let same = end_last its_size (reserved_now more r) (λ _. refl) v vs in omega (arith, same)) holds.shows.batches;
           slots = slots_reserved sum its_size more r (line_of old) (shown_of trace old).log.bytes (fault_of old) (machine_at old) holds.shows.slots;
         });
-    fits = λ H A f U its. fits_as trace sum old new rest.config rest.fault (noted_in old) kept_noted (at_last (reserved_now more r) (line_of old)) line (machine_at old) machine same_shown its.rests H A f U rest.pins
+    fits = λ H A f U its. fits_as trace sum old new rest.config rest.fault rest.marks (noted_in old) kept_noted (at_last (reserved_now more r) (line_of old)) line (machine_at old) machine same_shown its.rests H A f U rest.pins
         (λ none zeros. from_as sum its_size (omega (arith, old.config.config.least)) (state_of (trace (device_of old))) (machine_at old) (machine_at old)
         (line_of old) (at_last (reserved_now more r) (line_of old)) (logged H) (logged H) (λ k. refl) (λ k. refl)
         (same_shown (state_of (trace (device_of old))).log.bytes)
-        (omega (arith, end_at_last its_size (reserved_now more r) (λ _. refl) (line_of old))) (its.hides none zeros))
+        (omega (arith, end_at_last its_size (reserved_now more r) (λ _. refl) (line_of old))) (its.hides none zeros)) its.marked
         (record {
           reach = its.shows.reach;
-          parts = line_fits_reserved sum its_size more r (shown_of trace old) (fault_of old) its.shows.reach (pins_of old) H A f U v vs fits its.shows.parts;
+          parts = line_fits_reserved sum its_size more r (shown_of trace old) (fault_of old) _ its.shows.reach (pins_of old) H A f U v vs fits its.shows.parts;
           batches = batches_up (written_to (line_of old)) (written_to (at_last (reserved_now more r) (line_of old))) (line_end its_size (line_of old)) (line_end its_size (at_last (reserved_now more r) (line_of old))) (noted_in old) (logged H) (let same = kept_written v vs in omega (arith, same))
               (let same = end_last its_size (reserved_now more r) (λ _. refl) v vs in omega (arith, same)) its.shows.batches;
           slots = slots_reserved sum its_size more r (line_of old) (shown_of trace old).log.bytes (fault_of old) (machine_at old) its.shows.slots;

@@ -18,6 +18,7 @@ use Rattle.sled_core.specs.inside.FreeSlots.{HasSlot, HasSlots}
 use Rattle.sled_core.specs.LogFile.{HasHeader}
 use Rattle.sled_core.specs.inside.OwnLog.{IsOwnFile}
 use Rattle.sled_core.specs.Recoverable.{NoHeaderOfZeros}
+use Rattle.sled_core.specs.declared.logger.joined_marks.JoinedMarks.{JoinedMarks}
 use Rattle.sled_core.specs.inside.SealedBuffers.{AreSealed, is_ready, written_at}
 use Rattle.sled_core.specs.inside.Turned.{promoted, written_now}
 use Rattle.sled_core.proofs.Line.Ends.{with_part}
@@ -76,7 +77,7 @@ module _ (sum : List ℕ → ℕ) (size : ℕ) (big : 256 ≤ size) (none : NoHe
 
 -- A sealed buffer of one of the segments.
 module _ (sum : List ℕ → ℕ) (size : ℕ) (big : 256 ≤ size) (device : State) (fault : Option IoError) (whole : fault ≡ None) (v : SegmentView) (k : ℕ) (b : Sealed) (there : slice_get v.parts.sealed k ≡ Some b) (ready : is_ready b ≡ true)
-    (place : ℕ) (line : List SegmentView) (are : AreSegments size place line) (n : ℕ) (among : slice_get line n ≡ Some v) (m : Machine) (slots : HasSlots size line device.log.bytes fault m) (H : History) (holds : HoldsLine sum size device fault line H)
+    (place : ℕ) (line : List SegmentView) (are : AreSegments size place line) (n : ℕ) (among : slice_get line n ≡ Some v) (m : Machine) (slots : HasSlots size line device.log.bytes fault m) (H : History) (marks : JoinedMarks) (holds : HoldsLine sum marks size device fault line H)
     (none : NoHeaderOfZeros sum) (Header Header' : ℕ → List ℕ → Type 0) (Own Own' : ℕ → ℕ → List ℕ → Type 0) where
   abbrev now : SegmentView
   now = written_now k v
@@ -161,7 +162,7 @@ module _ (sum : List ℕ → ℕ) (size : ℕ) (big : 256 ≤ size) (device : St
   pub begun : max 20 begin ≤ begin + length asked
   begun =
       let e = ends in
-      with_part sum size device fault line n v H holds among (λ stays own segment. (
+      with_part sum size device fault _ line n v H holds among (λ stays own segment. (
       let up = behind_header sum size v.parts.site device.log.bytes v.parts.bytes v.parts.written_len v.parts.reserved (take k v.parts.sealed) b (drop (suc k) v.parts.sealed) segment.records.place_begins segment.records.slot_begins is.place_small is.slot_small
       are_split rise_split inside (ready_closed b ready) segment.records.stand in
       omega (arith, up, e)))
@@ -173,7 +174,7 @@ module _ (sum : List ℕ → ℕ) (size : ℕ) (big : 256 ≤ size) (device : St
     to_end : begin + length asked < size → ReadsTo sum size (v.parts.site.place / size) (part new v.parts.site.slot size) (max 20 begin) (begin + length asked)
     to_end low =
         let e = ends in
-        with_part sum size device fault line n v H holds among (λ stays own segment.
+        with_part sum size device fault _ line n v H holds among (λ stays own segment.
         subst (λ j. ReadsTo sum size (v.parts.site.place / size) (part new v.parts.site.slot size) (max 20 begin) j) e
         (reads_all sum size v.parts.site device.log.bytes v.parts.bytes v.parts.written_len v.parts.reserved (take k v.parts.sealed) b (drop (suc k) v.parts.sealed) segment.records.place_begins segment.records.slot_begins is.place_small is.slot_small
         are_split rise_split inside (ready_closed b ready) segment.records.stand (omega (arith, e, low))))
@@ -189,7 +190,7 @@ module _ (sum : List ℕ → ℕ) (size : ℕ) (big : 256 ≤ size) (device : St
     own_left was =
         let own : HasSlot size m v = at_there (HasSlot size m) line n v among slots.taken in
         let synced : State = buffer_synced sum size big device fault whole v k b there ready in
-        let later : HoldsLine sum size synced fault (set line n now) H = holds_write sum size big device fault whole v k b there ready place line are n among H holds in
+        let later : HoldsLine sum marks size synced fault (set line n now) H = holds_write sum size big device fault whole v k b there ready _ place line are n among H holds in
         own_promoted sum size big none Header' Own' new m place (set line n now) (set_segment size place line are n v now among (λ p here. written_segment k v b there ready size p here))
         (All-set (HasSlot size m) line n now (record { number = own.number; lies = own.lies; taken = own.taken; is = own.is }) slots.taken)
-        (λ j x at some. headers_line sum size synced fault whole (set line n now) j x H later at some) (own_written was)
+        (λ j x at some. headers_line sum size _ synced fault whole (set line n now) j x H later at some) (own_written was)

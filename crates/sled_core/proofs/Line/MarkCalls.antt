@@ -61,7 +61,7 @@ module _ {D C T : Type 0} (trace : D → Trace) (sum : List ℕ → ℕ) (old ne
 
   -- What the log fits then.
   pub marks_fit : (result : Result T Error) → Marks result step old new → (H : History) (A f : ℕ) (U V : List Message) (x : Message) → Fits trace sum old H A f U → TakesMark H U x V
-      → HasAccount sum (segment_size_of old) (state_of (trace (device_of old))).snapshots.file H V (step (machine_at old)) → OnOk result (Fits trace sum new H A f V)
+      → HasAccount sum old.marks (segment_size_of old) (state_of (trace (device_of old))).snapshots.file H V (step (machine_at old)) → OnOk result (Fits trace sum new H A f V)
   marks_fit (Ok done) marks H A f U V x fits takes account =
       fits_marked trace sum old new marks.rest (step (machine_at old)) marks.made same H A f U V fits (λ some none. some (takes.left ∙ ap (but_for x.place) none)) account
   marks_fit (Err e) marks H A f U V x fits takes account = tt
@@ -81,11 +81,11 @@ module _ {D C : Type 0} (trace : D → Trace) (sum : List ℕ → ℕ) (log : Lo
 
   -- The account with a Link more,
   pub link_account : x.kind ≡ Link → MayMark (segment_size_of log) (machine_at log) info []
-      → HasAccount sum (segment_size_of log) (state_of (trace (device_of log))).snapshots.file H V (linked (segment_size_of log) pid info (machine_at log))
+      → HasAccount sum log.marks (segment_size_of log) (state_of (trace (device_of log))).snapshots.file H V (linked (segment_size_of log) pid info (machine_at log))
   unfolding Fits
   link_account link may =
       let size : ℕ = segment_size_of log in
-      let Account : Machine → Type 0 = HasAccount sum size (state_of (trace (device_of log))).snapshots.file H V in
+      let Account : Machine → Type 0 = HasAccount sum log.marks size (state_of (trace (device_of log))).snapshots.file H V in
       subst (λ (p : ℕ). Account (linked size p info (machine_at log))) of.0
       (subst (λ (i : CacheInfo). Account (linked size x.page i (machine_at log))) (sym of.1)
       (account_linked sum size _ H U (machine_at log) fits.shows.account some (apart_ascends H.messages (fits_apart trace sum log H A f U fits)) x V takes
@@ -93,11 +93,11 @@ module _ {D C : Type 0} (trace : D → Trace) (sum : List ℕ → ℕ) (log : Lo
 
   -- and with a message in place of what its page was.
   pub replace_account : (old : List CacheInfo) → begins_page x.kind ≡ true → MayMark (segment_size_of log) (machine_at log) info old → IsFormerState (without U H) pid old → NoneShares H x old
-      → HasAccount sum (segment_size_of log) (state_of (trace (device_of log))).snapshots.file H V (replaced (segment_size_of log) pid info old (machine_at log))
+      → HasAccount sum log.marks (segment_size_of log) (state_of (trace (device_of log))).snapshots.file H V (replaced (segment_size_of log) pid info old (machine_at log))
   unfolding Fits
   replace_account old begins may former none =
       let size : ℕ = segment_size_of log in
-      let Account : Machine → Type 0 = HasAccount sum size (state_of (trace (device_of log))).snapshots.file H V in
+      let Account : Machine → Type 0 = HasAccount sum log.marks size (state_of (trace (device_of log))).snapshots.file H V in
       let alone : MayMark size (machine_at log) info [] = record { lies = may.lies; active = may.active; old_lie = All-nil (LiesIn size (machine_at log)) } in
       subst (λ (p : ℕ). Account (replaced size p info old (machine_at log))) of.0
       (subst (λ (i : CacheInfo). Account (replaced size x.page i old (machine_at log))) (sym of.1)

@@ -87,7 +87,7 @@ module _ {D C : Type 0} (trace : D → Trace) (sum : List ℕ → ℕ) (old new 
     pub holds_marked : (H : History) → Holds trace sum old H → Holds trace sum new H
     unfolding Holds
     holds_marked H holds =
-        holds_as trace sum old new rest.config fault_same (noted_in old) noted_same (line_of old) line_same m is same_shown holds.rests H (record {
+        holds_as trace sum old new rest.config fault_same rest.marks (noted_in old) noted_same (line_of old) line_same m is same_shown holds.rests H (record {
           holds = holds.shows.holds;
           batches = holds.shows.batches;
           slots = slots_same (segment_size_of old) (machine_at old) m same (line_of old) _ (fault_of old) holds.shows.slots;
@@ -95,13 +95,13 @@ module _ {D C : Type 0} (trace : D → Trace) (sum : List ℕ → ℕ) (old new 
 
     -- and fits the history with these messages unmarked, of which it has the account.
     pub fits_marked : (H : History) (A f : ℕ) (U V : List Message) → Fits trace sum old H A f U → (V ≢ [] → U ≢ [])
-        → HasAccount sum (segment_size_of old) (state_of (trace (device_of old))).snapshots.file H V m → Fits trace sum new H A f V
+        → HasAccount sum old.marks (segment_size_of old) (state_of (trace (device_of old))).snapshots.file H V m → Fits trace sum new H A f V
     unfolding Fits
     fits_marked H A f U V fits fewer account =
-        fits_as trace sum old new rest.config fault_same (noted_in old) noted_same (line_of old) line_same m is same_shown fits.rests H A f V rest.pins
+        fits_as trace sum old new rest.config fault_same rest.marks (noted_in old) noted_same (line_of old) line_same m is same_shown fits.rests H A f V rest.pins
         (λ none zeros. from_as sum (segment_size_of old) (omega (arith, old.config.config.least)) (state_of (trace (device_of old))) (machine_at old) m
         (line_of old) (line_of old) (logged H) (logged H) (λ k. (same k).free) (λ k. (same k).lsn)
-        (same_shown (state_of (trace (device_of old))).log.bytes) (omega arith) (fits.hides none zeros))
+        (same_shown (state_of (trace (device_of old))).log.bytes) (omega arith) (fits.hides none zeros)) fits.marked
         (record {
           reach = fits.shows.reach;
           parts = fits-pinned _ _ _ _ _ _ _ _ _ _ H A f U fits.shows.parts (pins_of old) V (λ some. fits.shows.parts.pinned (fewer some));

@@ -15,35 +15,58 @@ use Rattle.sled_store.specs.SnapshotFiles.{BeginsFrom}
 use Rattle.sled_store.proofs.Names.OneBegin.{one_begin}
 use Rattle.sled_core.specs.Begun.{SegmentView}
 use Rattle.sled_core.specs.Buffers.{message_in}
-use Rattle.sled_core.specs.Logged.{in_log}
+use Rattle.sled_core.specs.Logged.{in_log, logged}
 use Rattle.sled_core.specs.NoForeign.{NoHeaderOfZeros}
 use Rattle.sled_core.specs.OpenBatches.{stable_below}
 use Rattle.sled_core.specs.declared.iobuf.Reserved.{Reserved}
+use Rattle.sled_core.specs.declared.logger.joined_marks.JoinedMarks.{JoinedMarks}
 use Rattle.sled_core.specs.inside.Fits.{HoldsLine, written_to}
 use Rattle.sled_core.specs.inside.FreeSlots.{HasSlot}
 use Rattle.sled_core.specs.inside.Numbers.{HaveSlots, IsInSlot}
 use Rattle.sled_core.specs.inside.Running.{FitsLine}
 use Rattle.sled_core.proofs.Holds.Added.{was_or_added}
 use Rattle.sled_core.proofs.Holds.Facts.{IsSegment}
+use Rattle.sled_core.proofs.Holds.HeldFrom.{held_reached}
 use Rattle.sled_core.proofs.Holds.ReachLemmas.{lid_as}
 use Rattle.sled_core.proofs.Line.EntryPlaces.{entry_low}
+use Rattle.sled_core.proofs.Reached.MarkWritten.{stands_lower}
+use Rattle.sled_core.proofs.Reached.MarksRaise.{marks_high}
+use Rattle.sled_core.specs.inside.LogSegments.{held_since}
+use Rattle.sled_core.specs.inside.MarksFit.{MarksFitFrom}
 
 module _ (sum : List ℕ → ℕ) (size : ℕ) where
-  -- The place of the newest snapshot isn't above what is written of the first segment,
-  pub newest_written : (device : State) (fault : Option IoError) (line : List SegmentView) (H : History) → HoldsLine sum size device fault line H
-      → (first : SnapshotModel) → BeginsFrom sum device.snapshots.file first → stable_place first.stable ≤ written_to line
-  newest_written device fault [] H holds first begins = absurd holds
-  newest_written device fault (v ∷ vs) H holds first begins =
+  -- The place from which all counts isn't above what is written of the first segment,
+  pub held_written : (marks : JoinedMarks) (device : State) (fault : Option IoError) (line : List SegmentView) (H : History)
+      → HoldsLine sum marks size device fault line H → (first : SnapshotModel) → BeginsFrom sum device.snapshots.file first
+      → held_since size marks first ≤ written_to line
+  held_written marks device fault [] H holds first begins = absurd holds
+  held_written marks device fault (v ∷ vs) H holds first begins =
       let own = holds.begun in
-      subst (λ (s : SnapshotModel). stable_place s.stable ≤ v.parts.site.place + v.parts.written_len)
-      (one_begin sum device.snapshots.file own.first first own.begins begins) own.reached
+      subst (λ (s : SnapshotModel). held_since size marks s ≤ v.parts.site.place + v.parts.written_len)
+      (one_begin sum device.snapshots.file own.first first own.begins begins) (held_reached marks.ordered own)
 
-  -- nor above what is stable.
-  pub newest_stable : (device : State) (fault : Option IoError) → fault ≡ None → (line : List SegmentView) (reach pins : ℕ) (H : History) (A f : ℕ)
-      (U : List Message) → FitsLine sum size device fault line reach pins H A f U → NoHeaderOfZeros sum
+  -- nor, where the marks stand, above what is stable.
+  pub held_stable : 256 ≤ size → (marks : JoinedMarks) (device : State) (fault : Option IoError) → fault ≡ None → (line : List SegmentView) (reach pins : ℕ)
+      (H : History) (A f : ℕ) (U : List Message) → FitsLine sum marks size device fault line reach pins H A f U → NoHeaderOfZeros sum
+      → MarksFitFrom sum size device.snapshots.file device.log.bytes marks
+      → (first : SnapshotModel) → BeginsFrom sum device.snapshots.file first
+      → held_since size marks first ≤ stable_below reach H.batches
+  held_stable big marks device fault whole [] reach pins H A f U fits zeros stand first begins = absurd fits
+  held_stable big marks device fault whole (v ∷ vs) reach pins H A f U fits zeros stand first begins =
+      let own = fits.holds.begun in
+      let among = fits.among whole zeros in
+      let its = stand own.first own.begins in
+      subst (λ (s : SnapshotModel). held_since size marks s ≤ stable_below reach H.batches)
+      (one_begin sum device.snapshots.file own.first first own.begins begins)
+      (marks_high sum size device.log.bytes big (logged H) (stable_below reach H.batches) own.first reach among.stands marks.joined
+      (stands_lower sum size device.log.bytes own.first marks.joined marks.durable its.joined its.stands))
+
+  -- The place of the newest snapshot isn't above what is stable.
+  pub newest_stable : (marks : JoinedMarks) (device : State) (fault : Option IoError) → fault ≡ None → (line : List SegmentView) (reach pins : ℕ) (H : History) (A f : ℕ)
+      (U : List Message) → FitsLine sum marks size device fault line reach pins H A f U → NoHeaderOfZeros sum
       → (first : SnapshotModel) → BeginsFrom sum device.snapshots.file first → stable_place first.stable ≤ stable_below reach H.batches
-  newest_stable device fault whole [] reach pins H A f U fits zeros first begins = absurd fits
-  newest_stable device fault whole (v ∷ vs) reach pins H A f U fits zeros first begins =
+  newest_stable marks device fault whole [] reach pins H A f U fits zeros first begins = absurd fits
+  newest_stable marks device fault whole (v ∷ vs) reach pins H A f U fits zeros first begins =
       let own = fits.holds.begun in
       let among = fits.among whole zeros in
       subst (λ (s : SnapshotModel). stable_place s.stable ≤ stable_below reach H.batches)

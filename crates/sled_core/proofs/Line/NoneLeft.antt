@@ -6,7 +6,6 @@ use Rattle.std.proofs.lemmas.Bool.{cases_lt}
 use Rattle.std.proofs.lemmas.List.{append-nil}
 use Rattle.std.proofs.lemmas.List.Elements.{All-contains, All-head, All-tail}
 use Rattle.sled_codec.specs.History.{Batch, History, Message}
-use Rattle.sled_codec.specs.Snapshots.{stable_place}
 use Rattle.sled_store.specs.Device.{State, Trace, at_rest, state_of}
 use Rattle.sled_store.proofs.Segments.Elements.{all_from_in, in_cases, in_first, in_nothing}
 use Rattle.sled_core.specs.inside.Begun.{AreFilled, IsUsed}
@@ -15,7 +14,7 @@ use Rattle.sled_core.specs.declared.logger.batches.NotedBatch.{NotedBatch}
 use Rattle.sled_core.specs.declared.logger.Log.{Log}
 use Rattle.sled_core.specs.inside.Buffers.{completed_in}
 use Rattle.sled_core.specs.LogFile.{StaysFrom}
-use Rattle.sled_core.specs.Fits.{CloseBelow, IsOnDevice, IsWritten, device_of, fault_of, line_of, machine_at, noted_in, reserved_end, segment_size_of, stable_end, synced_end}
+use Rattle.sled_core.specs.Fits.{CloseBelow, IsOnDevice, IsWritten, device_of, fault_of, held_of, line_of, machine_at, noted_in, reserved_end, segment_size_of, stable_end, synced_end}
 use Rattle.sled_core.specs.inside.FreeSlots.{HasSlot}
 use Rattle.sled_core.specs.inside.Shown.{shown}
 use Rattle.sled_core.specs.inside.Fits.{HoldBehind, HoldsNext, HoldsWith, parts_in}
@@ -122,7 +121,7 @@ module _ {D C : Type 0} (trace : D → Trace) (sum : List ℕ → ℕ) (log : Lo
   behind = map segment_view log.segments.behind.items
 
   module _ (rests : its_device.log ≡ at_rest its_device.log.bytes)
-      (holds : HoldsWith sum (noted_in log) its_size sees None its_line (machine_at log) (logged H)) (closed : CloseBelow (synced_end log) H.batches) where
+      (holds : HoldsWith sum log.marks (noted_in log) its_size sees None its_line (machine_at log) (logged H)) (closed : CloseBelow (synced_end log) H.batches) where
     within : from ≤ its_size
     within = let low = written_behind log.segments.first.buffer in let short = log.line.lies.in_segment in omega (arith, low, short)
 
@@ -147,19 +146,19 @@ module _ {D C : Type 0} (trace : D → Trace) (sum : List ℕ → ℕ) (log : Lo
 
     -- What is shown stands in the file.
     on_device : IsOnDevice sum its_size its_device.log log.segments.first.site from holds.holds.own.records.earlier
-        (StaysFrom (logged H) (stable_place holds.holds.begun.first.stable))
+        (StaysFrom (logged H) (held_of holds.holds.begun))
     on_device =
         let written = line_written sum its_size some_size its_device None refl (machine_at log) log.segments.first.site.place its_line (line_segments log)
-        (logged H) holds.holds taken 0 (segment_view log.segments.first) refl in
+        (logged H) _ holds.holds taken 0 (segment_view log.segments.first) refl in
         record {
           log = its_device.log.bytes;
           settled = rests;
           file = file_there sum its_size sees.log.bytes its_device.log.bytes written.long log.segments.first.site from written.front
-              holds.holds.own.records.earlier (StaysFrom (logged H) (stable_place holds.holds.begun.first.stable))
+              holds.holds.own.records.earlier (StaysFrom (logged H) (held_of holds.holds.begun))
               (line_older sum its_size some_size its_device (machine_at log) (segment_view log.segments.first) behind log.segments.first.site.place
               (line_segments log) (logged H) holds.holds taken)
               (on_file sum its_size sees.log log.segments.first.site from holds.holds.own.records.earlier
-              (StaysFrom (logged H) (stable_place holds.holds.begun.first.stable)) (holds.holds.own.written refl));
+              (StaysFrom (logged H) (held_of holds.holds.begun)) (holds.holds.own.written refl));
         }
 
     all_there : IsWritten trace sum log H
@@ -174,7 +173,7 @@ pub all_written : {D C : Type 0} (trace : D → Trace) (sum : List ℕ → ℕ) 
 unfolding Holds
 all_written trace sum log all whole H holds =
     all_there trace sum log all H (holds.rests whole)
-    (subst (λ (o : Option IoError). HoldsWith sum (noted_in log) (segment_size_of log)
+    (subst (λ (o : Option IoError). HoldsWith sum log.marks (noted_in log) (segment_size_of log)
     (shown (segment_size_of log) o (machine_at log) (line_of log) (state_of (trace (device_of log)))) o (line_of log) (machine_at log) (logged H))
     whole holds.shows)
     (all_ended trace sum log all H holds)

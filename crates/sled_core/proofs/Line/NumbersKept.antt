@@ -3,7 +3,6 @@
 use Rattle.std.specs.declared.io.Error.{Error as IoError}
 use Rattle.std.proofs.Common.{◌<◌, ℕ, List, Option, arith, refl}
 use Rattle.sled_codec.specs.History.{Batch, History, Message}
-use Rattle.sled_codec.specs.Snapshots.{stable_place}
 use Rattle.sled_store.specs.Device.{State, Trace, state_of}
 use Rattle.sled_store.specs.SegmentStates.{Machine}
 use Rattle.sled_store.proofs.Histories.Ascending.{Ascends, apart_ascends}
@@ -14,6 +13,7 @@ use Rattle.sled_core.specs.NoForeign.{NoHeaderOfZeros}
 use Rattle.sled_core.specs.OpenBatches.{stable_below}
 use Rattle.sled_core.specs.inside.Begun.{line_end}
 use Rattle.sled_core.specs.Recoverable.{LeavesRecoverable}
+use Rattle.sled_core.specs.declared.logger.joined_marks.JoinedMarks.{JoinedMarks}
 use Rattle.sled_core.specs.inside.Lasting.{IsLasting}
 use Rattle.sled_core.specs.inside.Numbers.{HasNumbers, NumbersStay}
 use Rattle.sled_core.specs.inside.Running.{FitsShown, FitsWith}
@@ -25,14 +25,15 @@ use Rattle.sled_core.proofs.Line.LeftShown.{log_leaves}
 use Rattle.sled_core.proofs.Line.Writes.{passes_line}
 use Rattle.sled_core.proofs.Numbers.Lasting.{lasting_leaves}
 use Rattle.sled_core.proofs.Numbers.Stay.{numbers_stay}
+use Rattle.sled_core.specs.inside.LogSegments.{held_since}
 
 -- So it is of each state of the device in which no slot has a greater number.
 pub stays_in : (sum : List ℕ → ℕ) (noted : List Batch) (size : ℕ) → 0 < size → (device : State) (fault : Option IoError) (line : List SegmentView) (m : Machine)
-    (pins : ℕ) (H : History) (A f : ℕ) (U : List Message) → (fits : FitsWith sum noted size device fault line m pins H A f U) → Ascends H.messages
+    (pins : ℕ) (H : History) (A f : ℕ) (U : List Message) → {marks : JoinedMarks} (fits : FitsWith sum marks noted size device fault line m pins H A f U) → Ascends H.messages
     → NoHeaderOfZeros sum → (s : State) → HasNumbers sum size 0 s m (line_end size line) → NumbersStay sum size s H (stable_below fits.reach H.batches)
-stays_in sum noted size some device fault line m pins H A f U fits order zeros s has =
+stays_in sum noted size some device fault line m pins H A f U {marks} fits order zeros s has =
     let slots = fits.in_slots fits.account.first fits.account.begins in
-    numbers_stay sum size some s m (line_end size line) has H order (stable_place fits.account.first.stable) (stable_below fits.reach H.batches) slots
+    numbers_stay sum size some s m (line_end size line) has H order (held_since size marks fits.account.first) (stable_below fits.reach H.batches) slots
     (slots.not_above zeros) (omega arith)
 
 -- A log that fits a history: so it is now.
@@ -40,7 +41,7 @@ module _ {D C : Type 0} (trace : D → Trace) (sum : List ℕ → ℕ) (log : Lo
   pub fits_ascends : Fits trace sum log H A f U → Ascends H.messages
   fits_ascends fits = apart_ascends H.messages (fits_apart trace sum log H A f U fits)
 
-  pub fits_numbers : (fits : FitsShown sum (noted_in log) (segment_size_of log) (state_of (trace (device_of log))) (fault_of log) (line_of log) (machine_at log)
+  pub fits_numbers : (fits : FitsShown sum log.marks (noted_in log) (segment_size_of log) (state_of (trace (device_of log))) (fault_of log) (line_of log) (machine_at log)
       (pins_of log) H A f U) → NoHeaderOfZeros sum
       → NumbersStay sum (segment_size_of log) (state_of (trace (device_of log))) H (stable_below fits.shows.reach H.batches)
   unfolding Fits
@@ -59,7 +60,7 @@ module _ {D C : Type 0} (trace : D → Trace) (sum : List ℕ → ℕ) (log : Lo
       let sees : State = shown_of trace log in
       let stable : ℕ = stable_below fits.shows.reach H.batches in record {
         stable = stable;
-        passes = passes_line sum size sees (fault_of log) (line_of log) fits.shows.reach (pins_of log) H A f U fits.shows.parts;
+        passes = passes_line sum _ size sees (fault_of log) (line_of log) fits.shows.reach (pins_of log) H A f U fits.shows.parts;
         lasts = record {
           can = log_leaves sum log H A f U device fits;
           numbers = fits_numbers fits;

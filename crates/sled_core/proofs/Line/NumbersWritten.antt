@@ -27,6 +27,7 @@ use Rattle.sled_core.specs.inside.Numbers.{HasNumbers}
 use Rattle.sled_core.specs.inside.OwnLog.{HasPlacedFile}
 use Rattle.sled_core.specs.inside.SealedBuffers.{IsSealed, is_ready}
 use Rattle.sled_core.specs.Recoverable.{NoHeaderOfZeros}
+use Rattle.sled_core.specs.declared.logger.joined_marks.JoinedMarks.{JoinedMarks}
 use Rattle.sled_core.proofs.Holds.Facts.{IsSegment}
 use Rattle.sled_core.proofs.Line.Ends.{with_part}
 use Rattle.sled_core.proofs.Line.LogWritten as written
@@ -48,7 +49,7 @@ module _ (sum : List ℕ → ℕ) (size : ℕ) (big : 256 ≤ size) (device : St
     (b : Sealed)
     (there : slice_get v.parts.sealed k ≡ Some b) (ready : is_ready b ≡ true) (place : ℕ) (line : List SegmentView) (are : AreSegments size place line) (n : ℕ)
     (among : slice_get line n ≡ Some v) (m : Machine) (slots : HasSlots size line device.log.bytes fault m) (H : History)
-    (holds : HoldsLine sum size device fault line H) (none : NoHeaderOfZeros sum) (own : HasPlacedFile sum size device line)
+    (marks : JoinedMarks) (holds : HoldsLine sum marks size device fault line H) (none : NoHeaderOfZeros sum) (own : HasPlacedFile sum size device line)
     (numbers : HasNumbers sum size 0 device m (line_end size line)) where
   -- where it is written, and its bytes
   abbrev slot : ℕ
@@ -74,22 +75,22 @@ module _ (sum : List ℕ → ℕ) (size : ℕ) (big : 256 ≤ size) (device : St
 
   -- it lies in its segment
   lies : (v.parts.written_len ≤ begin) × (begin < b.end) × (b.end ≤ size)
-  lies = written.lies sum size big device fault whole v k b there ready place line are n among m slots H holds none Any Any AnyRecord AnyRecord
+  lies = written.lies sum size big device fault whole v k b there ready place line are n among m slots H _ holds none Any Any AnyRecord AnyRecord
 
   held : b.end ≤ length v.parts.bytes
-  held = written.inside sum size big device fault whole v k b there ready place line are n among m slots H holds none Any Any AnyRecord AnyRecord
+  held = written.inside sum size big device fault whole v k b there ready place line are n among m slots H _ holds none Any Any AnyRecord AnyRecord
 
   ends : b.end ≡ begin + length asked
-  ends = written.ends sum size big device fault whole v k b there ready place line are n among m slots H holds none Any Any AnyRecord AnyRecord
+  ends = written.ends sum size big device fault whole v k b there ready place line are n among m slots H _ holds none Any Any AnyRecord AnyRecord
 
   long : max 20 begin ≤ begin + length asked
-  long = written.begun sum size big device fault whole v k b there ready place line are n among m slots H holds none Any Any AnyRecord AnyRecord
+  long = written.begun sum size big device fault whole v k b there ready place line are n among m slots H _ holds none Any Any AnyRecord AnyRecord
 
   below : begin < size
   below = let l = lies in omega (arith, l.1, l.2)
 
   aligned : v.parts.site.place / size * size ≡ v.parts.site.place
-  aligned = with_part sum size device fault line n v H holds among (λ stays kept segment.
+  aligned = with_part sum size device fault _ line n v H holds among (λ stays kept segment.
       let begins = segment.records.place_begins in omega (arith, mod-add-div' v.parts.site.place size, begins))
 
   -- its reservations
@@ -99,16 +100,16 @@ module _ (sum : List ℕ → ℕ) (size : ℕ) (big : 256 ≤ size) (device : St
   sealed_so : IsSealed begin its_own b
   sealed_so =
       sealed_at v.parts.written_len v.parts.reserved (take k v.parts.sealed) b (drop (suc k) v.parts.sealed)
-      (written.are_split sum size big device fault whole v k b there ready place line are n among m slots H holds none Any Any AnyRecord AnyRecord)
+      (written.are_split sum size big device fault whole v k b there ready place line are n among m slots H _ holds none Any Any AnyRecord AnyRecord)
 
   its_stand : All (Stands sum size (v.parts.site.place / size) v.parts.bytes) its_own
-  its_stand = with_part sum size device fault line n v H holds among (λ stays kept segment.
+  its_stand = with_part sum size device fault _ line n v H holds among (λ stays kept segment.
       All-take (Stands sum size (v.parts.site.place / size) v.parts.bytes) b.count (drop (sealed_count (take k v.parts.sealed)) v.parts.reserved)
       (All-drop (Stands sum size (v.parts.site.place / size) v.parts.bytes) (sealed_count (take k v.parts.sealed)) v.parts.reserved segment.records.stand))
 
   -- it begins with its segment's header there where the segment does
   head_is : begin ≡ 0 → (text : List ℕ) → take 20 asked ≡ text → (p : ℕ) (mark : ℤ) → IsHeader sum text (pos p) mark → p ≡ v.parts.site.place
-  head_is at_first text is p mark header = with_part sum size device fault line n v H holds among (λ stays kept segment.
+  head_is at_first text is p mark header = with_part sum size device fault _ line n v H holds among (λ stays kept segment.
       let l = lies in
       let up = long in
       let end = ends in
@@ -155,9 +156,9 @@ module _ (sum : List ℕ → ℕ) (size : ℕ) (big : 256 ≤ size) (device : St
         (omega (arith, place_is, last, big)) aligned (omega (arith, lies_there)) (omega (arith, lies_there, end, l.2))
         (λ number lid text laid kind page body rec.
         (buffer_places sum size v.parts.site
-        (placed.aligned sum size big device fault whole v k b there ready place line are n among m slots H holds none own) facts.place_small
+        (placed.aligned sum size big device fault whole v k b there ready place line are n among m slots H _ holds none own) facts.place_small
         v.parts.bytes begin b.end l.2 held below
-        (placed.begins sum size big device fault whole v k b there ready place line are n among m slots H holds none own)
+        (placed.begins sum size big device fault whole v k b there ready place line are n among m slots H _ holds none own)
         its_own sealed_so.chain its_stand its_write refl refl number lid text laid kind page body rec).0)
         headers_placed
 

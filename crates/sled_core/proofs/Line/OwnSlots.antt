@@ -9,6 +9,7 @@ use Rattle.sled_store.specs.Foreign.{HeaderWasPlaced, RecordWasPlaced}
 use Rattle.sled_store.proofs.Segments.Elements.{in_cases, in_nothing}
 use Rattle.sled_core.specs.Begun.{SegmentView}
 use Rattle.sled_core.specs.Recoverable.{NoHeaderOfZeros}
+use Rattle.sled_core.specs.declared.logger.joined_marks.JoinedMarks.{JoinedMarks}
 use Rattle.sled_core.specs.inside.Fits.{HoldsLine}
 use Rattle.sled_core.specs.inside.OwnLog.{HasOwnSlot, HasPlacedFile, IsOwnSegment, ReadsPlaced}
 use Rattle.sled_core.proofs.Holds.Facts.{IsSegment}
@@ -29,8 +30,8 @@ its_number (x ∷ xs) v there = elim (in_cases x v xs there) [
 ]
 
 module _ (sum : List ℕ → ℕ) (size : ℕ) (big : 256 ≤ size) (zeros : NoHeaderOfZeros sum) (device : State) (fault : Option IoError) (whole : fault ≡ None)
-    (place : ℕ) (line : List SegmentView) (are : AreSegments size place line) (H : History) (holds : HoldsLine sum size device fault line H)
-    (own : HasPlacedFile sum size device line) where
+    (place : ℕ) (line : List SegmentView) (are : AreSegments size place line) (H : History) (marks : JoinedMarks)
+    (holds : HoldsLine sum marks size device fault line H) (own : HasPlacedFile sum size device line) where
   abbrev Header : ℕ → List ℕ → Type 0
   Header = HeaderWasPlaced device.placed
 
@@ -44,10 +45,10 @@ module _ (sum : List ℕ → ℕ) (size : ℕ) (big : 256 ≤ size) (zeros : NoH
   slot_at_nth : (n : ℕ) (v : SegmentView) → slice_get line n ≡ Some v → (slot : ℕ) → v.parts.site.slot ≡ slot * size → Slot slot
   slot_at_nth n v there slot lies =
       let is : IsSegment size v.parts.site.place v = nth_segment size place line are n v there in
-      with_part sum size device fault line n v H holds there (λ stays its segment.
+      with_part sum size device fault _ line n v H holds there (λ stays its segment.
       slot_of_segment sum size Header Own zeros (omega (arith, big)) device.log.bytes v.parts.site slot v.parts.written_len v.parts.reserved v.parts.sealed
       v.parts.bytes lies is.fresh is.are (all_long sum size (v.parts.site.place / size) v.parts.bytes v.parts.reserved segment.records.stand)
-      (segment.laid whole) (λ some. headers_line sum size device fault whole line n v H holds there some)
+      (segment.laid whole) (λ some. headers_line sum size _ device fault whole line n v H holds there some)
       (at_there (λ (u : SegmentView). IsOwnSegment sum size Header Own device.log.bytes u.parts.site u.parts.written_len u.parts.sealed) line n v there
       own.segments))
 

@@ -18,6 +18,7 @@ use Rattle.sled_core.specs.inside.OwnLog.{HasPlacedFile, IsOwnFile, IsOwnSegment
 use Rattle.sled_core.specs.Recoverable.{NoHeaderOfZeros}
 use Rattle.sled_core.specs.inside.SealedBuffers.{AreSealed, is_ready}
 use Rattle.sled_core.specs.SealedBuffers.{sealed_end}
+use Rattle.sled_core.specs.declared.logger.joined_marks.JoinedMarks.{JoinedMarks}
 use Rattle.sled_core.specs.inside.Turned.{promoted, written_now}
 use Rattle.sled_core.proofs.Line.Ends.{with_part}
 use Rattle.sled_core.proofs.Line.Segments.{AreSegments, nth_segment}
@@ -36,7 +37,7 @@ begins_so from rs [] are low (suc k) = low
 begins_so from rs (b ∷ bs) are low (suc k) = begins_so b.end (drop b.count rs) bs are.1 (inr (let up = chain_grows (max 20 from) b.end (take b.count rs) are.0.chain in omega (arith, up))) k
 
 module _ (sum : List ℕ → ℕ) (size : ℕ) (big : 256 ≤ size) (device : State) (fault : Option IoError) (whole : fault ≡ None) (v : SegmentView) (k : ℕ) (b : Sealed) (there : slice_get v.parts.sealed k ≡ Some b) (ready : is_ready b ≡ true)
-    (place : ℕ) (line : List SegmentView) (are : AreSegments size place line) (n : ℕ) (among : slice_get line n ≡ Some v) (m : Machine) (slots : HasSlots size line device.log.bytes fault m) (H : History) (holds : HoldsLine sum size device fault line H)
+    (place : ℕ) (line : List SegmentView) (are : AreSegments size place line) (n : ℕ) (among : slice_get line n ≡ Some v) (m : Machine) (slots : HasSlots size line device.log.bytes fault m) (H : History) (marks : JoinedMarks) (holds : HoldsLine sum marks size device fault line H)
     (none : NoHeaderOfZeros sum) (own : HasPlacedFile sum size device line) where
   -- where it is written, and its bytes
   abbrev pub slot : ℕ
@@ -55,17 +56,17 @@ module _ (sum : List ℕ → ℕ) (size : ℕ) (big : 256 ≤ size) (device : St
   Own = RecordWasPlaced sum size device.placed
 
   pub some : 0 < length asked
-  some = some_bytes sum size big device fault whole v k b there ready place line are n among m slots H holds none Header Header Own Own
+  some = some_bytes sum size big device fault whole v k b there ready place line are n among m slots H _ holds none Header Header Own Own
 
   big_enough : 20 ≤ size
-  big_enough = twenty sum size big device fault whole v k b there ready place line are n among m slots H holds none Header Header Own Own
+  big_enough = twenty sum size big device fault whole v k b there ready place line are n among m slots H _ holds none Header Header Own Own
 
   pub inside : begin + length asked ≤ size
-  inside = fits sum size big device fault whole v k b there ready place line are n among m slots H holds none Header Header Own Own
+  inside = fits sum size big device fault whole v k b there ready place line are n among m slots H _ holds none Header Header Own Own
 
   -- it has bytes behind a header
   long : max 20 begin ≤ begin + length asked
-  long = begun sum size big device fault whole v k b there ready place line are n among m slots H holds none Header Header Own Own
+  long = begun sum size big device fault whole v k b there ready place line are n among m slots H _ holds none Header Header Own Own
 
   -- What is written of the segment ends behind its header.
   pub written_so : (v.parts.written_len ≡ 0) ⊎ (20 ≤ v.parts.written_len)
@@ -82,7 +83,7 @@ module _ (sum : List ℕ → ℕ) (size : ℕ) (big : 256 ≤ size) (device : St
   begins = let facts = nth_segment size place line are n v among in begins_so v.parts.written_len v.parts.reserved v.parts.sealed facts.are written_so k
 
   pub aligned : slot % size ≡ 0
-  aligned = with_part sum size device fault line n v H holds among (λ stays its segment. segment.records.slot_begins)
+  aligned = with_part sum size device fault _ line n v H holds among (λ stays its segment. segment.records.slot_begins)
 
   -- Another device is at rest, on which the same was placed, and the same is written on that, and synced: what is own here, by what was placed, is so by
   -- what was placed there. (A log shows the one for the other. What was placed stands in the file of that, whatever is shown of it.)
@@ -126,7 +127,7 @@ module _ (sum : List ℕ → ℕ) (size : ℕ) (big : 256 ≤ size) (device : St
     pub placed_left : IsOwnFile sum size Header' Own' (overwritten device.log.bytes at asked) (promoted size (set line n (written_now k v)))
     placed_left =
         let up = long in
-        own_left sum size big device fault whole v k b there ready place line are n among m slots H holds none Header Header' Own Own' headers records
+        own_left sum size big device fault whole v k b there ready place line are n among m slots H _ holds none Header Header' Own Own' headers records
         (λ zero_begin. header_laid sum size real slot begin asked some inside (omega (arith, up, zero_begin)) zero_begin)
         (λ from len r high.
         record_laid sum size device slot begin asked some inside (v.parts.site.place / size) from len aligned

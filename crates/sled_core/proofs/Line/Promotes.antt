@@ -17,6 +17,7 @@ use Rattle.sled_core.specs.inside.Running.{FitsLine}
 use Rattle.sled_core.specs.Tickets.{index_of}
 use Rattle.sled_core.specs.inside.Turned.{promoted}
 use Rattle.sled_core.specs.Waiting.{last_of}
+use Rattle.sled_core.specs.declared.logger.joined_marks.JoinedMarks.{JoinedMarks}
 use Rattle.sled_core.proofs.Behind.FullFurther.{full_further}
 use Rattle.sled_core.proofs.Behind.FullNext.{full_next, here}
 use Rattle.sled_core.proofs.Behind.Promoted.{promoted as promoted_first}
@@ -24,10 +25,10 @@ use Rattle.sled_core.proofs.Line.Segments.{AreSegments, by_front, full_empty, pr
 use Rattle.sled_core.proofs.Sealed.Ended.{ends_up}
 
 -- What the segments hold those that are left hold.
-pub holds_promoted : (sum : List ℕ → ℕ) (size : ℕ) (device : State) (fault : Option IoError) (H : History) → 256 ≤ size → (place : ℕ) (vs : List SegmentView) → AreSegments size place vs → HoldsLine sum size device fault vs H
-    → HoldsLine sum size device fault (promoted size vs) H
-holds_promoted sum size device fault H big place vs are holds =
-    (by_front size (λ l. ((p : ℕ) × AreSegments size p l) × HoldsLine sum size device fault l H)
+pub holds_promoted : (sum : List ℕ → ℕ) (marks : JoinedMarks) (size : ℕ) (device : State) (fault : Option IoError) (H : History) → 256 ≤ size → (place : ℕ) (vs : List SegmentView) → AreSegments size place vs → HoldsLine sum marks size device fault vs H
+    → HoldsLine sum marks size device fault (promoted size vs) H
+holds_promoted sum marks size device fault H big place vs are holds =
+    (by_front size (λ l. ((p : ℕ) × AreSegments size p l) × HoldsLine sum marks size device fault l H)
     (λ v w ws full has. (
       (has.0.0 + size, has.0.1.1),
       promoted_first sum size v.parts.site device fault v.parts.bytes v.parts.written_len v.parts.sealed v.parts.reserved H w.parts (map parts_in ws) has.1 big full (full_empty size has.0.0 v big has.0.1.0 full),
@@ -35,27 +36,27 @@ holds_promoted sum size device fault H big place vs are holds =
     vs ((place, are), holds)).1
 
 -- Where all segments before these are wholly on the device, the log fits with those that are left.
-pub fits_full : (sum : List ℕ → ℕ) (size : ℕ) (device : State) (fault : Option IoError) {pins : ℕ} {H : History} {A f : ℕ} {U : List Message} → 256 ≤ size → fault ≡ None → (to place reach : ℕ) (w : SegmentView) (ws : List SegmentView) → AreFilled size to (w ∷ ws)
-    → FitsFull sum size device fault place (map parts_in (w ∷ ws)) reach pins H A f U → (now : ℕ) × FitsLine sum size device fault (promoted size (w ∷ ws)) now pins H A f U
-fits_full sum size device fault big whole to place reach w [] filled fits =
+pub fits_full : {marks : JoinedMarks} (sum : List ℕ → ℕ) (size : ℕ) (device : State) (fault : Option IoError) {pins : ℕ} {H : History} {A f : ℕ} {U : List Message} → 256 ≤ size → fault ≡ None → (to place reach : ℕ) (w : SegmentView) (ws : List SegmentView) → AreFilled size to (w ∷ ws)
+    → FitsFull sum marks size device fault place (map parts_in (w ∷ ws)) reach pins H A f U → (now : ℕ) × FitsLine sum marks size device fault (promoted size (w ∷ ws)) now pins H A f U
+fits_full {marks} sum size device fault big whole to place reach w [] filled fits =
     let first = here sum size device fault place w.parts [] fits big whole in
     let up = ends_up w.parts.written_len w.parts.reserved w.parts.sealed first.are in
     let low = filled.0 in
     full_next sum size device fault place w.parts [] fits big whole (omega (arith, up, low))
-fits_full sum size device fault {pins} {H} {A} {f} {U} big whole to place reach w (y ∷ ys) filled fits =
+fits_full {marks} sum size device fault {pins} {H} {A} {f} {U} big whole to place reach w (y ∷ ys) filled fits =
     elim (cases_eq w.parts.written_len size) [
       | inl full ↦ (
           let next = full_further sum size device fault place w.parts (map parts_in (y ∷ ys)) fits big whole full in
           let rest = fits_full sum size device fault big whole to (place + size) next.0 y ys filled.2 next.1 in
           let is : (w.parts.written_len == size) ≡ true = grind (arith, nat_tests, full) in
-          (rest.0, subst (λ (l : List SegmentView). FitsLine sum size device fault l rest.0 pins H A f U) (sym (ap (λ (o : Bool). if o then promoted size (y ∷ ys) else w ∷ y ∷ ys) is)) rest.1))
+          (rest.0, subst (λ (l : List SegmentView). FitsLine sum marks size device fault l rest.0 pins H A f U) (sym (ap (λ (o : Bool). if o then promoted size (y ∷ ys) else w ∷ y ∷ ys) is)) rest.1))
       | inr other ↦ (
           let first = here sum size device fault place w.parts (map parts_in (y ∷ ys)) fits big whole in
           let behind = first.behind in
           let inside = first.inside in
           let low : w.parts.written_len < size = omega (arith, behind, inside, other) in
           let next = full_next sum size device fault place w.parts (map parts_in (y ∷ ys)) fits big whole low in
-          (next.0, subst (λ (l : List SegmentView). FitsLine sum size device fault l next.0 pins H A f U) (sym (promoted_same size w (y ∷ ys) (λ some. low))) next.1))
+          (next.0, subst (λ (l : List SegmentView). FitsLine sum marks size device fault l next.0 pins H A f U) (sym (promoted_same size w (y ∷ ys) (λ some. low))) next.1))
     ]
 
 -- Tickets are for what they were for: none was for a reservation of those that go.

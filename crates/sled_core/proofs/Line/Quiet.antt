@@ -130,7 +130,7 @@ module _ (sum : List ℕ → ℕ) (none : NoHeaderOfZeros sum) (size : ℕ) (som
 
   -- The file of a log that runs, at rest: what is shown of it is read of bytes that count.
   module _ (s : State) (H : History) (first : SnapshotModel) (reach : ℕ) (whole : AreWhole sum size (cleared size m line s.log.bytes) H place m)
-      (among : StandsAmong sum size (cleared size m line s.log.bytes) v.parts.site v.parts.written_len (map begun_segment (map parts_in vs)) reach H first)
+      {held : ℕ} (among : StandsAmong sum held size (cleared size m line s.log.bytes) v.parts.site v.parts.written_len (map begun_segment (map parts_in vs)) reach H first)
     where
       abbrev Stands : SegmentView → ℕ → Type 0
       Stands u = StandsIn sum size (cleared size m line s.log.bytes) (least_place size first) among.stands.scanned u.parts.site u.parts.written_len

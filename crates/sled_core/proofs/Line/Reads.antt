@@ -16,19 +16,16 @@ use Rattle.sled_codec.specs.declared.result.DiskPtr.TheVariants.{Inline, Blob}
 use Rattle.sled_codec.specs.History.{Message, History, table}
 use Rattle.sled_codec.specs.Places.{MayBegin}
 use Rattle.sled_codec.specs.Pointers.{lid_of}
-use Rattle.sled_codec.specs.Snapshots.{SnapshotModel, stable_place}
 use Rattle.sled_store.specs.Answers.{is_fault_kind}
-use Rattle.sled_store.specs.Device.{Event, NamesState, State, Synced, Trace, Wrote, state_of}
+use Rattle.sled_store.specs.Device.{Event, State, Synced, Trace, Wrote, state_of}
 use Rattle.sled_store.specs.Script.{Performs, after_all}
-use Rattle.sled_store.specs.SnapshotFiles.{BeginsFrom}
-use Rattle.sled_store.proofs.Names.OneBegin.{one_begin}
 use Rattle.sled_store.proofs.Traces.ScriptLemmas.{after_joined, performs_whole}
 use Rattle.sled_core.specs.inside.Shown.{shown_of, shown}
 use Rattle.sled_core.specs.Begun.{segment_view, SegmentView}
 use Rattle.sled_core.specs.Causes.{HeldAnswers, IsFault, IsFaultAt, IsHeld, OnDone}
 use Rattle.sled_core.specs.inside.Causes.{RecordAnswers}
 use Rattle.sled_core.specs.declared.logger.Log.{Log}
-use Rattle.sled_core.specs.Fits.{HasRecordOf, current_begin, device_of, fault_of, ledger_of, line_of, machine_at, noted_in, position_with, reserved_end, segment_size_of, start_of, synced_end, waiting_of}
+use Rattle.sled_core.specs.Fits.{HasRecordOf, current_begin, device_of, fault_of, held_of, ledger_of, line_of, machine_at, noted_in, position_with, reserved_end, segment_size_of, start_of, synced_end, waiting_of}
 use Rattle.sled_core.specs.invariants.Fits.{Holds}
 use Rattle.sled_core.specs.inside.Fits.{HoldsLine, HoldsWith}
 use Rattle.sled_core.specs.inside.FreeSlots.{HasSlot}
@@ -45,6 +42,7 @@ use Rattle.sled_core.specs.Ledger.{writings, written_ledger, written_step}
 use Rattle.sled_core.specs.Stable.{IsNotReserved}
 use Rattle.sled_core.specs.Waiting.{BufferAt, free_around, BufferStart}
 use Rattle.sled_core.specs.Fits.{buffers_of}
+use Rattle.sled_core.proofs.Holds.HeldFrom.{held_marked}
 use Rattle.sled_core.proofs.Line.ShownParts.{line_older, line_written}
 use Rattle.sled_core.proofs.Line.HeaderMarks.{marked_same}
 use Rattle.sled_core.proofs.Line.Around.{is_none, none_found}
@@ -99,18 +97,18 @@ none_is None is = refl
 none_is (Some b) is = cc
 
 -- Of a log whose device has not failed.
-module _ {D C : Type 0} (sum : List ℕ → ℕ) (log : Log D C) (device : State) (H : History) (holds : HoldsLine sum (segment_size_of log) device None (line_of log) H) where
+module _ {D C : Type 0} (sum : List ℕ → ℕ) (log : Log D C) (device : State) (H : History) (holds : HoldsLine sum log.marks (segment_size_of log) device None (line_of log) H) where
   -- what the log has the record of lies in one of its segments, or stays
   has_record : (m : Message) → Contains H.messages m → HasRecordOf log H m
-      → (log.segments.first.site.place ≤ m.place) ⊎ StaysFrom H (first_stable sum (segment_size_of log) device 0 log.segments.first.site.place (segment_view log.segments.first) (map segment_view log.segments.behind.items) (line_segments log) H holds) m
+      → (log.segments.first.site.place ≤ m.place) ⊎ StaysFrom H (first_stable sum (segment_size_of log) device 0 log.segments.first.site.place (segment_view log.segments.first) (map segment_view log.segments.behind.items) (line_segments log) H _ holds) m
   has_record m there has = elim has [
     | inl above ↦ inl above
-    | inr (cut, far, entry) ↦ inr (entry_stays sum (segment_size_of log) device 0 log.segments.first.site.place (segment_view log.segments.first) (map segment_view log.segments.behind.items) (line_segments log) H holds log.line.lies.in_segment m there cut (let reached = holds.begun.reached in omega (arith, reached, far)) entry)
+    | inr (cut, far, entry) ↦ inr (entry_stays sum (segment_size_of log) device 0 log.segments.first.site.place (segment_view log.segments.first) (map segment_view log.segments.behind.items) (line_segments log) H _ holds log.line.lies.in_segment m there cut (held_marked log.marks.ordered holds.begun cut far) entry)
   ]
 
 -- What it shows of its device, which stands in the file itself.
 module _ {D C : Type 0} (sum : List ℕ → ℕ) (log : Log D C) (device : State) (H : History)
-    (holds : HoldsWith sum (noted_in log) (segment_size_of log) (shown (segment_size_of log) None (machine_at log) (line_of log) device) None (line_of log)
+    (holds : HoldsWith sum log.marks (noted_in log) (segment_size_of log) (shown (segment_size_of log) None (machine_at log) (line_of log) device) None (line_of log)
     (machine_at log) H) where
   abbrev size : ℕ
   size = segment_size_of log
@@ -119,15 +117,15 @@ module _ {D C : Type 0} (sum : List ℕ → ℕ) (log : Log D C) (device : State
   taken n u there = at_there (HasSlot size (machine_at log)) (line_of log) n u there holds.slots.taken
 
   its_record : (m : Message) → Contains H.messages m
-      → (log.segments.first.site.place ≤ m.place) ⊎ StaysFrom H (stable_place holds.holds.begun.first.stable) m → IsWrittenPlace log m.place → (lid : ℕ)
+      → (log.segments.first.site.place ≤ m.place) ⊎ StaysFrom H (held_of holds.holds.begun) m → IsWrittenPlace log m.place → (lid : ℕ)
       → m.pointer ≡ Inline lid → IsHeldAt sum size device.log.bytes lid m
   its_record m there has written lid pointer =
       let least = log.config.config.least in
       let some : 0 < size = omega (arith, least) in
       let place : ℕ = log.segments.first.site.place in
       line_record sum size (shown size None (machine_at log) (line_of log) device) log.reserved_to place (segment_view log.segments.first)
-      (map segment_view log.segments.behind.items) (line_segments log) H holds.holds device.log.bytes
-      (line_written sum size some device None refl (machine_at log) place (line_of log) (line_segments log) H holds.holds taken)
+      (map segment_view log.segments.behind.items) (line_segments log) H _ holds.holds device.log.bytes
+      (line_written sum size some device None refl (machine_at log) place (line_of log) (line_segments log) H _ holds.holds taken)
       (line_older sum size some device (machine_at log) (segment_view log.segments.first) (map segment_view log.segments.behind.items) place
       (line_segments log) H holds.holds taken)
       log.line.filled m there has written.0 (none_is _ (sym (none_found m.place (waiting_of log)) ∙ written.1)) lid pointer
@@ -146,44 +144,38 @@ unfolding Fits
 fits_begins trace sum log H A f U fits none m there has lid pointer =
     let size : ℕ = segment_size_of log in
     let device : State = shown_of trace log in
-    let holds : HoldsLine sum size device None (line_of log) (logged H) = subst (λ (o : Option IoError). HoldsLine sum size device o (line_of log) (logged H)) none fits.shows.parts.holds in
+    let holds : HoldsLine sum log.marks size device None (line_of log) (logged H) = subst (λ (o : Option IoError). HoldsLine sum log.marks size device o (line_of log) (logged H)) none fits.shows.parts.holds in
     let known : Contains (logged H).messages m = inline_there H m lid pointer there in
-    line_begins sum size device 0 log.segments.first.site.place (segment_view log.segments.first) (map segment_view log.segments.behind.items) (line_segments log) (logged H) holds m known (has_record sum log device (logged H) holds m known (inline_record log H m lid pointer has)) lid pointer
+    line_begins sum size device 0 log.segments.first.site.place (segment_view log.segments.first) (map segment_view log.segments.behind.items) (line_segments log) (logged H) _ holds m known (has_record sum log device (logged H) holds m known (inline_record log H m lid pointer has)) lid pointer
 
 -- What a log that keeps no failure holds it holds over what it shows of its device then.
 shows_none : {D C : Type 0} (sum : List ℕ → ℕ) (log : Log D C) (device : State) (H : History) → fault_of log ≡ None
-    → HoldsWith sum (noted_in log) (segment_size_of log) (shown (segment_size_of log) (fault_of log) (machine_at log) (line_of log) device) (fault_of log)
+    → HoldsWith sum log.marks (noted_in log) (segment_size_of log) (shown (segment_size_of log) (fault_of log) (machine_at log) (line_of log) device) (fault_of log)
     (line_of log) (machine_at log) H
-    → HoldsWith sum (noted_in log) (segment_size_of log) (shown (segment_size_of log) None (machine_at log) (line_of log) device) None (line_of log)
+    → HoldsWith sum log.marks (noted_in log) (segment_size_of log) (shown (segment_size_of log) None (machine_at log) (line_of log) device) None (line_of log)
     (machine_at log) H
 shows_none sum log device H none holds =
-    subst (λ (o : Option IoError). HoldsWith sum (noted_in log) (segment_size_of log) (shown (segment_size_of log) o (machine_at log) (line_of log) device) o
+    subst (λ (o : Option IoError). HoldsWith sum log.marks (noted_in log) (segment_size_of log) (shown (segment_size_of log) o (machine_at log) (line_of log) device) o
     (line_of log) (machine_at log) H) none holds
 
 -- The record of a message of the history stands where its pointer says, once its place was brought to the device.
 pub settled_record : {D C : Type 0} (trace : D → Trace) (sum : List ℕ → ℕ) (old mid : Log D C) (H : History) (m : Message) → Holds trace sum old H → Holds trace sum mid H → fault_of old ≡ None → fault_of mid ≡ None → Contains H.messages m → HasRecordOf old H m
-    → IsWrittenPlace mid m.place → (m.place < synced_end old → mid ≡ old) → (state_of (trace (device_of mid))).snapshots ≡ (state_of (trace (device_of old))).snapshots → (lid : ℕ) → m.pointer ≡ Inline lid
+    → IsWrittenPlace mid m.place → (m.place < synced_end old → mid ≡ old) → mid.marks.joined ≤ℤ pos (synced_end old) → (lid : ℕ) → m.pointer ≡ Inline lid
     → IsHeldAt sum (segment_size_of mid) (state_of (trace (device_of mid))).log.bytes lid m
 unfolding Holds
-settled_record {D} {C} trace sum old mid H m before after whole whole_now there has written still names lid pointer =
+settled_record {D} {C} trace sum old mid H m before after whole whole_now there has written still lower lid pointer =
     let device : State = state_of (trace (device_of old)) in
     let now : State = state_of (trace (device_of mid)) in
     let first = shows_none sum old device (logged H) whole before.shows in
     let later = shows_none sum mid now (logged H) whole_now after.shows in
-    let had = first.holds.begun in
-    let has_now = later.holds.begun in
-    let reached = had.reached in
     let known : Contains (logged H).messages m = inline_there H m lid pointer there in
     elim (cases_lt m.place (synced_end old)) [
       | inl below ↦ subst (λ (l : Log D C). IsHeldAt sum (segment_size_of l) (state_of (trace (device_of l))).log.bytes lid m) (sym (still below))
           (its_record sum old device (logged H) first m known
           (has_record sum old (shown (segment_size_of old) None (machine_at old) (line_of old) device) (logged H) first.holds m known
           (inline_record old H m lid pointer has)) (stable_written old m.place below) lid pointer)
-      | inr above ↦ (
-          let same : has_now.first ≡ had.first =
-          one_begin sum _ has_now.first had.first has_now.begins (subst (λ (s : NamesState). BeginsFrom sum s.file had.first) (sym names) had.begins) in
-          let low : stable_place has_now.first.stable ≡ stable_place had.first.stable = ap (λ (x : SnapshotModel). stable_place x.stable) same in
-          its_record sum mid now (logged H) later m known (inr (inr (omega (arith, low, reached, above), known))) written lid pointer)
+      | inr above ↦ its_record sum mid now (logged H) later m known
+          (inr (inr (held_marked mid.marks.ordered later.holds.begun m.place (omega (arith, ints, lower, above)), known))) written lid pointer
     ]
 
 -- What a read answers where its place isn't brought to the device.

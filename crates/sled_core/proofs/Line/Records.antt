@@ -10,11 +10,11 @@ use Rattle.sled_codec.specs.declared.result.DiskPtr.TheVariants.{Inline, Blob}
 use Rattle.sled_codec.specs.History.{Batch, Message, History, table}
 use Rattle.sled_codec.specs.Places.{MayBegin}
 use Rattle.sled_codec.specs.Pointers.{lid_of}
-use Rattle.sled_codec.specs.Snapshots.{stable_place}
 use Rattle.sled_store.specs.Device.{LogState, State}
 use Rattle.sled_store.proofs.Histories.EarlierEntries.{entry_earlier}
 use Rattle.sled_core.specs.inside.Begun.{AreFilled}
 use Rattle.sled_core.specs.Begun.{SegmentView}
+use Rattle.sled_core.specs.Fits.{held_of}
 use Rattle.sled_core.specs.declared.iobuf.Reserved.{Reserved}
 use Rattle.sled_core.specs.declared.iobuf.Sealed.{Sealed}
 use Rattle.sled_core.specs.declared.iobuf.SegmentPosition.{SegmentPosition}
@@ -27,6 +27,7 @@ use Rattle.sled_core.specs.Reading.{IsInline}
 use Rattle.sled_core.specs.inside.SealedBuffers.{AreSealed, Agrees}
 use Rattle.sled_core.specs.SealedBuffers.{sealed_end}
 use Rattle.sled_core.specs.Waiting.{BufferAt, buffer_at, unwritten, unwritten_in, unwritten_of}
+use Rattle.sled_core.specs.declared.logger.joined_marks.JoinedMarks.{JoinedMarks}
 use Rattle.sled_core.proofs.Flush.Completed.{which}
 use Rattle.sled_core.proofs.Holds.ReachLemmas.{completed_behind}
 use Rattle.sled_core.proofs.Holds.WholeHistory.{whole_ascends}
@@ -254,9 +255,9 @@ module _ (sum : List ℕ → ℕ) (size : ℕ) (device : State) (to : ℕ) where
   ]
 
   -- A message lies in one of them, or it is an earlier one that stays.
-  module _ (place : ℕ) (v : SegmentView) (vs : List SegmentView) (are : AreSegments size place (v ∷ vs)) (H : History) (holds : HoldsLine sum size device None (v ∷ vs) H) where
+  module _ (place : ℕ) (v : SegmentView) (vs : List SegmentView) (are : AreSegments size place (v ∷ vs)) (H : History) (marks : JoinedMarks) (holds : HoldsLine sum marks size device None (v ∷ vs) H) where
     abbrev pub first_stable : ℕ
-    first_stable = stable_place holds.begun.first.stable
+    first_stable = held_of holds.begun
 
     elsewhere : (m : Message) → StaysFrom H first_stable m → m.place < v.parts.site.place → (lid : ℕ) → m.pointer ≡ Inline lid
         → StandsElsewhere sum size device.log.bytes v.parts.site lid m

@@ -40,6 +40,7 @@ use Rattle.sled_core.proofs.Reserve.ReserveLemmas.{there_append, there_last}
 use Rattle.sled_core.proofs.Sealed.Ended.{ends_rise}
 use Rattle.sled_core.proofs.Sealed.LaidLemmas.{EndsRise, ends_below}
 use Rattle.sled_core.specs.HeaderMark.{mark_at}
+use Rattle.sled_core.specs.declared.logger.joined_marks.JoinedMarks.{JoinedMarks}
 
 -- A reservation with these bytes has a place behind what is there in a segment of this size.
 pub record HasPlaceFor (sum : List ℕ → ℕ) (size : ℕ) (more : List ℕ) (r : Reserved) (v : SegmentView) : Type 0 where
@@ -66,29 +67,29 @@ module _ (sum : List ℕ → ℕ) (size : ℕ) (more : List ℕ) (r : Reserved) 
 
   module _ (device : State) (fault : Option IoError) where
     -- the first one alone
-    first_reserved : (H : History) (v : SegmentView) → HasPlaceFor sum size more r v → {behind : List SegmentParts} → HoldsIn sum (log_parts size v.parts.site device fault v.parts.bytes v.parts.written_len v.parts.sealed v.parts.reserved) behind H
-        → HoldsIn sum (log_parts size v.parts.site device fault (v.parts.bytes ++ more) v.parts.written_len v.parts.sealed (v.parts.reserved ++ r ∷ [])) behind H
+    first_reserved : (H : History) (v : SegmentView) → HasPlaceFor sum size more r v → {behind : List SegmentParts} → {marks : JoinedMarks} → HoldsIn sum marks (log_parts size v.parts.site device fault v.parts.bytes v.parts.written_len v.parts.sealed v.parts.reserved) behind H
+        → HoldsIn sum marks (log_parts size v.parts.site device fault (v.parts.bytes ++ more) v.parts.written_len v.parts.sealed (v.parts.reserved ++ r ∷ [])) behind H
     first_reserved H v its {behind} holds = holds-append sum size v.parts.site device fault v.parts.bytes v.parts.written_len v.parts.sealed v.parts.reserved H holds more r
         its.begun its.within its.at its.long its.open_yet its.room (its_rise v its) its.text
 
     -- What segments hold they hold then,
-    pub line_reserved : (H : History) (v : SegmentView) (vs : List SegmentView) → HasPlaceFor sum size more r (last_of v vs) → HoldsLine sum size device fault (v ∷ vs) H → HoldsLine sum size device fault (at_last now (v ∷ vs)) H
-    line_reserved H = by_last (λ line. HoldsLine sum size device fault line H) (HasPlaceFor sum size more r) now
+    pub line_reserved : (marks : JoinedMarks) (H : History) (v : SegmentView) (vs : List SegmentView) → HasPlaceFor sum size more r (last_of v vs) → HoldsLine sum marks size device fault (v ∷ vs) H → HoldsLine sum marks size device fault (at_last now (v ∷ vs)) H
+    line_reserved marks H = by_last (λ line. HoldsLine sum marks size device fault line H) (HasPlaceFor sum size more r) now
         (λ v its holds. first_reserved H v its holds)
-        (λ v pre w its holds. subst (λ (ss : List SegmentParts). HoldsIn sum (log_parts size v.parts.site device fault v.parts.bytes v.parts.written_len v.parts.sealed v.parts.reserved) ss H) (sym (map-append parts_in pre (now w ∷ [])))
+        (λ v pre w its holds. subst (λ (ss : List SegmentParts). HoldsIn sum marks (log_parts size v.parts.site device fault v.parts.bytes v.parts.written_len v.parts.sealed v.parts.reserved) ss H) (sym (map-append parts_in pre (now w ∷ [])))
         (behind-append sum size v.parts.site device fault v.parts.bytes v.parts.written_len v.parts.sealed v.parts.reserved H (map parts_in pre) w.parts []
-        (subst (λ (ss : List SegmentParts). HoldsIn sum (log_parts size v.parts.site device fault v.parts.bytes v.parts.written_len v.parts.sealed v.parts.reserved) ss H) (map-append parts_in pre (w ∷ [])) holds)
+        (subst (λ (ss : List SegmentParts). HoldsIn sum marks (log_parts size v.parts.site device fault v.parts.bytes v.parts.written_len v.parts.sealed v.parts.reserved) ss H) (map-append parts_in pre (w ∷ [])) holds)
         more r its.at its.long its.open_yet its.room its.text its.inside))
 
     -- and what they fit they fit.
-    pub line_fits_reserved : (reach pins : ℕ) (H : History) (A f : ℕ) (U : List Message) (v : SegmentView) (vs : List SegmentView) → HasPlaceFor sum size more r (last_of v vs) → FitsLine sum size device fault (v ∷ vs) reach pins H A f U
-        → FitsLine sum size device fault (at_last now (v ∷ vs)) reach pins H A f U
-    line_fits_reserved reach pins H A f U = by_last (λ line. FitsLine sum size device fault line reach pins H A f U) (HasPlaceFor sum size more r) now
+    pub line_fits_reserved : (marks : JoinedMarks) (reach pins : ℕ) (H : History) (A f : ℕ) (U : List Message) (v : SegmentView) (vs : List SegmentView) → HasPlaceFor sum size more r (last_of v vs) → FitsLine sum marks size device fault (v ∷ vs) reach pins H A f U
+        → FitsLine sum marks size device fault (at_last now (v ∷ vs)) reach pins H A f U
+    line_fits_reserved marks reach pins H A f U = by_last (λ line. FitsLine sum marks size device fault line reach pins H A f U) (HasPlaceFor sum size more r) now
         (λ v its fits. fits-moved sum size v.parts.site device fault v.parts.bytes v.parts.written_len v.parts.sealed v.parts.reserved pins H A f U fits (v.parts.bytes ++ more) v.parts.written_len v.parts.sealed (v.parts.reserved ++ r ∷ []) refl
         (first_reserved (logged H) v its fits.holds))
-        (λ v pre w its fits. subst (λ (ss : List SegmentParts). FitsIn sum (log_parts size v.parts.site device fault v.parts.bytes v.parts.written_len v.parts.sealed v.parts.reserved) ss reach pins H A f U) (sym (map-append parts_in pre (now w ∷ [])))
+        (λ v pre w its fits. subst (λ (ss : List SegmentParts). FitsIn sum marks (log_parts size v.parts.site device fault v.parts.bytes v.parts.written_len v.parts.sealed v.parts.reserved) ss reach pins H A f U) (sym (map-append parts_in pre (now w ∷ [])))
         (behind-fits-reserved sum size v.parts.site device fault v.parts.bytes v.parts.written_len v.parts.sealed v.parts.reserved pins H A f U (map parts_in pre) w.parts []
-        (subst (λ (ss : List SegmentParts). FitsIn sum (log_parts size v.parts.site device fault v.parts.bytes v.parts.written_len v.parts.sealed v.parts.reserved) ss reach pins H A f U) (map-append parts_in pre (w ∷ [])) fits)
+        (subst (λ (ss : List SegmentParts). FitsIn sum marks (log_parts size v.parts.site device fault v.parts.bytes v.parts.written_len v.parts.sealed v.parts.reserved) ss reach pins H A f U) (map-append parts_in pre (w ∷ [])) fits)
         more r its.at its.long its.open_yet its.room its.text its.inside))
 
   -- Their slots are the same.

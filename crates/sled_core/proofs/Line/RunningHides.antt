@@ -53,7 +53,7 @@ module _ (sum : List ℕ → ℕ) (none : NoHeaderOfZeros sum) (size : ℕ) (som
     (taken : (n : ℕ) (u : SegmentView) → slice_get (v ∷ vs) n ≡ Some u → HasSlot size m u) (own : HaveOwn size (line_end size (v ∷ vs)) m)
     (s : State) (H : History) (first : SnapshotModel) (reach : ℕ)
     (whole : AreWhole sum size (cleared size m (v ∷ vs) s.log.bytes) H v.parts.site.place m)
-    (among : StandsAmong sum size (cleared size m (v ∷ vs) s.log.bytes) v.parts.site v.parts.written_len (map begun_segment (map parts_in vs)) reach H first)
+    {held : ℕ} (among : StandsAmong sum held size (cleared size m (v ∷ vs) s.log.bytes) v.parts.site v.parts.written_len (map begun_segment (map parts_in vs)) reach H first)
     (base : ℕ) (hides : Hides sum size s m (v ∷ vs) (least_place size first) base H) (low : base ≤ v.parts.site.place) where
   abbrev line : List SegmentView
   line = v ∷ vs

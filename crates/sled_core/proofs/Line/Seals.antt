@@ -35,6 +35,7 @@ use Rattle.sled_core.specs.inside.Shown.{shown_of}
 use Rattle.sled_core.specs.inside.Slots.{AreWhole}
 use Rattle.sled_core.specs.inside.Turned.{ChangesLine}
 use Rattle.sled_core.specs.Waiting.{as_sealed, at_last, closed_now, holds_any, last_of, sealed_now, turned_now, unwritten}
+use Rattle.sled_core.specs.declared.logger.joined_marks.JoinedMarks.{JoinedMarks}
 use Rattle.sled_core.proofs.Behind.Calls.{behind-sealed}
 use Rattle.sled_core.proofs.Behind.FitsCalls.{behind-fits-sealed}
 use Rattle.sled_core.proofs.Cleared.Calls.{sealed_same as unwritten_sealed_now}
@@ -63,27 +64,27 @@ pub record IsFilledSome (size : ℕ) (v : SegmentView) : Type 0 where
 
 module _ (sum : List ℕ → ℕ) (size : ℕ) (device : State) (fault : Option IoError) where
   -- the first one alone
-  pub first_sealed : (H : History) (v : SegmentView) → IsFilledSome size v → {behind : List SegmentParts} → HoldsIn sum (log_parts size v.parts.site device fault v.parts.bytes v.parts.written_len v.parts.sealed v.parts.reserved) behind H
-      → HoldsIn sum (log_parts size v.parts.site device fault v.parts.bytes v.parts.written_len (sealed_now v).parts.sealed v.parts.reserved) behind H
+  pub first_sealed : (H : History) (v : SegmentView) → IsFilledSome size v → {behind : List SegmentParts} → {marks : JoinedMarks} → HoldsIn sum marks (log_parts size v.parts.site device fault v.parts.bytes v.parts.written_len v.parts.sealed v.parts.reserved) behind H
+      → HoldsIn sum marks (log_parts size v.parts.site device fault v.parts.bytes v.parts.written_len (sealed_now v).parts.sealed v.parts.reserved) behind H
   first_sealed H v its {behind} holds = holds-sealed sum size v.parts.site device fault v.parts.bytes v.parts.written_len v.parts.sealed v.parts.reserved H holds (drop (sealed_count v.parts.sealed) v.parts.reserved) its.short (let some = its.some in omega (arith, some))
 
   -- What segments hold they hold then,
-  pub line_sealed : (H : History) (v : SegmentView) (vs : List SegmentView) → IsFilledSome size (last_of v vs) → HoldsLine sum size device fault (v ∷ vs) H → HoldsLine sum size device fault (at_last sealed_now (v ∷ vs)) H
-  line_sealed H = by_last (λ line. HoldsLine sum size device fault line H) (IsFilledSome size) sealed_now
+  pub line_sealed : (marks : JoinedMarks) (H : History) (v : SegmentView) (vs : List SegmentView) → IsFilledSome size (last_of v vs) → HoldsLine sum marks size device fault (v ∷ vs) H → HoldsLine sum marks size device fault (at_last sealed_now (v ∷ vs)) H
+  line_sealed marks H = by_last (λ line. HoldsLine sum marks size device fault line H) (IsFilledSome size) sealed_now
       (λ v its holds. first_sealed H v its holds)
-      (λ v pre w its holds. subst (λ (ss : List SegmentParts). HoldsIn sum (log_parts size v.parts.site device fault v.parts.bytes v.parts.written_len v.parts.sealed v.parts.reserved) ss H) (sym (map-append parts_in pre (sealed_now w ∷ [])))
+      (λ v pre w its holds. subst (λ (ss : List SegmentParts). HoldsIn sum marks (log_parts size v.parts.site device fault v.parts.bytes v.parts.written_len v.parts.sealed v.parts.reserved) ss H) (sym (map-append parts_in pre (sealed_now w ∷ [])))
       (behind-sealed sum size v.parts.site device fault v.parts.bytes v.parts.written_len v.parts.sealed v.parts.reserved H (map parts_in pre) w.parts []
-      (subst (λ (ss : List SegmentParts). HoldsIn sum (log_parts size v.parts.site device fault v.parts.bytes v.parts.written_len v.parts.sealed v.parts.reserved) ss H) (map-append parts_in pre (w ∷ [])) holds) its.some))
+      (subst (λ (ss : List SegmentParts). HoldsIn sum marks (log_parts size v.parts.site device fault v.parts.bytes v.parts.written_len v.parts.sealed v.parts.reserved) ss H) (map-append parts_in pre (w ∷ [])) holds) its.some))
 
   -- and what they fit they fit.
-  pub line_fits_sealed : (reach pins : ℕ) (H : History) (A f : ℕ) (U : List Message) (v : SegmentView) (vs : List SegmentView) → IsFilledSome size (last_of v vs) → FitsLine sum size device fault (v ∷ vs) reach pins H A f U
-      → FitsLine sum size device fault (at_last sealed_now (v ∷ vs)) reach pins H A f U
-  line_fits_sealed reach pins H A f U = by_last (λ line. FitsLine sum size device fault line reach pins H A f U) (IsFilledSome size) sealed_now
+  pub line_fits_sealed : (marks : JoinedMarks) (reach pins : ℕ) (H : History) (A f : ℕ) (U : List Message) (v : SegmentView) (vs : List SegmentView) → IsFilledSome size (last_of v vs) → FitsLine sum marks size device fault (v ∷ vs) reach pins H A f U
+      → FitsLine sum marks size device fault (at_last sealed_now (v ∷ vs)) reach pins H A f U
+  line_fits_sealed marks reach pins H A f U = by_last (λ line. FitsLine sum marks size device fault line reach pins H A f U) (IsFilledSome size) sealed_now
       (λ v its fits. fits-moved sum size v.parts.site device fault v.parts.bytes v.parts.written_len v.parts.sealed v.parts.reserved pins H A f U fits v.parts.bytes v.parts.written_len (sealed_now v).parts.sealed v.parts.reserved refl
       (first_sealed (logged H) v its fits.holds))
-      (λ v pre w its fits. subst (λ (ss : List SegmentParts). FitsIn sum (log_parts size v.parts.site device fault v.parts.bytes v.parts.written_len v.parts.sealed v.parts.reserved) ss reach pins H A f U) (sym (map-append parts_in pre (sealed_now w ∷ [])))
+      (λ v pre w its fits. subst (λ (ss : List SegmentParts). FitsIn sum marks (log_parts size v.parts.site device fault v.parts.bytes v.parts.written_len v.parts.sealed v.parts.reserved) ss reach pins H A f U) (sym (map-append parts_in pre (sealed_now w ∷ [])))
       (behind-fits-sealed sum size v.parts.site device fault v.parts.bytes v.parts.written_len v.parts.sealed v.parts.reserved pins H A f U (map parts_in pre) w.parts []
-      (subst (λ (ss : List SegmentParts). FitsIn sum (log_parts size v.parts.site device fault v.parts.bytes v.parts.written_len v.parts.sealed v.parts.reserved) ss reach pins H A f U) (map-append parts_in pre (w ∷ [])) fits) its.some))
+      (subst (λ (ss : List SegmentParts). FitsIn sum marks (log_parts size v.parts.site device fault v.parts.bytes v.parts.written_len v.parts.sealed v.parts.reserved) ss reach pins H A f U) (map-append parts_in pre (w ∷ [])) fits) its.some))
 
 -- Their slots are the same.
 pub slots_sealed : (size : ℕ) (line : List SegmentView) (log : List ℕ) (fault : Option IoError) (m : Machine) → HasSlots size line log fault m → HasSlots size (at_last sealed_now line) log fault m
@@ -191,21 +192,21 @@ module _ {D C : Type 0} (trace : D → Trace) (sum : List ℕ → ℕ) (old new 
   sealed_keeps = record {
     goes_on = goes_on_quietly trace sum old new (record { config = ap (λ (x : RunningConfig D C). x.config) rest.config; checksum = ap (λ (x : RunningConfig D C). x.checksum) rest.config })
         (ap (λ (x : RunningConfig D C). trace x.device) rest.config) (let same = sealed_synced in omega (arith, same)) (λ none. sym rest.fault ∙ none);
-    history = λ H holds. holds_as trace sum old new rest.config rest.fault (noted_in old) kept_noted (at_last sealed_now (line_of old)) line (machine_at old) machine same_shown holds.rests H
+    history = λ H holds. holds_as trace sum old new rest.config rest.fault rest.marks (noted_in old) kept_noted (at_last sealed_now (line_of old)) line (machine_at old) machine same_shown holds.rests H
         (record {
-          holds = line_sealed sum size (shown_of trace old) (fault_of old) (logged H) v vs its holds.shows.holds;
+          holds = line_sealed sum size (shown_of trace old) (fault_of old) _ (logged H) v vs its holds.shows.holds;
           batches = batches_up (written_to (line_of old)) (written_to (at_last sealed_now (line_of old))) (line_end size (line_of old)) (line_end size (at_last sealed_now (line_of old))) (noted_in old) (logged H) (let same = kept_written v vs in omega (arith, same))
               (let same = end_last size sealed_now (λ _. refl) v vs in omega (arith, same)) holds.shows.batches;
           slots = slots_sealed size (line_of old) (shown_of trace old).log.bytes (fault_of old) (machine_at old) holds.shows.slots;
         });
-    fits = λ H A f U fits. fits_as trace sum old new rest.config rest.fault (noted_in old) kept_noted (at_last sealed_now (line_of old)) line (machine_at old) machine same_shown fits.rests H A f U rest.pins
+    fits = λ H A f U fits. fits_as trace sum old new rest.config rest.fault rest.marks (noted_in old) kept_noted (at_last sealed_now (line_of old)) line (machine_at old) machine same_shown fits.rests H A f U rest.pins
         (λ none zeros. from_as sum size (omega (arith, old.config.config.least)) (state_of (trace (device_of old))) (machine_at old) (machine_at old)
         (line_of old) (at_last sealed_now (line_of old)) (logged H) (logged H) (λ k. refl) (λ k. refl)
         (same_shown (state_of (trace (device_of old))).log.bytes) (omega (arith, end_at_last size sealed_now (λ _. refl) (line_of old)))
-        (fits.hides none zeros))
+        (fits.hides none zeros)) fits.marked
         (record {
           reach = fits.shows.reach;
-          parts = line_fits_sealed sum size (shown_of trace old) (fault_of old) fits.shows.reach (pins_of old) H A f U v vs its fits.shows.parts;
+          parts = line_fits_sealed sum size (shown_of trace old) (fault_of old) _ fits.shows.reach (pins_of old) H A f U v vs its fits.shows.parts;
           batches = batches_up (written_to (line_of old)) (written_to (at_last sealed_now (line_of old))) (line_end size (line_of old)) (line_end size (at_last sealed_now (line_of old))) (noted_in old) (logged H) (let same = kept_written v vs in omega (arith, same))
               (let same = end_last size sealed_now (λ _. refl) v vs in omega (arith, same)) fits.shows.batches;
           slots = slots_sealed size (line_of old) (shown_of trace old).log.bytes (fault_of old) (machine_at old) fits.shows.slots;

@@ -170,6 +170,16 @@ filled_promoted size to vs filled = by_front size (AreFilled size to) (λ v w ws
 pub all_promoted : (size : ℕ) (P : SegmentView → Type 0) (vs : List SegmentView) → All P vs → All P (promoted size vs)
 all_promoted size P vs all = by_front size (All P) (λ v w ws full has. All-drop P 1 (v ∷ w ∷ ws) has) vs all
 
+-- Where those at the front have gone the first one lies no lower.
+pub promoted_place : (size place : ℕ) (vs : List SegmentView) → AreSegments size place vs → first_place vs ≤ first_place (promoted size vs)
+promoted_place size place vs are =
+    (by_front size (λ l. ((p : ℕ) × AreSegments size p l) × (first_place vs ≤ first_place l))
+    (λ v w ws full has. (
+      (has.0.0 + size, has.0.1.1),
+      let first = has.0.1.0.at in let next = has.0.1.1.0.at in let low = has.1 in omega (arith, first, next, low),
+    ))
+    vs ((place, are), omega arith)).1
+
 -- The first one isn't wholly on the device, unless it is alone.
 pub promoted_waits : (size : ℕ) (vs : List SegmentView) (v w : SegmentView) (ws : List SegmentView) → promoted size vs ≡ v ∷ w ∷ ws → v.parts.written_len ≢ size
 promoted_waits size [] v w ws is = absurd (let never : ⊥ = cc in never)

@@ -1,14 +1,18 @@
 -- What a log shows of its device: where a call leaves that, what is held and fitted over it is held and fitted by the log behind the call. A log that begins
 -- shows the device itself.
 use Rattle.std.specs.declared.io.Error.{Error as IoError}
-use Rattle.std.proofs.Common.{◌≡◌, ◌≢◌, ◌∙◌, ◌+◌, ◌*◌, ◌<◌, ℕ, zero, suc, max, List, [], ◌∷◌, Option, Some, None, refl, sym, ap, subst, arith, inl, inr}
+use Rattle.std.proofs.Common.{◌≡◌, ◌≢◌, ◌∙◌, ◌+◌, ◌*◌, ◌<◌, ℕ, zero, suc, max, pos, List, [], ◌∷◌, Option, Some, None, refl, sym, ap, subst, arith, inl, inr}
 use Rattle.std.specs.List.{slice_get}
 use Rattle.std.proofs.Math.Nat.{suc-mul}
 use Rattle.std.proofs.lemmas.Bool.{cases_order}
+use Rattle.std.proofs.lemmas.Int.{ints}
 use Rattle.sled_codec.specs.History.{Batch, History, Message}
+use Rattle.sled_codec.specs.Snapshots.{SnapshotModel, stable_place}
 use Rattle.sled_store.specs.Device.{LogState, State, Trace, at_rest, state_of}
 use Rattle.sled_store.specs.SegmentStates.{Machine}
+use Rattle.sled_store.specs.SnapshotFiles.{BeginsFrom}
 use Rattle.sled_store.proofs.Segments.FilledLemmas.{slot_before}
+use Rattle.sled_core.specs.declared.logger.joined_marks.JoinedMarks.{JoinedMarks}
 use Rattle.sled_core.specs.Begun.{SegmentView}
 use Rattle.sled_core.specs.Logged.{logged}
 use Rattle.sled_core.specs.Recoverable.{NoHeaderOfZeros}
@@ -18,6 +22,7 @@ use Rattle.sled_core.specs.inside.Cleared.{cleared}
 use Rattle.sled_core.specs.inside.Fits.{HoldsLine, HoldsShown, HoldsWith}
 use Rattle.sled_core.specs.inside.FreeSlots.{HasSlot, HasSlots}
 use Rattle.sled_core.specs.inside.Running.{FitsShown, FitsWith}
+use Rattle.sled_core.specs.inside.MarksFit.{MarksFitFrom}
 use Rattle.sled_core.specs.inside.Hides.{HidesFrom}
 use Rattle.sled_core.specs.inside.Shown.{RestsWhole, shown}
 use Rattle.sled_core.specs.Tail.{least_place}
@@ -65,20 +70,24 @@ others_beside size some m place line are taken n u at j w at_j differs =
 -- Where the same counts for nothing, what is held and fitted over what was shown is so over what is shown.
 module _ (sum : List ℕ → ℕ) (noted : List Batch) (size : ℕ) (device : State) (fault : Option IoError) (m m' : Machine) (line line' : List SegmentView)
     (same : ShowsSame size m m' line line') (rests : RestsWhole fault device.log) where
-  pub holds_shown : (H : History) → HoldsWith sum noted size (shown size fault m line device) fault line' m' H
-      → HoldsShown sum noted size device fault line' m' H
-  holds_shown H holds = record {
-    shows = subst (λ (d : State). HoldsWith sum noted size d fault line' m' H) (sym (shown_same size fault m m' line line' same device)) holds;
+  pub holds_shown : (marks : JoinedMarks) (H : History) → HoldsWith sum marks noted size (shown size fault m line device) fault line' m' H
+      → HoldsShown sum marks noted size device fault line' m' H
+  holds_shown marks H holds = record {
+    shows = subst (λ (d : State). HoldsWith sum marks noted size d fault line' m' H) (sym (shown_same size fault m m' line line' same device)) holds;
     rests = rests;
   }
 
-  pub fits_shown : (pins : ℕ) (H : History) (A f : ℕ) (U : List Message)
+  pub fits_shown : (marks : JoinedMarks) (pins : ℕ) (H : History) (A f : ℕ) (U : List Message)
       → (fault ≡ None → NoHeaderOfZeros sum → HidesFrom sum size device m' line' (logged H))
-      → FitsWith sum noted size (shown size fault m line device) fault line' m' pins H A f U → FitsShown sum noted size device fault line' m' pins H A f U
-  fits_shown pins H A f U hides fits = record {
-    shows = subst (λ (d : State). FitsWith sum noted size d fault line' m' pins H A f U) (sym (shown_same size fault m m' line line' same device)) fits;
+      → (fault ≡ None → NoHeaderOfZeros sum → MarksFitFrom sum size device.snapshots.file (cleared size m line device.log.bytes) marks)
+      → FitsWith sum marks noted size (shown size fault m line device) fault line' m' pins H A f U
+      → FitsShown sum marks noted size device fault line' m' pins H A f U
+  fits_shown marks pins H A f U hides marked fits = record {
+    shows = subst (λ (d : State). FitsWith sum marks noted size d fault line' m' pins H A f U) (sym (shown_same size fault m m' line line' same device)) fits;
     rests = rests;
     hides = hides;
+    marked = λ none zeros.
+        subst (λ (l : List ℕ). MarksFitFrom sum size device.snapshots.file l marks) (sym (same device.log.bytes)) (marked none zeros);
   }
 
 -- A log that holds a history over its device, as one does that begins, shows the device itself, and hides nothing.
@@ -86,10 +95,10 @@ module _ (sum : List ℕ → ℕ) (size : ℕ) (some : 0 < size) (t : Trace) (m 
   abbrev device : State
   device = state_of t
 
-  module _ (H : History) (holds : HoldsLine sum size device None line H) (slots : HasSlots size line device.log.bytes None m) where
+  module _ (marks : JoinedMarks) (H : History) (holds : HoldsLine sum marks size device None line H) (slots : HasSlots size line device.log.bytes None m) where
     begins_rests : device.log ≡ at_rest device.log.bytes
     begins_rests = by line holds where
-      by : (vs : List SegmentView) → HoldsLine sum size device None vs H → device.log ≡ at_rest device.log.bytes
+      by : (vs : List SegmentView) → HoldsLine sum marks size device None vs H → device.log ≡ at_rest device.log.bytes
       by [] held = absurd held
       by (v ∷ vs) held =
           let on = held.own.written refl in
@@ -97,37 +106,43 @@ module _ (sum : List ℕ → ℕ) (size : ℕ) (some : 0 < size) (t : Trace) (m 
 
     begins_same : cleared size m line device.log.bytes ≡ device.log.bytes
     begins_same = cleared_itself size some m line device.log.bytes (slots.zeros refl)
-        (λ n v there. with_part sum size device None line n v H holds there (λ stays own segment. segment.laid refl))
+        (λ n v there. with_part sum size device None _ line n v H holds there (λ stays own segment. segment.laid refl))
 
     begins_shown : shown size None m line device ≡ device
     begins_shown = ap (with_log device) (ap at_rest begins_same ∙ sym begins_rests)
 
   module _ (noted : List Batch) where
-    pub holds_begun : (H : History) → HoldsWith sum noted size device None line m H → HoldsShown sum noted size device None line m H
-    holds_begun H holds = record {
-      shows = subst (λ (d : State). HoldsWith sum noted size d None line m H) (sym (begins_shown H holds.holds holds.slots)) holds;
-      rests = λ none. begins_rests H holds.holds holds.slots;
+    pub holds_begun : (marks : JoinedMarks) (H : History) → HoldsWith sum marks noted size device None line m H
+        → HoldsShown sum marks noted size device None line m H
+    holds_begun marks H holds = record {
+      shows = subst (λ (d : State). HoldsWith sum marks noted size d None line m H) (sym (begins_shown marks H holds.holds holds.slots)) holds;
+      rests = λ none. begins_rests marks H holds.holds holds.slots;
     }
 
-    pub fits_begun : (pins : ℕ) (H : History) (A f : ℕ) (U : List Message) → FitsWith sum noted size device None line m pins H A f U
-        → FitsShown sum noted size device None line m pins H A f U
-    fits_begun pins H A f U fits =
-        let held = line_holds sum size device None line fits.reach pins H A f U fits.parts in
+    pub fits_begun : (marks : JoinedMarks) (pins : ℕ) (H : History) (A f : ℕ) (U : List Message)
+        → ((first : SnapshotModel) → BeginsFrom sum device.snapshots.file first → marks.durable ≡ pos (stable_place first.stable))
+        → FitsWith sum marks noted size device None line m pins H A f U → FitsShown sum marks noted size device None line m pins H A f U
+    fits_begun marks pins H A f U at fits =
+        let held = line_holds sum size device None _ line fits.reach pins H A f U fits.parts in
         record {
-          shows = subst (λ (d : State). FitsWith sum noted size d None line m pins H A f U) (sym (begins_shown (logged H) held fits.slots)) fits;
-          rests = λ none. begins_rests (logged H) held fits.slots;
+          shows = subst (λ (d : State). FitsWith sum marks noted size d None line m pins H A f U) (sym (begins_shown marks (logged H) held fits.slots)) fits;
+          rests = λ none. begins_rests marks (logged H) held fits.slots;
           hides = λ none zeros first begins.
-              hides_at_rest sum size t m line (begins_same (logged H) held fits.slots) (begins_rests (logged H) held fits.slots) (fits.numbers zeros)
+              hides_at_rest sum size t m line (begins_same marks (logged H) held fits.slots) (begins_rests marks (logged H) held fits.slots) (fits.numbers zeros)
               fits.slots.own (least_place size first) 0 (logged H) (omega arith);
+          -- the marks are the place with which it began
+          marked = λ none zeros first begins.
+              record { joined = marks.ordered; stands = inl (let same = at first begins in omega (arith, ints, same)) };
         }
 
 -- Of segments of which there is one: another count of pins fits, where one is out while there are messages that aren't marked,
-module _ (sum : List ℕ → ℕ) (noted : List Batch) (size : ℕ) (device : State) (fault : Option IoError) (v : SegmentView) (vs : List SegmentView) (m : Machine)
-    (pins : ℕ) (H : History) (A f : ℕ) (U : List Message) (fits : FitsShown sum noted size device fault (v ∷ vs) m pins H A f U) where
-  pub fits_pins : (now : ℕ) → (U ≢ [] → 0 < now) → FitsShown sum noted size device fault (v ∷ vs) m now H A f U
+module _ (sum : List ℕ → ℕ) (marks : JoinedMarks) (noted : List Batch) (size : ℕ) (device : State) (fault : Option IoError) (v : SegmentView)
+    (vs : List SegmentView) (m : Machine) (pins : ℕ) (H : History) (A f : ℕ) (U : List Message)
+    (fits : FitsShown sum marks noted size device fault (v ∷ vs) m pins H A f U) where
+  pub fits_pins : (now : ℕ) → (U ≢ [] → 0 < now) → FitsShown sum marks noted size device fault (v ∷ vs) m now H A f U
   fits_pins now out = fits_anew fits now A f (fits-pinned _ _ _ _ _ _ _ _ _ _ H A f U fits.shows.parts now U out)
 
   -- and all below the stable end counts as acknowledged.
-  pub fits_acknowledges : FitsShown sum noted size device fault (v ∷ vs) m pins H
+  pub fits_acknowledges : FitsShown sum marks noted size device fault (v ∷ vs) m pins H
       (max A (end_below (stable_below (v.parts.site.place + v.parts.written_len) noted) H)) f U
   fits_acknowledges = fits_anew fits pins _ f (fits-acknowledged _ _ _ _ _ _ _ _ _ _ H A f U fits.shows.parts _ _ fits.shows.batches)

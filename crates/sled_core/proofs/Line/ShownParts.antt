@@ -5,7 +5,6 @@ use Rattle.std.proofs.Common.{◌≡◌, ◌/◌, ◌≤◌, ◌<◌, ℕ, List,
 use Rattle.std.specs.List.{slice_get}
 use Rattle.sled_codec.specs.declared.result.DiskPtr.TheVariants.{Inline}
 use Rattle.sled_codec.specs.History.{Batch, History, Message}
-use Rattle.sled_codec.specs.Snapshots.{stable_place}
 use Rattle.sled_store.specs.Device.{State}
 use Rattle.sled_store.specs.Foreign.{HeaderWasPlaced, RecordWasPlaced}
 use Rattle.sled_store.specs.SegmentStates.{Machine}
@@ -13,10 +12,13 @@ use Rattle.sled_core.specs.Begun.{SegmentView}
 use Rattle.sled_core.specs.LogFile.{MessageStands, StaysFrom}
 use Rattle.sled_core.specs.Logged.{logged}
 use Rattle.sled_core.specs.Recoverable.{NoHeaderOfZeros}
+use Rattle.sled_core.specs.declared.logger.joined_marks.JoinedMarks.{JoinedMarks}
+use Rattle.sled_core.specs.Fits.{held_of}
 use Rattle.sled_core.specs.inside.Cleared.{IsWrittenIn, StandWritten, cleared, is_stale}
 use Rattle.sled_core.specs.inside.Fits.{HoldsLine, begun_segment, parts_in}
 use Rattle.sled_core.specs.inside.FreeSlots.{HasSlot}
 use Rattle.sled_core.specs.inside.Hides.{ReadsShown}
+use Rattle.sled_core.specs.inside.LogSegments.{held_since}
 use Rattle.sled_core.specs.inside.OwnLog.{HasOwnSlot}
 use Rattle.sled_core.specs.inside.Reached.{StandsAmong}
 use Rattle.sled_core.specs.inside.Running.{FitsWith}
@@ -35,7 +37,8 @@ use Rattle.sled_core.proofs.Reserve.Ranges.{at_there}
 
 -- What is written of each segment of a line that holds a history over what is shown stands in the file as it does there.
 module _ (sum : List ℕ → ℕ) (size : ℕ) (some : 0 < size) (device : State) (fault : Option IoError) (whole : fault ≡ None) (m : Machine) (place : ℕ)
-    (line : List SegmentView) (are : AreSegments size place line) (H : History) (holds : HoldsLine sum size (shown size fault m line device) fault line H)
+    (line : List SegmentView) (are : AreSegments size place line) (H : History) (marks : JoinedMarks)
+    (holds : HoldsLine sum marks size (shown size fault m line device) fault line H)
     (taken : (n : ℕ) (v : SegmentView) → slice_get line n ≡ Some v → HasSlot size m v) where
   pub line_written : (n : ℕ) (v : SegmentView) → slice_get line n ≡ Some v
       → IsWrittenIn (cleared size m line device.log.bytes) device.log.bytes v.parts.site.slot v.parts.bytes v.parts.written_len v.parts.sealed
@@ -48,16 +51,17 @@ module _ (sum : List ℕ → ℕ) (size : ℕ) (some : 0 < size) (device : State
         stand = written_there size some m line file rises n v there (taken n v there) apart
             (subst (λ (l : List ℕ). StandWritten l v.parts.site.slot v.parts.bytes v.parts.written_len v.parts.sealed)
             (shown_bytes size fault m line device whole)
-            (with_part sum size (shown size fault m line device) fault line n v H holds there (λ stays own segment.
+            (with_part sum size (shown size fault m line device) fault _ line n v H holds there (λ stays own segment.
             (laid_parts (shown size fault m line device).log.bytes v.parts.site.slot v.parts.bytes v.parts.written_len v.parts.sealed size
             (segment.laid whole)).1)));
       }
 
 -- And so is what stays of earlier segments.
 module _ (sum : List ℕ → ℕ) (size : ℕ) (some : 0 < size) (device : State) (m : Machine) (v : SegmentView) (vs : List SegmentView) (place : ℕ)
-    (are : AreSegments size place (v ∷ vs)) (H : History) (holds : HoldsLine sum size (shown size None m (v ∷ vs) device) None (v ∷ vs) H)
+    (are : AreSegments size place (v ∷ vs)) (H : History) {marks : JoinedMarks}
+    (holds : HoldsLine sum marks size (shown size None m (v ∷ vs) device) None (v ∷ vs) H)
     (taken : (n : ℕ) (u : SegmentView) → slice_get (v ∷ vs) n ≡ Some u → HasSlot size m u) where
-  pub line_older : (e : Message) → StaysFrom H (stable_place holds.begun.first.stable) e → e.place < v.parts.site.place → (lid : ℕ) → e.pointer ≡ Inline lid
+  pub line_older : (e : Message) → StaysFrom H (held_of holds.begun) e → e.place < v.parts.site.place → (lid : ℕ) → e.pointer ≡ Inline lid
       → MessageStands sum size (cleared size m (v ∷ vs) device.log.bytes) lid (e.place / size) e
       → MessageStands sum size device.log.bytes lid (e.place / size) e
   line_older e still below lid inline s =
@@ -68,10 +72,10 @@ module _ (sum : List ℕ → ℕ) (size : ℕ) (some : 0 < size) (device : State
       (λ n u at. (line_elsewhere sum size (shown size None m line device) None refl v vs H holds e still below lid inline n u at).apart))
       s
 
-module _ (sum : List ℕ → ℕ) (noted : List Batch) (size : ℕ) (big : 256 ≤ size) (device : State) (fault : Option IoError) (whole : fault ≡ None)
+module _ (sum : List ℕ → ℕ) (marks : JoinedMarks) (noted : List Batch) (size : ℕ) (big : 256 ≤ size) (device : State) (fault : Option IoError) (whole : fault ≡ None)
     (zeros : NoHeaderOfZeros sum) (m : Machine) (pins : ℕ) (H : History) (A f : ℕ) (U : List Message) (v : SegmentView) (vs : List SegmentView)
     (are : AreSegments size v.parts.site.place (v ∷ vs))
-    (fits : FitsWith sum noted size (shown size fault m (v ∷ vs) device) fault (v ∷ vs) m pins H A f U) where
+    (fits : FitsWith sum marks noted size (shown size fault m (v ∷ vs) device) fault (v ∷ vs) m pins H A f U) where
   abbrev file : List ℕ
   file = cleared size m (v ∷ vs) device.log.bytes
 
@@ -85,10 +89,10 @@ module _ (sum : List ℕ → ℕ) (noted : List Batch) (size : ℕ) (big : 256 �
   file_whole =
       subst (λ (l : List ℕ). AreWhole sum size l (logged H) v.parts.site.place m) (shown_bytes size fault m (v ∷ vs) device whole) (fits.whole whole zeros)
 
-  pub file_among : StandsAmong sum size file v.parts.site v.parts.written_len (map begun_segment (map parts_in vs)) fits.reach (logged H)
+  pub file_among : StandsAmong sum (held_since size marks fits.parts.holds.begun.first) size file v.parts.site v.parts.written_len (map begun_segment (map parts_in vs)) fits.reach (logged H)
       fits.parts.holds.begun.first
   file_among =
-      subst (λ (l : List ℕ). StandsAmong sum size l v.parts.site v.parts.written_len (map begun_segment (map parts_in vs)) fits.reach (logged H)
+      subst (λ (l : List ℕ). StandsAmong sum (held_since size marks fits.parts.holds.begun.first) size l v.parts.site v.parts.written_len (map begun_segment (map parts_in vs)) fits.reach (logged H)
       fits.parts.holds.begun.first) (shown_bytes size fault m (v ∷ vs) device whole) (fits.parts.among whole zeros)
 
   pub file_reads : ReadsShown sum size m file device.log.bytes
@@ -99,18 +103,18 @@ module _ (sum : List ℕ → ℕ) (noted : List Batch) (size : ℕ) (big : 256 �
   file_own slot =
       subst (λ (l : List ℕ). HasOwnSlot sum size (HeaderWasPlaced device.placed) (RecordWasPlaced sum size device.placed) l slot)
       (shown_bytes size fault m (v ∷ vs) device whole)
-      (every_slot sum size big zeros sees fault whole v.parts.site.place (v ∷ vs) are (logged H) fits.parts.holds (fits.own whole zeros) slot)
+      (every_slot sum size big zeros sees fault whole v.parts.site.place (v ∷ vs) are (logged H) marks fits.parts.holds (fits.own whole zeros) slot)
 
   pub file_written : (n : ℕ) (u : SegmentView) → slice_get (v ∷ vs) n ≡ Some u
       → IsWrittenIn file device.log.bytes u.parts.site.slot u.parts.bytes u.parts.written_len u.parts.sealed
-  file_written = line_written sum size (omega (arith, big)) device fault whole m v.parts.site.place (v ∷ vs) are (logged H) fits.parts.holds file_taken
+  file_written = line_written sum size (omega (arith, big)) device fault whole m v.parts.site.place (v ∷ vs) are (logged H) marks fits.parts.holds file_taken
 
 -- So each line that a log fits over what it shows is read of bytes that count.
-module _ (sum : List ℕ → ℕ) (noted : List Batch) (size : ℕ) (big : 256 ≤ size) (device : State) (fault : Option IoError) (whole : fault ≡ None)
+module _ (sum : List ℕ → ℕ) (marks : JoinedMarks) (noted : List Batch) (size : ℕ) (big : 256 ≤ size) (device : State) (fault : Option IoError) (whole : fault ≡ None)
     (zeros : NoHeaderOfZeros sum) (m : Machine) (pins : ℕ) (H : History) (A f : ℕ) (U : List Message) where
   pub line_reads : (place : ℕ) (line : List SegmentView) → AreSegments size place line
-      → FitsWith sum noted size (shown size fault m line device) fault line m pins H A f U
+      → FitsWith sum marks noted size (shown size fault m line device) fault line m pins H A f U
       → ReadsShown sum size m (cleared size m line device.log.bytes) device.log.bytes
   line_reads place [] are fits = absurd fits.parts
   line_reads place (v ∷ vs) are fits =
-      file_reads sum noted size big device fault whole zeros m pins H A f U v vs (subst (λ p. AreSegments size p (v ∷ vs)) (sym are.0.at) are) fits
+      file_reads sum marks noted size big device fault whole zeros m pins H A f U v vs (subst (λ p. AreSegments size p (v ∷ vs)) (sym are.0.at) are) fits

@@ -10,6 +10,7 @@ use Rattle.sled_store.proofs.LogFile.LogLemmas.{at_rest_left}
 use Rattle.sled_core.specs.Begun.{SegmentView}
 use Rattle.sled_core.specs.OpenBatches.{stable_below}
 use Rattle.sled_core.specs.declared.iobuf.Sealed.{Sealed}
+use Rattle.sled_core.specs.declared.logger.joined_marks.JoinedMarks.{JoinedMarks}
 use Rattle.sled_core.specs.inside.Cleared.{cleared}
 use Rattle.sled_core.specs.inside.Fits.{HoldsLine}
 use Rattle.sled_core.specs.inside.FreeSlots.{HasSlot, HasSlots}
@@ -114,23 +115,23 @@ module _ (sum : List ℕ → ℕ) (size : ℕ) (big : 256 ≤ size) (device : St
         })
 
     -- What segments hold over the one they hold over the other,
-    pub holds_moved : (later : Option IoError) (vs : List SegmentView) (H : History) → HoldsLine sum size sees_after later vs H
-        → HoldsLine sum size shown_now later vs H
-    holds_moved later vs H holds =
-        subst (λ (s : State). HoldsLine sum size s later vs H) moved (line_over sum size sees_after shown_now later refl vs H holds)
+    pub holds_moved : (marks : JoinedMarks) (later : Option IoError) (vs : List SegmentView) (H : History) → HoldsLine sum marks size sees_after later vs H
+        → HoldsLine sum marks size shown_now later vs H
+    holds_moved marks later vs H holds =
+        subst (λ (s : State). HoldsLine sum marks size s later vs H) moved (line_over sum size sees_after shown_now later refl _ vs H holds)
 
     -- and what they fit they fit.
-    pub fits_moved : (later : Option IoError) (vs : List SegmentView) (reach pins : ℕ) (H : History) (A f : ℕ) (U : List Message)
-        → FitsLine sum size sees_after later vs reach pins H A f U → FitsLine sum size shown_now later vs reach pins H A f U
-    fits_moved later vs reach pins H A f U fits =
-        subst (λ (s : State). FitsLine sum size s later vs reach pins H A f U) moved
+    pub fits_moved : (marks : JoinedMarks) (later : Option IoError) (vs : List SegmentView) (reach pins : ℕ) (H : History) (A f : ℕ) (U : List Message)
+        → FitsLine sum marks size sees_after later vs reach pins H A f U → FitsLine sum marks size shown_now later vs reach pins H A f U
+    fits_moved marks later vs reach pins H A f U fits =
+        subst (λ (s : State). FitsLine sum marks size s later vs reach pins H A f U) moved
         (fits_line_over sum size sees_after shown_now later refl H A f U
         (λ first named. record {
           names = named.names;
           own_names = λ ok. own_same sum sees_after (with_rest sees_after shown_now) refl refl (named.own_names ok);
-        })
+        }) _
         vs reach pins (
           λ items. items,
           λ was. subst (LeavesRecovering sum size H (stable_below reach H.batches) f) (sym moved)
-              (recovers_moved H (stable_below reach H.batches) f (line_leaves sum size sees_after later vs reach pins H A f U fits)),
+              (recovers_moved H (stable_below reach H.batches) f (line_leaves sum marks size sees_after later vs reach pins H A f U fits)),
         ) fits)

@@ -8,13 +8,14 @@ use Rattle.std.proofs.lemmas.Bool.{cases_Bool, cases_order}
 use Rattle.sled_codec.specs.declared.result.DiskPtr.TheVariants.{Inline}
 use Rattle.sled_codec.specs.History.{Batch, History, Message}
 use Rattle.sled_codec.specs.Record.{IsHeader}
-use Rattle.sled_codec.specs.Snapshots.{stable_place}
 use Rattle.sled_store.specs.Device.{State}
 use Rattle.sled_store.specs.SegmentStates.{Machine, is_free, slot_at}
 use Rattle.sled_store.proofs.Segments.FilledLemmas.{slot_before}
 use Rattle.sled_core.specs.Begun.{SegmentView}
 use Rattle.sled_core.specs.declared.iobuf.SegmentPosition.{SegmentPosition}
 use Rattle.sled_core.specs.LogFile.{HasHeader, IsLogFile, MessageStands, StandsElsewhere, StandsHere, StaysFrom}
+use Rattle.sled_core.specs.declared.logger.joined_marks.JoinedMarks.{JoinedMarks}
+use Rattle.sled_core.specs.Fits.{held_of}
 use Rattle.sled_core.specs.inside.Cleared.{cleared, is_stale}
 use Rattle.sled_core.specs.inside.Fits.{HoldBehind, HoldsLine, parts_in}
 use Rattle.sled_core.specs.inside.FreeSlots.{HasSlot}
@@ -133,14 +134,14 @@ module _ (sum : List ℕ → ℕ) (size : ℕ) (device : State) (fault : Option 
   behind_elsewhere place (x ∷ xs) stays batches ms (own, later, all, next, rest) e still below lid inline (suc n) u at =
       behind_elsewhere (place + size) xs stays batches later rest e still (omega (arith, below)) lid inline n u at
 
-  pub line_elsewhere : (v : SegmentView) (vs : List SegmentView) (H : History) (holds : HoldsLine sum size device fault (v ∷ vs) H) → (e : Message)
-      → StaysFrom H (stable_place holds.begun.first.stable) e → e.place < v.parts.site.place → (lid : ℕ) → e.pointer ≡ Inline lid
+  pub line_elsewhere : (v : SegmentView) (vs : List SegmentView) (H : History) {marks : JoinedMarks}
+      (holds : HoldsLine sum marks size device fault (v ∷ vs) H) → (e : Message) → StaysFrom H (held_of holds.begun) e → e.place < v.parts.site.place → (lid : ℕ) → e.pointer ≡ Inline lid
       → (n : ℕ) (u : SegmentView) → slice_get (v ∷ vs) n ≡ Some u → StandsElsewhere sum size device.log.bytes u.parts.site lid e
   line_elsewhere v vs H holds e still below lid inline zero u at =
       let same : v ≡ u = cc in
       subst (λ (y : SegmentView). StandsElsewhere sum size device.log.bytes y.parts.site lid e) same
-      ((on_file sum size device.log v.parts.site v.parts.written_len holds.own.records.earlier (StaysFrom H (stable_place holds.begun.first.stable))
+      ((on_file sum size device.log v.parts.site v.parts.written_len holds.own.records.earlier (StaysFrom H (held_of holds.begun))
       (holds.own.written whole)).elsewhere e still below lid inline)
   line_elsewhere v vs H holds e still below lid inline (suc n) u at =
-      behind_elsewhere (v.parts.site.place + size) vs (StaysBelow H (stable_place holds.begun.first.stable) v.parts.site.place) H.batches holds.later
+      behind_elsewhere (v.parts.site.place + size) vs (StaysBelow H (held_of holds.begun) v.parts.site.place) H.batches holds.later
       holds.others e (still, below) (omega (arith, below)) lid inline n u at

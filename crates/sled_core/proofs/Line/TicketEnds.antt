@@ -36,6 +36,7 @@ use Rattle.sled_core.proofs.Holds.Facts.{nth_facts}
 use Rattle.sled_core.proofs.Line.EndedKeeps.{fits_ended, goes_on_ended, holds_ended, keeps_ended, left_ended, position_ended}
 use Rattle.sled_core.proofs.Line.EndedTickets.{ended_fillings, ended_heads, ended_keeps_given, ended_takes, others_await, says_place, ticket_among, ticket_there}
 use Rattle.sled_core.proofs.Line.LogSpans.{ended_buffers}
+use Rattle.sled_core.proofs.Line.Moves.{MarksStand}
 
 -- The reservation of a ticket, by numbers.
 pub record IsReservedAt {D C : Type 0} (log : Log D C) (ticket : Reservation) (n index : ℕ) : Type 0 where
@@ -137,7 +138,7 @@ module _ {D C : Type 0} {old new : Log D C} {ticket : Reservation} {n index : �
   ticket_others trace sum H other m holds awaits apart =
       subst (λ (l : List SegmentView). AwaitsIn l other (in_log m)) (sym e.line)
       (others_await old.config.config.segment_size (line_of old) old.segments.first.site.place n v e.at.among (nth_facts old) i r e.at.there
-      e.at.own.open_yet e.text e.short state sum (shown_of trace old) old.fault.kept (logged H) holds.shows.holds ticket other (in_log m)
+      e.at.own.open_yet e.text e.short state sum _ (shown_of trace old) old.fault.kept (logged H) holds.shows.holds ticket other (in_log m)
       e.at.own.place awaits apart)
 
   -- Where nothing else of the log changes, all is kept that isn't of its segment,
@@ -157,7 +158,7 @@ module _ {D C : Type 0} {old new : Log D C} {ticket : Reservation} {n index : �
       -- holds what the changed segments hold,
       pub ticket_holds : (H : History)
           → RestsWhole old.fault.kept (state_of (trace old.config.device)).log
-          → HoldsWith sum (noted_in old) old.config.config.segment_size (shown_of trace old) old.fault.kept
+          → HoldsWith sum old.marks (noted_in old) old.config.config.segment_size (shown_of trace old) old.fault.kept
           (set (line_of old) n (ended_now i r e.text state v)) (machine_of old.accountant) (logged H)
           → Holds trace sum new H
       ticket_holds = holds_ended old new n v e.at.among i r e.at.there e.at.own.open_yet e.text e.short state e.line rest trace sum
@@ -166,8 +167,9 @@ module _ {D C : Type 0} {old new : Log D C} {ticket : Reservation} {n index : �
       pub ticket_fits : (H' H : History) (A f : ℕ) (U : List Message)
           → (old.fault.kept ≡ None → NoHeaderOfZeros sum → HidesFrom sum old.config.config.segment_size (state_of (trace old.config.device))
           (machine_of old.accountant) (line_of old) (logged H'))
+          → MarksStand trace sum old
           → RestsWhole old.fault.kept (state_of (trace old.config.device)).log
-          → FitsWith sum (noted_in old) old.config.config.segment_size (shown_of trace old) old.fault.kept
+          → FitsWith sum old.marks (noted_in old) old.config.config.segment_size (shown_of trace old) old.fault.kept
           (set (line_of old) n (ended_now i r e.text state v)) (machine_of old.accountant) old.pins H A f U
           → Fits trace sum new H A f U
       ticket_fits = fits_ended old new n v e.at.among i r e.at.there e.at.own.open_yet e.text e.short state e.line rest trace sum

@@ -98,7 +98,7 @@ module _ (sum : List ℕ → ℕ) (none : NoHeaderOfZeros sum) (size : ℕ) (som
     (taken : (n : ℕ) (u : SegmentView) → slice_get (v ∷ vs) n ≡ Some u → HasSlot size m u) (own : HaveOwn size (line_end size (v ∷ vs)) m)
     (s : State) (base : ℕ) (H : History) (first : SnapshotModel) (reach : ℕ) (hides : Hides sum size s m (v ∷ vs) (least_place size first) base H)
     (whole : AreWhole sum size (cleared size m (v ∷ vs) s.log.bytes) H v.parts.site.place m)
-    (among : StandsAmong sum size (cleared size m (v ∷ vs) s.log.bytes) v.parts.site v.parts.written_len (map begun_segment (map parts_in vs)) reach H first)
+    {counts : ℕ} (among : StandsAmong sum counts size (cleared size m (v ∷ vs) s.log.bytes) v.parts.site v.parts.written_len (map begun_segment (map parts_in vs)) reach H first)
     (own_shown : (slot : ℕ) → HasOwnSlot sum size (HeaderWasPlaced s.placed) (RecordWasPlaced sum size s.placed) (cleared size m (v ∷ vs) s.log.bytes) slot)
     (held : base ≤ v.parts.site.place)
     -- the buffer of a segment

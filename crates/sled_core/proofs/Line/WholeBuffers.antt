@@ -349,10 +349,10 @@ module _ {D C : Type 0} (trace : D → Trace) (sum : List ℕ → ℕ) (log : Lo
       let end = last_used_to size log.reserved_to (segment_view log.segments.first) (map segment_view log.segments.behind.items) log.line.filled (grind (arith, nat_tests, short, big)) in
       λ i. record { next = (current_of log).parts.site.place + (if sym short i then size else length (current_of log).parts.bytes); from = sym end i }
 
-  segment_told : HoldsLine sum size device log.fault.kept (line_of log) (logged H) → log.fault.kept ≡ None → (n : ℕ) (v : SegmentView) → slice_get (line_of log) n ≡ Some v → IsTold sum size (given_up_of log) (heads_of log) (own_fillings log) v
+  segment_told : HoldsLine sum log.marks size device log.fault.kept (line_of log) (logged H) → log.fault.kept ≡ None → (n : ℕ) (v : SegmentView) → slice_get (line_of log) n ≡ Some v → IsTold sum size (given_up_of log) (heads_of log) (own_fillings log) v
   segment_told holds none n v there =
       let is : IsSegment size v.parts.site.place v = nth_segment size log.segments.first.site.place (line_of log) (line_segments log) n v there in
-      with_part sum size device log.fault.kept (line_of log) n v (logged H) holds there (λ stays own segment.
+      with_part sum size device log.fault.kept _ (line_of log) n v (logged H) holds there (λ stays own segment.
       let on = segment.written none in
       record {
         aligned = segment.records.place_begins;

@@ -21,6 +21,7 @@ use Rattle.sled_core.specs.inside.Running.{FitsIn, FitsLine}
 use Rattle.sled_core.specs.SealedBuffers.{bytes_between, sealed_end, writing}
 use Rattle.sled_core.specs.inside.SealedBuffers.{is_ready, run_end, written_at}
 use Rattle.sled_core.specs.OpenBatches.{stable_below}
+use Rattle.sled_core.specs.declared.logger.joined_marks.JoinedMarks.{JoinedMarks}
 use Rattle.sled_core.specs.inside.Turned.{promoted, write_in, write_of, written_now}
 use Rattle.sled_core.proofs.Behind.FitsWritten.{behind-along, behind-fits-written}
 use Rattle.sled_core.proofs.Behind.FullWrites.{fits_written_full, written_plain}
@@ -38,9 +39,9 @@ use Rattle.sled_core.proofs.Sealed.Slices.{end_to, span_within}
 use Rattle.sled_core.proofs.Start.FreeSlots.{written_free}
 
 -- what was acknowledged is stable
-pub passes_line : (sum : List ℕ → ℕ) (size : ℕ) (device : State) (fault : Option IoError) (line : List SegmentView) (reach pins : ℕ) (H : History) (A f : ℕ) (U : List Message) → FitsLine sum size device fault line reach pins H A f U → A ≤ stable_below reach H.batches
-passes_line sum size device fault [] reach pins H A f U fits = absurd fits
-passes_line sum size device fault (v ∷ vs) reach pins H A f U fits = fits.passes
+pub passes_line : (sum : List ℕ → ℕ) (marks : JoinedMarks) (size : ℕ) (device : State) (fault : Option IoError) (line : List SegmentView) (reach pins : ℕ) (H : History) (A f : ℕ) (U : List Message) → FitsLine sum marks size device fault line reach pins H A f U → A ≤ stable_below reach H.batches
+passes_line sum marks size device fault [] reach pins H A f U fits = absurd fits
+passes_line sum marks size device fault (v ∷ vs) reach pins H A f U fits = fits.passes
 
 module _ (sum : List ℕ → ℕ) (size : ℕ) (big : 256 ≤ size) (device : State) (fault : Option IoError) (whole : fault ≡ None) (v : SegmentView) (k : ℕ) (b : Sealed) (there : slice_get v.parts.sealed k ≡ Some b) (ready : is_ready b ≡ true) where
   -- where the buffer begins, and its bytes
@@ -71,50 +72,50 @@ module _ (sum : List ℕ → ℕ) (size : ℕ) (big : 256 ≤ size) (device : St
       ends_rise v.parts.written_len v.parts.reserved v.parts.sealed (length v.parts.bytes) is.are (omega (arith, up, begins)) begins
 
   -- The segments hold the same.
-  pub holds_write : (place : ℕ) (line : List SegmentView) → AreSegments size place line → (n : ℕ) → slice_get line n ≡ Some v → (H : History) → HoldsLine sum size device fault line H → HoldsLine sum size buffer_synced fault (set line n now) H
-  holds_write place [] are n among H holds = absurd holds
-  holds_write place (x ∷ xs) are zero among H holds =
+  pub holds_write : (marks : JoinedMarks) (place : ℕ) (line : List SegmentView) → AreSegments size place line → (n : ℕ) → slice_get line n ≡ Some v → (H : History) → HoldsLine sum marks size device fault line H → HoldsLine sum marks size buffer_synced fault (set line n now) H
+  holds_write marks place [] are n among H holds = absurd holds
+  holds_write marks place (x ∷ xs) are zero among H holds =
       let same : x ≡ v = cc in
       let is : IsSegment size place v = subst (λ (y : SegmentView). IsSegment size place y) same are.0 in
-      holds_written_one sum size v.parts.site device fault v.parts.bytes v.parts.written_len v.parts.sealed v.parts.reserved H (subst (λ (y : SegmentView). HoldsLine sum size device fault (y ∷ xs) H) same holds)
+      holds_written_one sum size v.parts.site device fault v.parts.bytes v.parts.written_len v.parts.sealed v.parts.reserved H (subst (λ (y : SegmentView). HoldsLine sum marks size device fault (y ∷ xs) H) same holds)
       is.short big is.place_small is.slot_small is.are is.fresh (rises place is) whole k b there ready buffer_synced refl refl
-  holds_write place (x ∷ xs) are (suc n) among H holds =
+  holds_write marks place (x ∷ xs) are (suc n) among H holds =
       let is : IsSegment size v.parts.site.place v = nth_segment size (place + size) xs are.1 n v among in
-      subst (λ (l : List SegmentParts). HoldsIn sum (log_parts size x.parts.site buffer_synced fault x.parts.bytes x.parts.written_len x.parts.sealed x.parts.reserved) l H) (sym (parts_set xs n v now among))
+      subst (λ (l : List SegmentParts). HoldsIn sum marks (log_parts size x.parts.site buffer_synced fault x.parts.bytes x.parts.written_len x.parts.sealed x.parts.reserved) l H) (sym (parts_set xs n v now among))
       (behind-written sum size x.parts.site device fault x.parts.bytes x.parts.written_len x.parts.sealed x.parts.reserved H (map parts_in (take n xs)) v.parts (map parts_in (drop (suc n) xs))
-      (subst (λ (l : List SegmentParts). HoldsIn sum (log_parts size x.parts.site device fault x.parts.bytes x.parts.written_len x.parts.sealed x.parts.reserved) l H) (parts_split xs n v among) holds)
+      (subst (λ (l : List SegmentParts). HoldsIn sum marks (log_parts size x.parts.site device fault x.parts.bytes x.parts.written_len x.parts.sealed x.parts.reserved) l H) (parts_split xs n v among) holds)
       big whole are.0.short are.0.are are.0.begins is.place_small is.slot_small is.fresh k b there ready buffer_synced refl refl)
 
   module _ (pins : ℕ) (H : History) (A f : ℕ) (U : List Message) (recorded : records_to v.parts.filled (length v.parts.bytes) ≤ records_end v.parts.reserved (length v.parts.bytes)) where
     -- At each moment of the calls a crash leaves what can be recovered.
-    pub along_write : (place reach : ℕ) (line : List SegmentView) → AreSegments size place line → (n : ℕ) → slice_get line n ≡ Some v → FitsLine sum size device fault line reach pins H A f U → Along (LeavesRecovering sum size H (stable_below reach H.batches) f) buffer_calls device
-    along_write place reach [] are n among fits = absurd fits
-    along_write place reach (x ∷ xs) are zero among fits =
+    pub along_write : (marks : JoinedMarks) (place reach : ℕ) (line : List SegmentView) → AreSegments size place line → (n : ℕ) → slice_get line n ≡ Some v → FitsLine sum marks size device fault line reach pins H A f U → Along (LeavesRecovering sum size H (stable_below reach H.batches) f) buffer_calls device
+    along_write marks place reach [] are n among fits = absurd fits
+    along_write marks place reach (x ∷ xs) are zero among fits =
         let same : x ≡ v = cc in
         let is : IsSegment size place v = subst (λ (y : SegmentView). IsSegment size place y) same are.0 in
-        write_along sum size v.parts.site device fault v.parts.bytes v.parts.written_len v.parts.sealed v.parts.reserved pins H A f U (subst (λ (y : SegmentView). FitsLine sum size device fault (y ∷ xs) reach pins H A f U) same fits)
+        write_along sum size v.parts.site device fault v.parts.bytes v.parts.written_len v.parts.sealed v.parts.reserved pins H A f U (subst (λ (y : SegmentView). FitsLine sum marks size device fault (y ∷ xs) reach pins H A f U) same fits)
         is.short big is.place_small is.slot_small is.are is.fresh (rises place is) whole k b there ready
-    along_write place reach (x ∷ xs) are (suc n) among fits =
+    along_write marks place reach (x ∷ xs) are (suc n) among fits =
         let is : IsSegment size v.parts.site.place v = nth_segment size (place + size) xs are.1 n v among in
         behind-along sum size x.parts.site device fault x.parts.bytes x.parts.written_len x.parts.sealed x.parts.reserved pins H A f U (map parts_in (take n xs)) v.parts (map parts_in (drop (suc n) xs))
-        (subst (λ (l : List SegmentParts). FitsIn sum (log_parts size x.parts.site device fault x.parts.bytes x.parts.written_len x.parts.sealed x.parts.reserved) l reach pins H A f U) (parts_split xs n v among) fits)
+        (subst (λ (l : List SegmentParts). FitsIn sum marks (log_parts size x.parts.site device fault x.parts.bytes x.parts.written_len x.parts.sealed x.parts.reserved) l reach pins H A f U) (parts_split xs n v among) fits)
         big whole are.0.short are.0.are are.0.begins is.place_small is.slot_small is.fresh k b there ready recorded
 
     -- Behind them the segments that are left fit the same.
-    pub fits_write : (to place reach : ℕ) (line : List SegmentView) → AreSegments size place line → (n : ℕ) → slice_get line n ≡ Some v → AreFilled size to (set line n now) → ((x y : SegmentView) (ys : List SegmentView) → line ≡ x ∷ y ∷ ys → x.parts.written_len < size)
-        → FitsLine sum size device fault line reach pins H A f U → (up_to : ℕ) × FitsLine sum size buffer_synced None (promoted size (set line n now)) up_to pins H A f U
-    fits_write to place reach [] are n among filled waits fits = absurd fits
-    fits_write to place reach (x ∷ xs) are zero among filled waits fits =
+    pub fits_write : (marks : JoinedMarks) (to place reach : ℕ) (line : List SegmentView) → AreSegments size place line → (n : ℕ) → slice_get line n ≡ Some v → AreFilled size to (set line n now) → ((x y : SegmentView) (ys : List SegmentView) → line ≡ x ∷ y ∷ ys → x.parts.written_len < size)
+        → FitsLine sum marks size device fault line reach pins H A f U → (up_to : ℕ) × FitsLine sum marks size buffer_synced None (promoted size (set line n now)) up_to pins H A f U
+    fits_write marks to place reach [] are n among filled waits fits = absurd fits
+    fits_write marks to place reach (x ∷ xs) are zero among filled waits fits =
         let same : x ≡ v = cc in
         let is : IsSegment size place v = subst (λ (y : SegmentView). IsSegment size place y) same are.0 in
-        let here : FitsIn sum (log_parts size v.parts.site device fault v.parts.bytes v.parts.written_len v.parts.sealed v.parts.reserved) (map parts_in xs) reach pins H A f U =
-        subst (λ (y : SegmentView). FitsLine sum size device fault (y ∷ xs) reach pins H A f U) same fits in
+        let here : FitsIn sum marks (log_parts size v.parts.site device fault v.parts.bytes v.parts.written_len v.parts.sealed v.parts.reserved) (map parts_in xs) reach pins H A f U =
+        subst (λ (y : SegmentView). FitsLine sum marks size device fault (y ∷ xs) reach pins H A f U) same fits in
         let new : IsSegment size place now = written_segment k v b there ready size place is in
         elim (cases_lt (run_end v.parts.written_len (written_at k v.parts.sealed)) size) [
           | inl below ↦ (
               let plain = written_plain sum size v.parts.site device fault v.parts.bytes v.parts.written_len v.parts.sealed v.parts.reserved pins H A f U here is.short big is.place_small is.slot_small is.are is.fresh (rises place is) whole k b there ready below in
               let after = fits_written_one sum size v.parts.site device fault v.parts.bytes v.parts.written_len v.parts.sealed v.parts.reserved pins H A f U here is.short big is.place_small is.slot_small is.are is.fresh (rises place is) whole k b there ready plain in
-              (after.0, subst (λ (l : List SegmentView). FitsLine sum size buffer_synced None l after.0 pins H A f U) (sym (promoted_same size now xs (λ some. below))) after.1))
+              (after.0, subst (λ (l : List SegmentView). FitsLine sum marks size buffer_synced None l after.0 pins H A f U) (sym (promoted_same size now xs (λ some. below))) after.1))
           | inr above ↦ (
               let up = written_within size place now new in
               let begins = new.begins in
@@ -125,22 +126,22 @@ module _ (sum : List ℕ → ℕ) (size : ℕ) (big : 256 ≤ size) (device : St
         ]
       where
         rest : (ws : List SegmentView) → run_end v.parts.written_len (written_at k v.parts.sealed) ≡ size → AreFilled size to (now ∷ ws) → size ≤ begin_of now
-            → (up_to : ℕ) × FitsFull sum size buffer_synced None (v.parts.site.place + size) (map parts_in ws) up_to pins H A f U → (up_to : ℕ) × FitsLine sum size buffer_synced None (promoted size (now ∷ ws)) up_to pins H A f U
+            → (up_to : ℕ) × FitsFull sum marks size buffer_synced None (v.parts.site.place + size) (map parts_in ws) up_to pins H A f U → (up_to : ℕ) × FitsLine sum marks size buffer_synced None (promoted size (now ∷ ws)) up_to pins H A f U
         rest [] full filled high after = absurd (let low = filled.0 in omega (arith, low, high))
         rest (w ∷ ws) full filled high after =
             let next = fits_full sum size buffer_synced None big refl to (v.parts.site.place + size) after.0 w ws filled.2 after.1 in
             let is : (run_end v.parts.written_len (written_at k v.parts.sealed) == size) ≡ true = grind (arith, nat_tests, full) in
-            (next.0, subst (λ (l : List SegmentView). FitsLine sum size buffer_synced None l next.0 pins H A f U) (sym (ap (λ (o : Bool). if o then promoted size (w ∷ ws) else now ∷ w ∷ ws) is)) next.1)
-    fits_write to place reach (x ∷ xs) are (suc n) among filled waits fits =
+            (next.0, subst (λ (l : List SegmentView). FitsLine sum marks size buffer_synced None l next.0 pins H A f U) (sym (ap (λ (o : Bool). if o then promoted size (w ∷ ws) else now ∷ w ∷ ws) is)) next.1)
+    fits_write marks to place reach (x ∷ xs) are (suc n) among filled waits fits =
         let is : IsSegment size v.parts.site.place v = nth_segment size (place + size) xs are.1 n v among in
-        let after : FitsIn sum (log_parts size x.parts.site buffer_synced fault x.parts.bytes x.parts.written_len x.parts.sealed x.parts.reserved) (map parts_in (set xs n now)) reach pins H A f U =
-        subst (λ (l : List SegmentParts). FitsIn sum (log_parts size x.parts.site buffer_synced fault x.parts.bytes x.parts.written_len x.parts.sealed x.parts.reserved) l reach pins H A f U) (sym (parts_set xs n v now among))
+        let after : FitsIn sum marks (log_parts size x.parts.site buffer_synced fault x.parts.bytes x.parts.written_len x.parts.sealed x.parts.reserved) (map parts_in (set xs n now)) reach pins H A f U =
+        subst (λ (l : List SegmentParts). FitsIn sum marks (log_parts size x.parts.site buffer_synced fault x.parts.bytes x.parts.written_len x.parts.sealed x.parts.reserved) l reach pins H A f U) (sym (parts_set xs n v now among))
         (behind-fits-written sum size x.parts.site device fault x.parts.bytes x.parts.written_len x.parts.sealed x.parts.reserved pins H A f U (map parts_in (take n xs)) v.parts (map parts_in (drop (suc n) xs))
-        (subst (λ (l : List SegmentParts). FitsIn sum (log_parts size x.parts.site device fault x.parts.bytes x.parts.written_len x.parts.sealed x.parts.reserved) l reach pins H A f U) (parts_split xs n v among) fits)
+        (subst (λ (l : List SegmentParts). FitsIn sum marks (log_parts size x.parts.site device fault x.parts.bytes x.parts.written_len x.parts.sealed x.parts.reserved) l reach pins H A f U) (parts_split xs n v among) fits)
         big whole are.0.short are.0.are are.0.begins is.place_small is.slot_small is.fresh k b there ready recorded) in (
           reach,
-          subst (λ (l : List SegmentView). FitsLine sum size buffer_synced None l reach pins H A f U) (sym (promoted_same size x (set xs n now) (λ some. low xs n among (λ y ys same. waits x y ys (ap (λ (l : List SegmentView). x ∷ l) same)))))
-              (subst (λ (o : Option IoError). FitsLine sum size buffer_synced o (x ∷ set xs n now) reach pins H A f U) whole after),
+          subst (λ (l : List SegmentView). FitsLine sum marks size buffer_synced None l reach pins H A f U) (sym (promoted_same size x (set xs n now) (λ some. low xs n among (λ y ys same. waits x y ys (ap (λ (l : List SegmentView). x ∷ l) same)))))
+              (subst (λ (o : Option IoError). FitsLine sum marks size buffer_synced o (x ∷ set xs n now) reach pins H A f U) whole after),
         )
       where
         low : (l : List SegmentView) (m : ℕ) → slice_get l m ≡ Some v → ((y : SegmentView) (ys : List SegmentView) → l ≡ y ∷ ys → x.parts.written_len < size) → x.parts.written_len < size

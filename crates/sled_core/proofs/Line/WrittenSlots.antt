@@ -23,29 +23,30 @@ use Rattle.sled_core.specs.LogFile.{HasHeader}
 use Rattle.sled_core.specs.Logged.{logged}
 use Rattle.sled_core.specs.OpenBatches.{stable_below}
 use Rattle.sled_core.specs.Recoverable.{NoHeaderOfZeros}
+use Rattle.sled_core.specs.declared.logger.joined_marks.JoinedMarks.{JoinedMarks}
 use Rattle.sled_core.specs.inside.Running.{FitsLine}
 use Rattle.sled_core.specs.inside.SealedBuffers.{is_ready}
 use Rattle.sled_core.specs.inside.Slots.{AreWhole, IsWholeSegment}
-use Rattle.sled_core.specs.Tail.{least_place}
 use Rattle.sled_core.specs.inside.Turned.{promoted, written_now}
 use Rattle.sled_core.proofs.Holds.Facts.{IsSegment}
 use Rattle.sled_core.proofs.Holds.WholeHistory.{whole_apart}
 use Rattle.sled_core.proofs.Line.Ends.{line_holds, with_part}
 use Rattle.sled_core.proofs.Line.LineEnds.{first_set}
-use Rattle.sled_core.proofs.Line.OlderSlots.{newest_low}
+use Rattle.sled_core.proofs.Line.OlderSlots.{held_low}
 use Rattle.sled_core.proofs.Line.Segments.{AreSegments, by_front, first_below, nth_segment, segments_promoted, set_segment, written_segment}
 use Rattle.sled_core.proofs.Line.Writes.{buffer_begin, buffer_bytes, buffer_synced, holds_write, rises}
 use Rattle.sled_core.proofs.Reached.WholeSegments.{whole_before, whole_kept}
 use Rattle.sled_core.proofs.Reserve.Ranges.{at_there}
 use Rattle.sled_core.proofs.Sealed.OneWritten.{length-between}
 use Rattle.sled_core.proofs.Sealed.Slices.{end_to, span_within}
-use Rattle.sled_core.proofs.Tail.Multiples.{apart}
+use Rattle.sled_core.proofs.Tail.Multiples.{apart, lower_multiple}
+use Rattle.sled_core.specs.inside.LogSegments.{held_since}
 
 module _ (sum : List ℕ → ℕ) (size : ℕ) where
   -- A segment that is written has its header in the file.
-  pub headers_line : (device : State) (fault : Option IoError) → fault ≡ None → (line : List SegmentView) (n : ℕ) (v : SegmentView) (H : History) → HoldsLine sum size device fault line H
+  pub headers_line : (marks : JoinedMarks) (device : State) (fault : Option IoError) → fault ≡ None → (line : List SegmentView) (n : ℕ) (v : SegmentView) (H : History) → HoldsLine sum marks size device fault line H
       → slice_get line n ≡ Some v → 0 < v.parts.written_len → HasHeader sum device.log.bytes v.parts.site
-  headers_line device fault whole line n v H holds there some = with_part sum size device fault line n v H holds there (λ stays own segment.
+  headers_line marks device fault whole line n v H holds there some = with_part sum size device fault _ line n v H holds there (λ stays own segment.
       let on = segment.written whole in
       subst (λ (l : List ℕ). HasHeader sum l v.parts.site) (sym (ap (λ (l : LogState). l.bytes) on.settled)) (on.file.header some))
 
@@ -123,22 +124,22 @@ module _ (sum : List ℕ → ℕ) (size : ℕ) where
           ∙ ap (λ c. take c (drop lid log)) count
 
   -- The first one begins where a segment can.
-  first_begins : (device : State) (fault : Option IoError) (line : List SegmentView) (H : History) → HoldsLine sum size device fault line H
+  pub first_begins : (marks : JoinedMarks) (device : State) (fault : Option IoError) (line : List SegmentView) (H : History) → HoldsLine sum marks size device fault line H
       → first_place line % size ≡ 0
-  first_begins device fault [] H holds = absurd holds
-  first_begins device fault (v ∷ vs) H holds = holds.own.records.place_begins
+  first_begins marks device fault [] H holds = absurd holds
+  first_begins marks device fault (v ∷ vs) H holds = holds.own.records.place_begins
 
   -- What lies before the first segment of a line that fits a history is whole, where its header stands and all is held there.
-  whole_before_line : 256 ≤ size → NoHeaderOfZeros sum → (device : State) (line : List SegmentView) (reach pins : ℕ) (H : History) (A f : ℕ) (U : List Message)
-      → FitsLine sum size device None line reach pins H A f U → (place : ℕ) → AreSegments size place line
-      → (low z : ℕ) → ((first : SnapshotModel) → BeginsFrom sum device.snapshots.file first → least_place size first ≤ low) → low ≤ z → z % size ≡ 0
+  whole_before_line : (marks : JoinedMarks) → 256 ≤ size → NoHeaderOfZeros sum → (device : State) (line : List SegmentView) (reach pins : ℕ) (H : History) (A f : ℕ) (U : List Message)
+      → FitsLine sum marks size device None line reach pins H A f U → (place : ℕ) → AreSegments size place line
+      → (low z : ℕ) → ((first : SnapshotModel) → BeginsFrom sum device.snapshots.file first → held_since size marks first / size * size ≤ low) → low ≤ z → z % size ≡ 0
       → z + size ≤ first_place line → (k : ℕ) (mark : ℤ) → IsHeader sum (part device.log.bytes (k * size) 20) (pos z) mark → IsWholeSegment sum size device.log.bytes (logged H) (k * size) z
-  whole_before_line big zeros device [] reach pins H A f U fits place are low z least above aligned ends k mark header = absurd fits
-  whole_before_line big zeros device (v ∷ vs) reach pins H A f U fits place are low z least above aligned ends k mark header =
+  whole_before_line marks big zeros device [] reach pins H A f U fits place are low z least above aligned ends k mark header = absurd fits
+  whole_before_line marks big zeros device (v ∷ vs) reach pins H A f U fits place are low z least above aligned ends k mark header =
       let among = fits.among refl zeros in
       let first : SnapshotModel = fits.holds.begun.first in
       let lie = whole_apart sum size v.parts.site device None v.parts.bytes v.parts.written_len v.parts.sealed v.parts.reserved (logged H) fits.holds are.0.short in
-      let held = ap (λ (n : ℕ). n / size * size) among.held in
+      let held = lower_multiple size big among.stands.from (held_since size marks first) among.low in
       let down = least first fits.holds.begun.begins in
       whole_before sum size device.log.bytes big (logged H) (apart_ascends (logged H).messages lie) (stable_below reach H.batches) first reach among.stands z aligned
       (omega (arith, held, down, above)) v.parts.site.place among.led ends k mark header
@@ -177,29 +178,29 @@ module _ (sum : List ℕ → ℕ) (size : ℕ) (big : 256 ≤ size) (device : St
         (buffer_bytes sum size big device fault whole v k b there ready) (omega arith) (omega (arith, long, span.0, span.1, end, short)) (omega (arith, big)) older
 
     -- and those that have gone have their headers.
-    headed : (H : History) → HoldsLine sum size device fault line H → AreHeaded sum size synced.log.bytes m (first_place written) (promoted size written)
-    headed H holds =
+    headed : (marks : JoinedMarks) (H : History) → HoldsLine sum marks size device fault line H → AreHeaded sum size synced.log.bytes m (first_place written) (promoted size written)
+    headed marks H holds =
         let own : HasSlot size m v = at_there (HasSlot size m) line n v among slots.taken in
-        let later = holds_write sum size big device fault whole v k b there ready place line are n among H holds in
+        let later = holds_write sum size big device fault whole v k b there ready _ place line are n among H holds in
         gone_headed sum size big synced.log.bytes m (line_end size line) slots.own place written written_are
         (All-set (HasSlot size m) line n now (record { number = own.number; lies = own.lies; taken = own.taken; is = own.is }) slots.taken)
-        (λ j x at some. headers_line sum size synced fault whole written j x H later at some)
+        (λ j x at some. headers_line sum size _ synced fault whole written j x H later at some)
 
     -- It is written, and synced: so both are whole.
-    pub whole_write : (reach up_to pins : ℕ) (H : History) (A f : ℕ) (U : List Message) → FitsLine sum size device fault line reach pins H A f U
-        → FitsLine sum size synced None (promoted size written) up_to pins H A f U → NoHeaderOfZeros sum
+    pub whole_write : (marks : JoinedMarks) (reach up_to pins : ℕ) (H : History) (A f : ℕ) (U : List Message) → FitsLine sum marks size device fault line reach pins H A f U
+        → FitsLine sum marks size synced None (promoted size written) up_to pins H A f U → NoHeaderOfZeros sum
         → AreWhole sum size device.log.bytes (logged H) (first_place line) m
         → AreWhole sum size synced.log.bytes (logged H) (first_place (promoted size written)) m
-    whole_write reach up_to pins H A f U fits after zeros older j taken ends =
-        let holds = line_holds sum size device fault line reach pins H A f U fits in
+    whole_write marks reach up_to pins H A f U fits after zeros older j taken ends =
+        let holds = line_holds sum size device fault _ line reach pins H A f U fits in
         let aligned = slots.own.aligned j taken in
         elim (cases_lt (slot_at m j).lsn (first_place line)) [
           | inl lower ↦ (
-              let begins = first_begins sum size device fault line (logged H) holds in
+              let begins = first_begins sum size _ device fault line (logged H) holds in
               older_whole (logged H) older j taken (apart size (omega (arith, big)) (slot_at m j).lsn (first_place line) aligned begins lower))
           | inr above ↦ (
-              let header = (headed (logged H) holds).gone j taken (omega (arith, above, same_first)) ends in
+              let header = (headed _ (logged H) holds).gone j taken (omega (arith, above, same_first)) ends in
               let left = segments_promoted size place written written_are in
-              whole_before_line sum size big zeros synced (promoted size written) up_to pins H A f U after left.0 left.1 (first_place line) (slot_at m j).lsn
-              (newest_low sum size device fault line (logged H) holds) above aligned ends j header.0 header.1)
+              whole_before_line sum size marks big zeros synced (promoted size written) up_to pins H A f U after left.0 left.1 (first_place line) (slot_at m j).lsn
+              (held_low sum size big marks device fault line (logged H) holds) above aligned ends j header.0 header.1)
         ]

@@ -201,10 +201,10 @@ module _ (H R : History) (same : logged H ≡ logged R) where
     stable_same reach = ap (stable_below reach) (alike_batches H R same)
 
     -- The segments that were begun stand there.
-    pub among_alike : (site : SegmentPosition) (from : ℕ) (others : List BegunSegment) (reach : ℕ) (first : SnapshotModel) → StandsAmong sum size log site from others reach H first → StandsAmong sum size log site from others reach R first
+    pub among_alike : (site : SegmentPosition) (from : ℕ) (others : List BegunSegment) (reach : ℕ) (first : SnapshotModel) → {held : ℕ} → StandsAmong sum held size log site from others reach H first → StandsAmong sum held size log site from others reach R first
     among_alike site from others reach first among = record {
       stands = stands_alike_at (stable_below reach H.batches) (stable_below reach R.batches) first reach (stable_same reach) among.stands;
-      held = among.held;
+      low = among.low;
       reached = reaches_in_alike size site.place from reach among.reached;
       led = among.led;
       here = among.here;

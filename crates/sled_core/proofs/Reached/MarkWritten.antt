@@ -1,5 +1,5 @@
 -- A buffer is written and synced: a mark that stood on the device stands, and so does that of the header with which the buffer begins.
-use Rattle.std.proofs.Common.{◌≡◌, ◌⊎◌, ◌∙◌, ◌+◌, ◌-◌, ◌*◌, ◌/◌, ◌%◌, ◌<◌, ◌≤◌, ◌≤ℤ◌, ◌++◌, ℕ, ℤ, pos, Bool, true, false, if◌then◌else◌, List, length, take, drop, Option, None, Some, refl, sym, ap, subst}
+use Rattle.std.proofs.Common.{◌≡◌, ◌⊎◌, ◌∙◌, ◌+◌, ◌-◌, ◌*◌, ◌/◌, ◌%◌, ◌≤◌, ◌≤ℤ◌, ◌++◌, ℕ, ℤ, pos, Bool, true, false, if◌then◌else◌, List, length, take, drop, Option, None, Some, sym, ap, subst}
 use Rattle.std.proofs.Common.{arith, inl, inr, length-append}
 use Rattle.std.specs.Prelude.{int_lt}
 use Rattle.std.proofs.Math.Nat.{mul-mod_left}
@@ -71,6 +71,12 @@ module _ (sum : List ℕ → ℕ) (size : ℕ) (log : List ℕ) (some : 256 ≤ 
         ∙ sym (take-take 20 (length xs) (drop at new) enough)
         ∙ ap (take 20) (overwritten-part log at xs)
         ∙ front
+
+-- A lower mark stands, too.
+pub stands_lower : (sum : List ℕ → ℕ) (size : ℕ) (log : List ℕ) (first : SnapshotModel) (low mark : ℤ) → low ≤ℤ mark → MarkStands sum size log first mark
+    → MarkStands sum size log first low
+stands_lower sum size log first low mark le (inl under) = inl (omega (arith, ints, le, under))
+stands_lower sum size log first low mark le (inr (s, found, up)) = inr (s, found, omega (arith, ints, le, up))
 
 -- where a buffer begins with a header of this mark that header is found
 abbrev pub HasHead : (List ℕ → ℕ) → ℕ → List ℕ → ℕ → Option ℤ → Type 0

@@ -1,42 +1,27 @@
 -- What is held may count from the segment of a mark that stands: that is no higher than the stable place, and no recovery begins its tail in front of it.
-use Rattle.std.proofs.Common.{◌≡◌, ◌⊎◌, ◌∙◌, ◌+◌, ◌-◌, ◌*◌, ◌/◌, ◌%◌, ◌<◌, ◌≤◌, ◌<ℤ◌, ◌≤ℤ◌, ℕ, ℤ, pos, negsuc, max, List, sym, ap, subst, arith, inl, inr, refl}
-use Rattle.std.specs.List.{Contains}
+use Rattle.std.proofs.Common.{◌≡◌, ◌*◌, ◌/◌, ◌<◌, ◌≤◌, ◌<ℤ◌, ℕ, ℤ, pos, negsuc, List, ap, arith, inl, inr, refl}
 use Rattle.std.proofs.lemmas.Bool.{cases_lt}
-use Rattle.std.proofs.lemmas.Int.{ints}
-use Rattle.sled_codec.specs.Coords.{raised}
 use Rattle.sled_codec.specs.History.{History}
 use Rattle.sled_codec.specs.Snapshots.{SnapshotModel, stable_place}
-use Rattle.sled_core.specs.declared.iterator.Segment.{Segment}
-use Rattle.sled_core.specs.LogSegments.{begins_from}
+use Rattle.sled_core.specs.LogSegments.{begins_from, held_from}
 use Rattle.sled_core.specs.Tail.{place_of_mark, greatest_mark, least_place, tail_begins}
-use Rattle.sled_core.specs.inside.MarksFit.{MarkStands, held_from}
+use Rattle.sled_core.specs.inside.MarksFit.{MarkStands}
 use Rattle.sled_core.specs.inside.Recoverable.{IsMarkBelow}
-use Rattle.sled_core.specs.inside.Scan.{IsFoundSegment}
 use Rattle.sled_core.proofs.Reached.StandsTo.{StandsTo}
 use Rattle.sled_core.proofs.Reached.Raised.{held_higher}
 use Rattle.sled_core.proofs.Tail.GreatestMark.{mark_below}
+use Rattle.sled_core.proofs.Tail.MarkPlaces.{begins_lower, down}
 use Rattle.sled_core.proofs.Tail.Multiples.{apart, lower_multiple, put_down, raised_within}
 use Rattle.sled_core.proofs.Tail.SegmentsFrom.{mark_within}
-
--- A lower mark has no higher place.
-pub place_lower : (a b : ℤ) → a ≤ℤ b → place_of_mark a ≤ place_of_mark b
-place_lower (pos a) (pos b) le = omega (arith, ints, le)
-place_lower (pos a) (negsuc b) le = absurd (omega (arith, ints, le))
-place_lower (negsuc a) (pos b) le = omega arith
-place_lower (negsuc a) (negsuc b) le = omega arith
 
 place_under : (mark : ℤ) (cut : ℕ) → mark <ℤ pos cut → place_of_mark mark ≤ cut
 place_under (pos n) cut less = let under : n < cut = mark_below (pos n) n cut refl less in omega (arith, under)
 place_under (negsuc n) cut less = omega arith
 
 module _ (size : ℕ) (some : 256 ≤ size) where
-  -- a place begins no higher than it lies
-  down : (p : ℕ) → p / size * size ≤ p
-  down p = let parts = put_down size p in omega (arith, parts.0)
-
   -- The segment of a mark that lies below a place, or in front of the next segment, begins no higher than the place.
   pub begins_below : (H : History) (cut : ℕ) (mark : ℤ) → IsMarkBelow size H cut mark → begins_from size mark ≤ cut
-  begins_below H cut mark (inl less) = let low = place_under mark cut less in let le = down (place_of_mark mark) in omega (arith, low, le)
+  begins_below H cut mark (inl less) = let low = place_under mark cut less in let le = down size (place_of_mark mark) in omega (arith, low, le)
   begins_below H cut mark (inr (n, at, near, message, batch, ended)) =
       let is : place_of_mark mark ≡ n = ap place_of_mark at in
       let parts = put_down size n in
@@ -56,19 +41,16 @@ module _ (sum : List ℕ → ℕ) (size : ℕ) (log : List ℕ) (some : 256 ≤ 
   abbrev least : ℕ
   least = least_place size first
 
-  begins_lower : (other : ℤ) → mark ≤ℤ other → begins_from size mark ≤ begins_from size other
-  begins_lower other le = lower_multiple size some (place_of_mark mark) (place_of_mark other) (place_lower mark other le)
-
   -- It begins no higher than the stable place,
   pub marks_high : held_from size began mark ≤ A
   marks_high = elim stands [
     | inl low ↦ (
-        let le = begins_lower (pos began) low in
-        let here = down size some began in
+        let le = begins_lower size some mark (pos began) low in
+        let here = down size began in
         let high = is.not_below in
         omega (arith, le, here, high))
     | inr (s, found, up) ↦ (
-        let le = begins_lower s.mark up in
+        let le = begins_lower size some mark s.mark up in
         let below = begins_below size some H A s.mark (is.marks_below s ((is.numbers.found s).1 found)) in
         let high = is.not_below in
         omega (arith, le, below, high))
@@ -80,9 +62,9 @@ module _ (sum : List ℕ → ℕ) (size : ℕ) (log : List ℕ) (some : 256 ≤ 
 
   mark_low : begins_from size mark ≤ tail_begins size least is.ordering
   mark_low = elim stands [
-    | inl low ↦ (let le = begins_lower (pos began) low in let tail = began_low in omega (arith, le, tail))
+    | inl low ↦ (let le = begins_lower size some mark (pos began) low in let tail = began_low in omega (arith, le, tail))
     | inr (s, found, up) ↦ (
-        let le = begins_lower s.mark up in
+        let le = begins_lower size some mark s.mark up in
         let most = mark_within least is.ordering s ((is.numbers.found s).1 found) in
         let tail = lower_multiple size some (place_of_mark s.mark) (greatest_mark least is.ordering) most in
         omega (arith, le, tail))
@@ -92,7 +74,7 @@ module _ (sum : List ℕ → ℕ) (size : ℕ) (log : List ℕ) (some : 256 ≤ 
   marks_tail = elim (cases_lt began (begins_from size mark)) [
     | inl higher ↦ (
         let from : held_from size began mark ≡ begins_from size mark = omega (arith, higher) in
-        let le = down size some (begins_from size mark) in
+        let le = down size (begins_from size mark) in
         let tail = mark_low in
         let same : held_from size began mark / size * size ≡ begins_from size mark / size * size = ap (λ n. n / size * size) from in
         omega (arith, same, le, tail))

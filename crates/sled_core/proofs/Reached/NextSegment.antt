@@ -5,7 +5,7 @@ use Rattle.std.proofs.lemmas.List.Elements.{Contains-append_cases, Contains-appe
 use Rattle.sled_codec.specs.Places.{part}
 use Rattle.sled_codec.specs.Record.{IsHeader}
 use Rattle.sled_codec.specs.History.{History}
-use Rattle.sled_codec.specs.Snapshots.{SnapshotModel, stable_place}
+use Rattle.sled_codec.specs.Snapshots.{SnapshotModel}
 use Rattle.sled_store.proofs.Histories.Ascending.{Ascends}
 use Rattle.sled_store.proofs.Segments.Elements.{in_cases, in_first, in_nothing, in_rest}
 use Rattle.sled_core.specs.Begun.{records_to}
@@ -54,10 +54,10 @@ new_stands sum none size log least scanned site other zeros = record {
 
 -- Behind a full one, where there are no others.
 pub begins_alone : (sum : List ℕ → ℕ) (none : NoHeaderOfZeros sum) (size : ℕ) (log : List ℕ) (place reach : ℕ) (H : History) (first : SnapshotModel) (slot : ℕ) → ((i : ℕ) → slot ≤ i → i < slot + 20 → get_or log i 0 ≡ 0)
-    → StandsFull sum size log place [] reach H first → StandsAlone sum size log (record { place = place; slot = slot }) 0 reach H first
+    → {held : ℕ} → StandsFull sum held size log place [] reach H first → StandsAlone sum held size log (record { place = place; slot = slot }) 0 reach H first
 begins_alone sum none size log place reach H first slot zeros full = record {
   stands = full.stands;
-  held = full.held;
+  low = full.low;
   reached = inr (refl, full.near);
   led = inr (inr full.leads);
   here = new_stands sum none size log (least_place size first) full.stands.scanned (record { place = place; slot = slot }) (λ s found same. let low = low_all s found in omega (arith, low, same)) zeros;
@@ -73,10 +73,10 @@ begins_alone sum none size log place reach H first slot zeros full = record {
 -- Behind all that were begun.
 pub begins_behind : (sum : List ℕ → ℕ) (none : NoHeaderOfZeros sum) (size : ℕ) (log : List ℕ) (site : SegmentPosition) (from : ℕ) (others : List BegunSegment) (reach : ℕ) (H : History) (first : SnapshotModel) (new : SegmentPosition)
     → site.place < new.place → ((x : BegunSegment) → Contains others x → x.site.place < new.place) → FollowApart site (others ++ record { site = new; from = 0; filled = None } ∷ []) → ((i : ℕ) → new.slot ≤ i → i < new.slot + 20 → get_or log i 0 ≡ 0)
-    → StandsAmong sum size log site from others reach H first → StandsAmong sum size log site from (others ++ record { site = new; from = 0; filled = None } ∷ []) reach H first
+    → {held : ℕ} → StandsAmong sum held size log site from others reach H first → StandsAmong sum held size log site from (others ++ record { site = new; from = 0; filled = None } ∷ []) reach H first
 begins_behind sum none size log site from others reach H first new above above_all apart zeros among = record {
   stands = among.stands;
-  held = among.held;
+  low = among.low;
   reached = among.reached;
   led = among.led;
   here = among.here;
@@ -102,7 +102,7 @@ begins_behind sum none size log site from others reach H first new above above_a
       | inr (x, had, at) ↦ (let under = above_all x had in omega (arith, under, at, same))
     ]
 
-module _ (sum : List ℕ → ℕ) (size : ℕ) (some : 256 ≤ size) (log : List ℕ) (y : BegunSegment) (ys : List BegunSegment) (reach : ℕ) (H : History) (first : SnapshotModel) (full : StandsFull sum size log y.site.place (y ∷ ys) reach H first) (follow : FollowApart y.site ys) where
+module _ (sum : List ℕ → ℕ) (size : ℕ) (some : 256 ≤ size) (log : List ℕ) (y : BegunSegment) (ys : List BegunSegment) (reach : ℕ) (H : History) (first : SnapshotModel) {held : ℕ} (full : StandsFull sum held size log y.site.place (y ∷ ys) reach H first) (follow : FollowApart y.site ys) where
   abbrev pub least : ℕ
   least = least_place size first
 
@@ -116,10 +116,10 @@ module _ (sum : List ℕ → ℕ) (size : ℕ) (some : 256 ≤ size) (log : List
   ]
 
   -- Nothing of it is written: the reading ends before it.
-  pub next_begins : y.from ≡ 0 → StandsAmong sum size log y.site 0 ys reach H first
+  pub next_begins : y.from ≡ 0 → StandsAmong sum held size log y.site 0 ys reach H first
   next_begins none = record {
     stands = full.stands;
-    held = full.held;
+    low = full.low;
     reached = inr (refl, full.near);
     led = inr (inr full.leads);
     here = unmarked sum size log least full.stands.scanned y.site 0 (subst (λ n. StandsIn sum size log least full.stands.scanned y.site n (records_to y.filled size)) none its);
@@ -156,18 +156,18 @@ module _ (sum : List ℕ → ℕ) (size : ℕ) (some : 256 ≤ size) (log : List
     pub further : StandsTo sum size log H (stable_below (y.site.place + stop) H.batches) first (y.site.place + stop)
     further = further_from.0
 
-    held : further.from ≡ stable_place first.stable
+    low : further.from ≤ held
     unfolding further
-    held = further_from.1 ∙ full.held
+    low = let same = further_from.1 in let low = full.low in omega (arith, same, low)
 
     anew : (site : SegmentPosition) (from : ℕ) {records : ℕ} → StandsIn sum size log least full.stands.scanned site from records → StandsIn sum size log least further.scanned site from records
     anew site from = stands_anew sum size log H (stable_below reach H.batches) reach (stable_below (y.site.place + stop) H.batches) (y.site.place + stop) first full.stands further site from
 
     -- The reading ends in it.
-    pub next_goes : stop ≡ y.from → StandsAmong sum size log y.site y.from ys (y.site.place + stop) H first
+    pub next_goes : stop ≡ y.from → StandsAmong sum held size log y.site y.from ys (y.site.place + stop) H first
     next_goes at = record {
       stands = further;
-      held = held;
+      low = low;
       reached = inl (ap (λ n. y.site.place + n) at);
       led = inl (omega (arith, at, later));
       here = unmarked sum size log least further.scanned y.site y.from (anew y.site y.from its);
@@ -178,10 +178,10 @@ module _ (sum : List ℕ → ℕ) (size : ℕ) (some : 256 ≤ size) (log : List
     }
 
     -- It is full too, and so the reading goes on behind it.
-    pub next_full : read.1 ≢ Broken → 0 < stop → BeginsNext size H (y.site.place + stop) (y.site.place + size) → StandsFull sum size log (y.site.place + size) ys (y.site.place + stop) H first
+    pub next_full : read.1 ≢ Broken → 0 < stop → BeginsNext size H (y.site.place + stop) (y.site.place + size) → StandsFull sum held size log (y.site.place + size) ys (y.site.place + stop) H first
     next_full goes begun near = record {
       stands = further;
-      held = held;
+      low = low;
       leads = (
           let is = read.2 in
           let at = is.at_place in

@@ -1,5 +1,5 @@
 -- The mark that is read off the bytes of a segment is that of the header with which they begin.
-use Rattle.std.proofs.Common.{◌≡◌, ◌∙◌, ◌<◌, ◌-◌, ◌^◌, ◌++◌, ℕ, ℤ, List, Option, Some, sym, ap, take, drop, bit_xor, FitsSigned, lit<}
+use Rattle.std.proofs.Common.{◌≡◌, ◌∙◌, ◌<◌, ◌-◌, ◌^◌, ◌++◌, ℕ, ℤ, List, Some, sym, ap, take, drop, bit_xor, FitsSigned, lit<}
 use Rattle.std.specs.Int.{w64, cast_signed, cast_unsigned, from_le_bytes}
 use Rattle.std.specs.Int.Bits.{xor_assoc, xor_self, xor_zero_r}
 use Rattle.std.proofs.lemmas.Int.{to_z-of_z}

@@ -6,7 +6,7 @@ use Rattle.std.specs.List.{Contains}
 use Rattle.sled_codec.specs.Places.{part}
 use Rattle.sled_codec.specs.Record.{IsHeader}
 use Rattle.sled_codec.specs.History.{History}
-use Rattle.sled_codec.specs.Snapshots.{SnapshotModel, stable_place}
+use Rattle.sled_codec.specs.Snapshots.{SnapshotModel}
 use Rattle.sled_codec.proofs.Segments.{one_header}
 use Rattle.sled_store.specs.Device.{overwritten}
 use Rattle.sled_core.specs.OpenBatches.{stable_below}
@@ -26,9 +26,10 @@ use Rattle.sled_core.proofs.Tail.OneTail.{segment_there}
 use Rattle.sled_core.proofs.Torn.WrittenParts.{in_this_file, path_rises, path_whole, twenty}
 
 -- A file stands as far as another one, and so does a segment in it, with no other mark in its slot.
-pub record StandsAfter (sum : List ℕ → ℕ) (size : ℕ) (old new : List ℕ) (site : SegmentPosition) (from records reach : ℕ) (H : History) (first : SnapshotModel) : Type 0 where
+pub record StandsAfter (sum : List ℕ → ℕ) (size : ℕ) (old new : List ℕ) (site : SegmentPosition) (from records reach : ℕ) (H : History) (first : SnapshotModel) (held : ℕ) : Type 0 where
   pub stands : StandsTo sum size new H (stable_below reach H.batches) first reach
-  pub held : stands.from ≡ stable_place first.stable
+  -- what is held counts from where it did
+  pub held_same : stands.from ≡ held
   pub here : StandsIn sum size new (least_place size first) stands.scanned site from records
   pub marks : (s : Segment) → IsFoundSegment sum size new (least_place size first) s → s.slot ≡ site.slot → (t : Segment) × IsFoundSegment sum size old (least_place size first) t × (s.mark ≡ t.mark)
 
@@ -48,7 +49,7 @@ module _ (sum : List ℕ → ℕ) (size : ℕ) (some : 256 ≤ size) (old : List
 
   -- It was read to there, for that reason.
   module _ (z : Scanned) (known : Contains is.scanned z) (in_slot : z.segment.slot ≡ site.slot) (at_place : z.segment.place ≡ site.place) (before : z.stop ≤ at) (so_far : IsSoFar size from z.stop z.why) (left_over : from < size)
-      (stands : StandsTo sum size new H (stable_below reach H.batches) first reach) (held : stands.from ≡ stable_place first.stable) (ends : IsEnd sum size new z.segment.slot z.segment.place z.stop z.why) where
+      (stands : StandsTo sum size new H (stable_below reach H.batches) first reach) (held : stands.from ≡ is.from) (ends : IsEnd sum size new z.segment.slot z.segment.place z.stop z.why) where
     z_known : Contains is.ordering z.segment × IsScanned sum size old z
     z_known = segment_there sum size old is.ordering is.scanned is.reads z known
 
@@ -72,10 +73,10 @@ module _ (sum : List ℕ → ℕ) (size : ℕ) (some : 256 ≤ size) (old : List
     its_header s found here =
         one_header sum (part new z.segment.slot 20) (pos s.place) s.mark (pos z.segment.place) z.segment.mark (subst (λ n. IsHeader sum (part new n 20) (pos s.place) s.mark) (here ∙ sym in_slot) found.header) still_found.header
 
-    pub stands_after : StandsAfter sum size old new site from records reach H first
+    pub stands_after : StandsAfter sum size old new site from records reach H first is.from
     stands_after = record {
       stands = stands;
-      held = held;
+      held_same = held;
       here = record {
         only = only;
         own = λ s found here. pos_injective s.place z.segment.place (its_header s found here).0 ∙ at_place;

@@ -2,7 +2,7 @@
 use Rattle.std.proofs.Common.{◌≡◌, ◌≤◌, ◌<◌, ◌+◌, ◌%◌, ◌⊎◌, ℕ, max, Bool, false, List, [], ◌∷◌, ◌++◌, length, take, drop, get_or, refl, subst, arith, inl, inr}
 use Rattle.std.specs.List.{All}
 use Rattle.sled_codec.specs.History.{History}
-use Rattle.sled_codec.specs.Snapshots.{SnapshotModel, stable_place}
+use Rattle.sled_codec.specs.Snapshots.{SnapshotModel}
 use Rattle.sled_store.specs.Device.{overwritten, LeavesLog, Placement}
 use Rattle.sled_store.specs.Foreign.{NoForeignLog}
 use Rattle.sled_store.proofs.Segments.FitLemmas.{all_front}
@@ -95,16 +95,16 @@ module _ (sum : List ℕ → ℕ) (none : NoHeaderOfZeros sum) (size : ℕ) (som
         torn_gap sum none size some file site from at asked fits slot_begins has_room x.end gap lies.0 (head_headed from rs x (xs ++ b ∷ rest) are) clean reach H first is its now left no_more leaves {placed = placed} only_own
 
     -- All of it, in any segment that stands so far, where the file reaches up to the slot.
-    pub stands_in_gap : (is : StandsTo sum size file H (stable_below reach H.batches) first reach) → {records : ℕ} → StandsIn sum size file (least_place size first) is.scanned site from records → is.from ≡ stable_place first.stable → site.slot ≤ length file
-        → StandsAfter sum size file (overwritten file (site.slot + at) asked) site from records reach H first
-    stands_in_gap is its held there =
-        gap_stands sum none size some file site from at asked fits slot_begins has_room x.end gap lies.0 (head_headed from rs x (xs ++ b ∷ rest) are) clean reach H first is its held there
+    pub stands_in_gap : (is : StandsTo sum size file H (stable_below reach H.batches) first reach) → {records : ℕ} → StandsIn sum size file (least_place size first) is.scanned site from records → site.slot ≤ length file
+        → StandsAfter sum size file (overwritten file (site.slot + at) asked) site from records reach H first is.from
+    stands_in_gap is its there =
+        gap_stands sum none size some file site from at asked fits slot_begins has_room x.end gap lies.0 (head_headed from rs x (xs ++ b ∷ rest) are) clean reach H first is its there
 
     -- What a crash leaves of it, in the first segment.
-    pub torn_behind_unwritten : {others : List BegunSegment} → StandsAmong sum size file site from others reach H first → (now left : List ℕ) → length now ≤ length asked → LeavesLog (after_write file (site.slot + at) asked now) left → {placed : List Placement}
+    pub torn_behind_unwritten : {others : List BegunSegment} → {held : ℕ} → StandsAmong sum held size file site from others reach H first → (now left : List ℕ) → length now ≤ length asked → LeavesLog (after_write file (site.slot + at) asked now) left → {placed : List Placement}
         → NoForeignLog sum size (after_write file (site.slot + at) asked now) placed left → StandsTo sum size left H (stable_below reach H.batches) first reach
     torn_behind_unwritten alone now left no_more leaves {placed} only_own = torn_in_gap alone.stands alone.here now left no_more leaves {placed = placed} only_own
 
     -- All of it, in the first segment.
-    pub written_behind_unwritten : {others : List BegunSegment} → StandsAmong sum size file site from others reach H first → site.slot ≤ length file → StandsAmong sum size (overwritten file (site.slot + at) asked) site from others reach H first
-    written_behind_unwritten {others} alone there = gap_written sum size some file site from others reach H first alone site at asked fits slot_begins there refl (stands_in_gap alone.stands alone.here alone.held there)
+    pub written_behind_unwritten : {others : List BegunSegment} → {held : ℕ} → StandsAmong sum held size file site from others reach H first → site.slot ≤ length file → StandsAmong sum held size (overwritten file (site.slot + at) asked) site from others reach H first
+    written_behind_unwritten {others} alone there = gap_written sum size some file site from others reach H first alone site at asked fits slot_begins there refl (stands_in_gap alone.stands alone.here there)

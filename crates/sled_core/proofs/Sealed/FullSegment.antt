@@ -24,7 +24,7 @@ full_why sum size log slot place at Broken full end = absurd (let room = end.0 i
 
 module _ (sum : List ℕ → ℕ) (size : ℕ) (some : 256 ≤ size) (log : List ℕ) (site : SegmentPosition) (place_begins : site.place % size ≡ 0)
     (from : ℕ) (begun : 0 < from) (within : from ≤ size) (full : size < from + 32) (H : History) (first : SnapshotModel) (low : least_place size first ≤ site.place)
-    {others : List BegunSegment} (among : StandsAmong sum size log site from others (site.place + from) H first) where
+    {others : List BegunSegment} {held : ℕ} (among : StandsAmong sum held size log site from others (site.place + from) H first) where
   -- What was reached ends in the segment, so it is read up to there, or leads on.
   leads : LeadsTo sum size log (least_place size first) (site.place + from) (site.place + size)
   unfolding IsScan
@@ -53,10 +53,10 @@ module _ (sum : List ℕ → ℕ) (size : ℕ) (some : 256 ≤ size) (log : List
 
   -- The reading goes on behind it, in those that were begun there.
   pub full_among : NoMessageBegins H (site.place + from) (site.place + size) → NoBatchBegins H (site.place + from) (site.place + size) → NoBatchEnds H (site.place + from) (site.place + size)
-      → StandsFull sum size log (site.place + size) others (site.place + from) H first
+      → StandsFull sum held size log (site.place + size) others (site.place + from) H first
   full_among no_message no_batch no_end = record {
     stands = among.stands;
-    held = among.held;
+    low = among.low;
     leads = leads;
     near = record { above = omega (arith, within); next = omega (arith, further); no_message = no_message; no_batch = no_batch; no_end = no_end };
     behind = among.behind;

@@ -5,7 +5,7 @@ use Rattle.std.proofs.lemmas.Bool.{cases_eq, cases_lt}
 use Rattle.std.specs.List.{Contains}
 use Rattle.sled_codec.specs.Record.{IsHeader}
 use Rattle.sled_codec.specs.History.{History}
-use Rattle.sled_codec.specs.Snapshots.{SnapshotModel, stable_place}
+use Rattle.sled_codec.specs.Snapshots.{SnapshotModel}
 use Rattle.sled_store.specs.Device.{overwritten, LeavesLog, Placement}
 use Rattle.sled_store.specs.Foreign.{NoForeignLog}
 use Rattle.sled_core.specs.Begun.{records_to}
@@ -68,13 +68,13 @@ module _ (sum : List ℕ → ℕ) (none : NoHeaderOfZeros sum) (size : ℕ) (som
       ]
 
   -- All of it, where the file reaches up to the slot.
-  module _ (held : is.from ≡ stable_place first.stable) (there : site.slot ≤ length old) where
+  module _ (there : site.slot ≤ length old) where
     there_too : slot * size ≤ length old
     there_too = omega (arith, its_slot, there)
 
     -- What stands then: the file as far as before, the segment as far as before, and no other mark in its slot.
     abbrev pub GapStands : Type 0
-    GapStands = StandsAfter sum size old new site from records reach H first
+    GapStands = StandsAfter sum size old new site from records reach H first is.from
 
     -- Nothing of the segment is written yet.
     headless : from ≡ 0 → GapStands
@@ -88,7 +88,7 @@ module _ (sum : List ℕ → ℕ) (none : NoHeaderOfZeros sum) (size : ℕ) (som
         λ s found here. none_in_zeros sum 20 none (omega arith) new site.slot zeros (pos s.place) s.mark (subst (λ n. IsHeader sum (part new n 20) (pos s.place) s.mark) here found.header) in
         record {
           stands = stands.0;
-          held = stands.1 ∙ held;
+          held_same = stands.1;
           here = record { only = only sum size some old site from at asked inside slot_begins there reach H first is its; own = λ s found here. absurd (none_here s found here); read = λ later. absurd (omega (arith, begins, later)) };
           marks = λ s found here. absurd (none_here s found here);
         }
@@ -121,14 +121,14 @@ module _ (sum : List ℕ → ℕ) (none : NoHeaderOfZeros sum) (size : ℕ) (som
       behind : GapStands
       behind =
           let ended = g.ended in
-          stands_after sum size some old site from at asked inside slot_begins there reach H first is its g.scan g.there g.in_slot g.at_place (omega (arith, ended, gap, before)) (inl (ended, λ room. g.broken)) (omega (arith, has_room)) stands.0 (stands.1 ∙ held)
+          stands_after sum size some old site from at asked inside slot_begins there reach H first is its g.scan g.there g.in_slot g.at_place (omega (arith, ended, gap, before)) (inl (ended, λ room. g.broken)) (omega (arith, has_room)) stands.0 stands.1
           (subst (λ w. IsEnd sum size new g.scan.segment.slot g.scan.segment.place g.scan.stop w) (sym g.broken) ends)
 
     pub gap_stands : GapStands
     gap_stands = elim (cases_lt 0 from) [ inl later ↦ behind later | inr first_one ↦ headless (omega (arith, first_one)) ]
 
 -- Behind a gap of the first segment, or of one behind it.
-module _ (sum : List ℕ → ℕ) (size : ℕ) (some : 256 ≤ size) (old : List ℕ) (site : SegmentPosition) (from : ℕ) (others : List BegunSegment) (reach : ℕ) (H : History) (first : SnapshotModel) (among : StandsAmong sum size old site from others reach H first)
+module _ (sum : List ℕ → ℕ) (size : ℕ) (some : 256 ≤ size) (old : List ℕ) (site : SegmentPosition) (from : ℕ) (others : List BegunSegment) (reach : ℕ) (H : History) (first : SnapshotModel) {held : ℕ} (among : StandsAmong sum held size old site from others reach H first)
     (its : SegmentPosition) (at : ℕ) (asked : List ℕ) (inside : at + length asked ≤ size) (slot_begins : its.slot % size ≡ 0) (there : its.slot ≤ length old) where
   abbrev fresh : List ℕ
   fresh = overwritten old (its.slot + at) asked
@@ -141,7 +141,7 @@ module _ (sum : List ℕ → ℕ) (size : ℕ) (some : 256 ≤ size) (old : List
       let at_slot : its.slot / size * size ≡ its.slot = omega (arith, mod-add-div' its.slot size, slot_begins) in
       subst (λ n. IsSameBeside sum size old (overwritten old (n + at) asked) n) at_slot (same_whole sum size some old (its.slot / size) at asked inside (omega (arith, at_slot, there)))
 
-  module _ (so_far records : ℕ) (after : StandsAfter sum size old fresh its so_far records reach H first) where
+  module _ (so_far records : ℕ) (after : StandsAfter sum size old fresh its so_far records reach H first among.stands.from) where
     -- the one that leads to the first segment lies before it, so in another slot
     leads_on : site.place ≤ its.place → ((s : Segment) → IsFoundSegment sum size old least s → s.slot ≡ its.slot → s.place ≡ its.place) → IsLed sum size fresh least reach site.place
     leads_on low own = elim among.led [
@@ -172,13 +172,13 @@ module _ (sum : List ℕ → ℕ) (size : ℕ) (some : 256 ≤ size) (old : List
     last_of : ((s : Segment) → s.place ≡ its.place → (s.place ≤ site.place) ⊎ BeginsOne others s.place) → (s : Segment) → IsFoundSegment sum size fresh least s → (s.place ≤ site.place) ⊎ BeginsOne others s.place
     last_of known s found = elim (cases_eq s.slot its.slot) [ inl here ↦ known s (after.here.own s found here) | inr other ↦ among.last s (beside_it.found least s other found) ]
 
-  pub gap_written : its ≡ site → StandsAfter sum size old fresh its from 0 reach H first → StandsAmong sum size fresh site from others reach H first
+  pub gap_written : its ≡ site → StandsAfter sum size old fresh its from 0 reach H first among.stands.from → StandsAmong sum held size fresh site from others reach H first
   gap_written same after =
       let at_place : its.place ≡ site.place = ap (λ (x : SegmentPosition). x.place) same in
       let at_slot : its.slot ≡ site.slot = ap (λ (x : SegmentPosition). x.slot) same in
       record {
         stands = after.stands;
-        held = after.held;
+        low = (let same = after.held_same in let low = among.low in omega (arith, same, low));
         reached = among.reached;
         led = leads_on from 0 after (omega (arith, at_place)) (λ s found here. among.here.own s found (here ∙ at_slot) ∙ sym at_place);
         here = subst (λ (x : SegmentPosition). StandsIn sum size fresh least after.stands.scanned x from 0) same after.here;
@@ -190,7 +190,7 @@ module _ (sum : List ℕ → ℕ) (size : ℕ) (some : 256 ≤ size) (old : List
         below = low_mark from 0 after;
       }
 
-  pub other_gap : (y : BegunSegment) → Contains others y → its ≡ y.site → StandsAfter sum size old fresh its y.from (records_to y.filled size) reach H first → StandsAmong sum size fresh site from others reach H first
+  pub other_gap : (y : BegunSegment) → Contains others y → its ≡ y.site → StandsAfter sum size old fresh its y.from (records_to y.filled size) reach H first among.stands.from → StandsAmong sum held size fresh site from others reach H first
   other_gap y known same after =
       let at_place : its.place ≡ y.site.place = ap (λ (x : SegmentPosition). x.place) same in
       let at_slot : its.slot ≡ y.site.slot = ap (λ (x : SegmentPosition). x.slot) same in
@@ -199,7 +199,7 @@ module _ (sum : List ℕ → ℕ) (size : ℕ) (some : 256 ≤ size) (old : List
       let stands_its : StandsIn sum size fresh least after.stands.scanned y.site y.from (records_to y.filled size) = subst (λ (x : SegmentPosition). StandsIn sum size fresh least after.stands.scanned x y.from (records_to y.filled size)) same after.here in
       record {
         stands = after.stands;
-        held = after.held;
+        low = (let same = after.held_same in let low = among.low in omega (arith, same, low));
         reached = among.reached;
         led = leads_on y.from (records_to y.filled size) after (omega (arith, at_place, behind_first)) (λ s found here. (among.behind y known).own s found (here ∙ at_slot) ∙ sym at_place);
         here = other_stays y.from (records_to y.filled size) after site from (λ here. f.1 (sym (here ∙ at_slot))) (λ here. omega (arith, here, at_place, behind_first)) among.here;

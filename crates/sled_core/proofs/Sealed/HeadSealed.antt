@@ -42,7 +42,7 @@ module _ (sum : List ℕ → ℕ) (none : NoHeaderOfZeros sum) (size : ℕ) (som
     (fresh : b.is_written ≡ false) (closed : b.open_count ≡ 0) (are : AreSealed from rs (b ∷ rest)) (rise : EndsRise from (b ∷ rest) size) (inside : b.end ≤ length bytes)
     (stand : All (Stands sum size (site.place / size) bytes) rs) (has_room : from + 32 ≤ size)
     {H : History} (header : from ≡ 0 → HasMark sum site bytes H)
-    (laid : Laid file site.slot bytes from (b ∷ rest) size) {others : List BegunSegment} (reach : ℕ) (first : SnapshotModel) (alone : StandsAmong sum size file site from others reach H first) where
+    (laid : Laid file site.slot bytes from (b ∷ rest) size) {others : List BegunSegment} (reach : ℕ) (first : SnapshotModel) {held : ℕ} (alone : StandsAmong sum held size file site from others reach H first) where
   abbrev asked : List ℕ
   asked = bytes_between bytes from b.end
 
@@ -84,17 +84,17 @@ module _ (sum : List ℕ → ℕ) (none : NoHeaderOfZeros sum) (size : ℕ) (som
     -- All of it, where the file reaches up to the slot.
     module _ (ordered : Ascends H.messages) (there : site.slot ≤ length file) (low_enough : least_place size first ≤ site.place) (has_header : HasHeader sum new site) where
       -- Where nothing fills the segment, it goes on behind the buffers that are written now.
-      pub head_sealed_written : All NoPadding done → StandsAmong sum size new site stop others (site.place + stop) H first
+      pub head_sealed_written : All NoPadding done → StandsAmong sum held size new site stop others (site.place + stop) H first
       head_sealed_written plain =
           let at : last ≡ stop = elim run.records.last [ inl l ↦ l.1 | inr f ↦ absurd (f.unlike plain) ] in
           let reason : why ≡ ending_at size stop = elim run.records.last [ inl l ↦ l.2 | inr f ↦ absurd (f.unlike plain) ] in
-          subst (λ n. StandsAmong sum size new site n others (site.place + n) H first) at
+          subst (λ n. StandsAmong sum held size new site n others (site.place + n) H first) at
           (head_written sum none size some file site from asked b.end run.covers run.reaches run.headed has_room place_begins slot_begins place_small its_mark run.clean
           reach first alone (met_in site bytes records) last why run.clear run.path run.ends (run.truth H has) (run.caps H has no_end) ordered there low_enough has_header
           (λ more. let test : nat_lt size (stop + 32) ≡ false = grind (arith, nat_tests, more, at) in reason ∙ ap (λ (o : Bool). if o then Full else Broken) test))
 
       -- Where the last of them ends with the segment, the reading goes on in the next one: what was reached ends with the records.
-      pub head_sealed_filled : stop ≡ size → StandsFull sum size new (site.place + size) others (site.place + last) H first
+      pub head_sealed_filled : stop ≡ size → StandsFull sum held size new (site.place + size) others (site.place + last) H first
       head_sealed_filled full =
           let within : last ≤ size = let end = run.records.low in let low = run.low in omega (arith, end, low) in
           head_filled sum none size some file site from asked b.end run.covers run.reaches run.headed has_room place_begins slot_begins place_small its_mark run.clean

@@ -1,12 +1,12 @@
 -- The write of the first sealed buffer, where no other segment that is found has the number of the current one: what a crash leaves of it stands up to what was written before, and all of it up to where the reading of the segment ends. That may be behind later buffers, which were written before it.
-use Rattle.std.proofs.Common.{◌≡◌, ◌≢◌, ◌⊎◌, ◌∙◌, ◌≤◌, ◌<◌, ◌<ℤ◌, ◌-◌, ◌+◌, ◌*◌, ◌/◌, ◌%◌, ◌^◌, ℕ, ℤ, pos, negsuc, lt→ltb, max, List, [], ◌++◌, length, get_or, refl, sym, subst, arith, inl, inr}
+use Rattle.std.proofs.Common.{◌≡◌, ◌≢◌, ◌⊎◌, ◌≤◌, ◌<◌, ◌<ℤ◌, ◌-◌, ◌+◌, ◌*◌, ◌/◌, ◌%◌, ◌^◌, ℕ, ℤ, pos, negsuc, lt→ltb, max, List, [], ◌++◌, length, get_or, refl, sym, subst, arith, inl, inr}
 use Rattle.std.specs.List.{Contains}
 use Rattle.std.proofs.Math.Nat.{mod-add-div'}
 use Rattle.std.proofs.lemmas.Bool.{cases_eq, cases_lt}
 use Rattle.sled_codec.specs.Places.{part}
 use Rattle.sled_codec.specs.Record.{IsHeader}
 use Rattle.sled_codec.specs.History.{History}
-use Rattle.sled_codec.specs.Snapshots.{SnapshotModel, stable_place}
+use Rattle.sled_codec.specs.Snapshots.{SnapshotModel}
 use Rattle.sled_store.specs.Device.{overwritten, LeavesLog, Placement}
 use Rattle.sled_store.specs.Foreign.{NoForeignLog}
 use Rattle.sled_store.proofs.Histories.Ascending.{Ascends}
@@ -44,7 +44,7 @@ use Rattle.sled_core.proofs.Torn.WrittenParts.{path_rises, path_whole, paths_joi
 use Rattle.sled_core.proofs.Torn.WrittenRecords.{AreClear}
 
 -- a reader is led to the current segment
-pub led_in : (sum : List ℕ → ℕ) (size : ℕ) (log : List ℕ) (site : SegmentPosition) (from reach : ℕ) (H : History) (first : SnapshotModel) {others : List BegunSegment} (alone : StandsAmong sum size log site from others reach H first)
+pub led_in : (sum : List ℕ → ℕ) (size : ℕ) (log : List ℕ) (site : SegmentPosition) (from reach : ℕ) (H : History) (first : SnapshotModel) {others : List BegunSegment} {held : ℕ} (alone : StandsAmong sum held size log site from others reach H first)
     → IsBegunOrLedTo size alone.stands.scanned (least_place size first) reach site.place
 led_in sum size log site from reach H first alone = elim alone.led [
   | inl below ↦ inl below
@@ -53,7 +53,7 @@ led_in sum size log site from reach H first alone = elim alone.led [
 ]
 
 -- What was met of the current segment before, in a file that is the same up to what was written.
-pub met_before : (sum : List ℕ → ℕ) (size : ℕ) (old new : List ℕ) (site : SegmentPosition) (from reach : ℕ) (H : History) (first : SnapshotModel) {others : List BegunSegment} (alone : StandsAmong sum size old site from others reach H first) → from + 32 ≤ size
+pub met_before : (sum : List ℕ → ℕ) (size : ℕ) (old new : List ℕ) (site : SegmentPosition) (from reach : ℕ) (H : History) (first : SnapshotModel) {others : List BegunSegment} {held : ℕ} (alone : StandsAmong sum held size old site from others reach H first) → from + 32 ≤ size
     → ((met : List ScannedRecord) → IsPath sum size old site.slot site.place 20 met from → IsPath sum size new site.slot site.place 20 met from)
     → (met : List ScannedRecord) × IsPath sum size new site.slot site.place 20 met (max 20 from)
 unfolding IsScan
@@ -90,7 +90,7 @@ module _ (sum : List ℕ → ℕ) (none : NoHeaderOfZeros sum) (size : ℕ) (som
     (place_begins : site.place % size ≡ 0) (slot_begins : site.slot % size ≡ 0) (place_small : site.place + size < 2 ^ 63)
     {H : History} (header : from ≡ 0 → HasMark sum site asked H)
     (clean : (i : ℕ) → site.slot + from ≤ i → i < site.slot + until → get_or old i 0 ≡ 0)
-    {others : List BegunSegment} (reach : ℕ) (first : SnapshotModel) (alone : StandsAmong sum size old site from others reach H first)
+    {others : List BegunSegment} (reach : ℕ) (first : SnapshotModel) {held : ℕ} (alone : StandsAmong sum held size old site from others reach H first)
     (more : List ScannedRecord) (stop : ℕ) (why : ScanEnd) (clear : AreClear size until (max 20 from) more)
     (path : IsPath sum size (overwritten old (site.slot + from) asked) site.slot site.place (max 20 from) more stop) (end : IsEnd sum size (overwritten old (site.slot + from) asked) site.slot site.place stop why)
     (truth : (x : ScannedRecord) → Contains more x → IsOfHistory sum size (overwritten old (site.slot + from) asked) H x)
@@ -177,9 +177,9 @@ module _ (sum : List ℕ → ℕ) (none : NoHeaderOfZeros sum) (size : ℕ) (som
     stands : StandsTo sum size new H (stable_below (site.place + stop) H.batches) first (site.place + stop)
     stands = stands_from.0
 
-    held : stands.from ≡ stable_place first.stable
+    low_from : stands.from ≤ held
     unfolding stands
-    held = stands_from.1 ∙ alone.held
+    low_from = let same = stands_from.1 in let low = alone.low in omega (arith, same, low)
 
     -- It is read to where the path ends.
 
@@ -230,10 +230,10 @@ module _ (sum : List ℕ → ℕ) (none : NoHeaderOfZeros sum) (size : ℕ) (som
     others_stay : (x : BegunSegment) → Contains others x → StandsIn sum size new (least_place size first) stands.scanned x.site x.from (records_to x.filled size)
     others_stay x among = let apart = follows site others alone.apart x among in stays x.site x.from apart.1 (λ at. let low = apart.0 in omega (arith, at, low)) (alone.behind x among)
 
-    pub head_written : (stop + 32 ≤ size → why ≡ Broken) → StandsAmong sum size new site stop others (site.place + stop) H first
+    pub head_written : (stop + 32 ≤ size → why ≡ Broken) → StandsAmong sum held size new site stop others (site.place + stop) H first
     head_written broken = record {
       stands = stands;
-      held = held;
+      low = low_from;
       reached = inl refl;
       led = inl (omega (arith, rises));
       here = grown stop (inl (refl, broken));
@@ -245,10 +245,10 @@ module _ (sum : List ℕ → ℕ) (none : NoHeaderOfZeros sum) (size : ℕ) (som
 
     -- Where it is full now, the reading goes on in the next one.
     pub head_filled : why ≢ Broken → stop ≤ size → NoMessageBegins H (site.place + stop) (site.place + size) → NoBatchBegins H (site.place + stop) (site.place + size) → NoBatchEnds H (site.place + stop) (site.place + size)
-        → StandsFull sum size new (site.place + size) others (site.place + stop) H first
+        → StandsFull sum held size new (site.place + size) others (site.place + stop) H first
     head_filled goes within no_message no_batch no_end = record {
       stands = stands;
-      held = held;
+      low = low_from;
       leads = record { scan = y; found = y_found; read = y_scan; next = refl; goes = goes; below = omega (arith, rises) };
       near = record { above = omega (arith, within); next = omega (arith, further); no_message = no_message; no_batch = no_batch; no_end = no_end };
       behind = others_stay;

@@ -24,7 +24,7 @@ use Rattle.sled_core.proofs.Torn.TornLemmas.{after_write}
 module _ (sum : List ℕ → ℕ) (none : NoHeaderOfZeros sum) (size : ℕ) (some : 256 ≤ size) (file : List ℕ) (site : SegmentPosition) (from : ℕ) (others : List BegunSegment) (y : BegunSegment) (known : Contains others y) (slot_begins : y.site.slot % size ≡ 0)
     (bytes : List ℕ) (begins : (y.from ≡ 0) ⊎ (20 ≤ y.from)) (rs : List Reserved) (x : Sealed) (xs : List Sealed) (b : Sealed) (rest : List Sealed) (fresh : x.is_written ≡ false) (are : AreSealed y.from rs (x ∷ xs ++ b ∷ rest))
     (rise : EndsRise y.from (x ∷ xs ++ b ∷ rest) size) (inside : b.end ≤ length bytes) (number : ℕ) (stand : All (Stands sum size number bytes) rs) (laid : Laid file y.site.slot bytes y.from (x ∷ xs ++ b ∷ rest) size)
-    (reach : ℕ) (H : History) (first : SnapshotModel) (among : StandsAmong sum size file site from others reach H first) where
+    (reach : ℕ) (H : History) (first : SnapshotModel) {held : ℕ} (among : StandsAmong sum held size file site from others reach H first) where
   -- where it begins
   abbrev at : ℕ
   at = sealed_end x.end xs
@@ -38,8 +38,8 @@ module _ (sum : List ℕ → ℕ) (none : NoHeaderOfZeros sum) (size : ℕ) (som
   torn_other_behind = torn_in_gap sum none size some file y.site slot_begins bytes y.from begins rs x xs b rest fresh are rise inside number stand reach H first file laid among.stands (among.behind y known)
 
   -- All of it, where the file reaches up to the slot.
-  pub other_behind_written : y.site.slot ≤ length file → StandsAmong sum size (overwritten file (y.site.slot + at) asked) site from others reach H first
+  pub other_behind_written : y.site.slot ≤ length file → StandsAmong sum held size (overwritten file (y.site.slot + at) asked) site from others reach H first
   other_behind_written there =
       let fits : at + length asked ≤ size = (let l = long file y.site.slot bytes y.from (x ∷ xs) b rest size rise inside in let up = (rises_at x.end xs b rest size rise.1).2 in omega (arith, l, up)) in
       other_gap sum size some file site from others reach H first among y.site at asked fits slot_begins there y known refl
-      (stands_in_gap sum none size some file y.site slot_begins bytes y.from begins rs x xs b rest fresh are rise inside number stand reach H first file laid among.stands (among.behind y known) among.held there)
+      (stands_in_gap sum none size some file y.site slot_begins bytes y.from begins rs x xs b rest fresh are rise inside number stand reach H first file laid among.stands (among.behind y known) there)

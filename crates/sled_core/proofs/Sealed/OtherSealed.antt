@@ -55,7 +55,7 @@ module _ (sum : List ℕ → ℕ) (none : NoHeaderOfZeros sum) (size : ℕ) (som
     (bytes : List ℕ) (begins : (y.from ≡ 0) ⊎ (20 ≤ y.from)) (rs : List Reserved) (b : Sealed) (rest : List Sealed)
     (fresh : b.is_written ≡ false) (closed : b.open_count ≡ 0) (are : AreSealed y.from rs (b ∷ rest)) (rise : EndsRise y.from (b ∷ rest) size) (inside : b.end ≤ length bytes)
     (stand : All (Stands sum size (y.site.place / size) bytes) rs) {H : History} (header : y.from ≡ 0 → (m : HasMark sum y.site bytes H) × (m.mark <ℤ pos (site.place + from)))
-    (laid : Laid file y.site.slot bytes y.from (b ∷ rest) size) (reach : ℕ) (first : SnapshotModel) (among : StandsAmong sum size file site from (pre ++ y ∷ post) reach H first) where
+    (laid : Laid file y.site.slot bytes y.from (b ∷ rest) size) (reach : ℕ) (first : SnapshotModel) {held : ℕ} (among : StandsAmong sum held size file site from (pre ++ y ∷ post) reach H first) where
   abbrev asked : List ℕ
   asked = bytes_between bytes y.from b.end
 
@@ -167,9 +167,9 @@ module _ (sum : List ℕ → ℕ) (none : NoHeaderOfZeros sum) (size : ℕ) (som
     ]
 
     -- All of it, where the file reaches up to the slot: the segment stands as far as the buffers that are written now.
-    pub other_sealed_written : Ascends H.messages → y.site.slot ≤ length file → least_place size first ≤ y.site.place → (stop ≡ size → records_to y.filled size ≤ last) → StandsAmong sum size new site from (pre ++ grown_one y stop ∷ post) reach H first
+    pub other_sealed_written : Ascends H.messages → y.site.slot ≤ length file → least_place size first ≤ y.site.place → (stop ≡ size → records_to y.filled size ≤ last) → StandsAmong sum held size new site from (pre ++ grown_one y stop ∷ post) reach H first
     other_sealed_written ordered there low up_to = elim (cases_lt size (y.from + 32)) [
-      | inl full ↦ subst (λ n. StandsAmong sum size new site from (pre ++ grown_one y n ∷ post) reach H first) (sym (fills full))
+      | inl full ↦ subst (λ n. StandsAmong sum held size new site from (pre ++ grown_one y n ∷ post) reach H first) (sym (fills full))
           (other_rest_written sum size some file site from pre y post y.from asked fits slot_begins (omega arith) left_over full (let up = up_to (fills full) in let low_end = last_low full in omega (arith, up, low_end)) reach H first among there)
       | inr room ↦ (
           let h = header_new room in

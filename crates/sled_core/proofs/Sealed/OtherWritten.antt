@@ -1,5 +1,5 @@
 -- A buffer is written to a segment behind the first one, at its beginning or behind what is written of it: what a crash leaves of it stands as before, and all of it too, with that segment up to where its records end now.
-use Rattle.std.proofs.Common.{◌≡◌, ◌≢◌, ◌⊎◌, ◌≤◌, ◌<◌, ◌<ℤ◌, ◌+◌, ◌*◌, ◌/◌, ◌%◌, ◌^◌, ℕ, ℤ, pos, max, List, ◌∷◌, ◌++◌, length, get_or, refl, sym, ◌∙◌, subst, arith, inl, inr}
+use Rattle.std.proofs.Common.{◌≡◌, ◌≢◌, ◌⊎◌, ◌≤◌, ◌<◌, ◌<ℤ◌, ◌+◌, ◌*◌, ◌/◌, ◌%◌, ◌^◌, ℕ, ℤ, pos, max, List, ◌∷◌, ◌++◌, length, get_or, refl, sym, subst, arith, inl, inr}
 use Rattle.std.specs.List.{Contains}
 use Rattle.std.proofs.Math.Nat.{mod-add-div'}
 use Rattle.std.proofs.lemmas.Bool.{cases_eq, cases_lt}
@@ -48,7 +48,7 @@ module _ (sum : List ℕ → ℕ) (none : NoHeaderOfZeros sum) (size : ℕ) (som
     (place_begins : y.site.place % size ≡ 0) (slot_begins : y.site.slot % size ≡ 0) (place_small : y.site.place + size < 2 ^ 63) {H : History}
     (header : y.from ≡ 0 → (m : HasMark sum y.site asked H) × (m.mark <ℤ pos (site.place + from)))
     (clean : (i : ℕ) → y.site.slot + y.from ≤ i → i < y.site.slot + until → get_or old i 0 ≡ 0)
-    (reach : ℕ) (first : SnapshotModel) (among : StandsAmong sum size old site from (pre ++ y ∷ post) reach H first)
+    (reach : ℕ) (first : SnapshotModel) {held : ℕ} (among : StandsAmong sum held size old site from (pre ++ y ∷ post) reach H first)
     (more : List ScannedRecord) (stop : ℕ) (why : ScanEnd) (clear : AreClear size until (max 20 y.from) more)
     (path : IsPath sum size (overwritten old (y.site.slot + y.from) asked) y.site.slot y.site.place (max 20 y.from) more stop)
     (end : IsEnd sum size (overwritten old (y.site.slot + y.from) asked) y.site.slot y.site.place stop why)
@@ -171,11 +171,11 @@ module _ (sum : List ℕ → ℕ) (none : NoHeaderOfZeros sum) (size : ℕ) (som
       | inr other ↦ among.below s (beside.found (least_place size first) s other found)
     ]
 
-    pub other_written : (so_far : ℕ) → IsSoFar size so_far stop why → (so_far ≡ size → records_to y.filled size ≤ stop) → StandsAmong sum size new site from (pre ++ grown_one y so_far ∷ post) reach H first
+    pub other_written : (so_far : ℕ) → IsSoFar size so_far stop why → (so_far ≡ size → records_to y.filled size ≤ stop) → StandsAmong sum held size new site from (pre ++ grown_one y so_far ∷ post) reach H first
     unfolding stands
     other_written so_far far up_to = record {
       stands = stands;
-      held = both.2 ∙ among.held;
+      low = (let same = both.2 in let low = among.low in omega (arith, same, low));
       reached = among.reached;
       led = led_on;
       here = stays site from (λ same. apart_first.1 (sym same)) (λ same. let behind = apart_first.0 in omega (arith, same, behind)) among.here;

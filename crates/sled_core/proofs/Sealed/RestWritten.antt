@@ -4,7 +4,7 @@ use Rattle.std.specs.List.{Contains}
 use Rattle.std.proofs.Math.Nat.{mod-add-div'}
 use Rattle.std.proofs.lemmas.List.Elements.{Contains-append_right}
 use Rattle.sled_codec.specs.History.{History}
-use Rattle.sled_codec.specs.Snapshots.{SnapshotModel, stable_place}
+use Rattle.sled_codec.specs.Snapshots.{SnapshotModel}
 use Rattle.sled_store.specs.Device.{overwritten, LeavesLog, Placement}
 use Rattle.sled_store.specs.Foreign.{NoForeignLog}
 use Rattle.sled_store.proofs.Segments.Elements.{in_first}
@@ -56,7 +56,7 @@ module _ (sum : List ℕ → ℕ) (size : ℕ) (some : 256 ≤ size) (old : List
       (subst (λ n. NoForeignLog sum size (after_write old (n + at) asked now) placed left) (sym its_slot) only_own)
 
   -- All of it, where the file reaches up to the slot.
-  module _ (held : is.from ≡ stable_place first.stable) (there : site.slot ≤ length old) where
+  module _ (there : site.slot ≤ length old) where
     stands : StandsFrom sum size new H (stable_below reach H.batches) first reach is.from
     stands = subst (λ n. StandsFrom sum size (overwritten old (n + at) asked) H (stable_below reach H.batches) first reach is.from) its_slot
         (written_full sum size some old slot at asked inside H (stable_below reach H.batches) first reach is z read.2.there (read.2.in_slot ∙ sym its_slot) (omega (arith, stops, behind)) (omega (arith, stops, full)) (omega (arith, its_slot, there)))
@@ -68,13 +68,13 @@ module _ (sum : List ℕ → ℕ) (size : ℕ) (some : 256 ≤ size) (old : List
     ends : IsEnd sum size new z.segment.slot z.segment.place z.stop Full
     ends = omega (arith, stops, full)
 
-    pub rest_stands : StandsAfter sum size old new site from records reach H first
+    pub rest_stands : StandsAfter sum size old new site from records reach H first is.from
     rest_stands = stands_after sum size some old site from at asked inside slot_begins there reach H first is its z read.2.there read.2.in_slot read.2.at_place (omega (arith, stops, behind))
-        (inl (stops, λ room. absurd (omega (arith, room, full)))) left_over stands.0 (stands.1 ∙ held) (subst (λ (w : ScanEnd). IsEnd sum size new z.segment.slot z.segment.place z.stop w) (sym its_why) ends)
+        (inl (stops, λ room. absurd (omega (arith, room, full)))) left_over stands.0 stands.1 (subst (λ (w : ScanEnd). IsEnd sum size new z.segment.slot z.segment.place z.stop w) (sym its_why) ends)
 
 -- A segment behind the first one in which no header has room any more is full, whether something is left of it or not.
 module _ (sum : List ℕ → ℕ) (size : ℕ) (some : 256 ≤ size) (log : List ℕ) (site : SegmentPosition) (from : ℕ) (pre : List BegunSegment) (y : BegunSegment) (post : List BegunSegment) (full : size < y.from + 32) (up_to : records_to y.filled size ≤ y.from)
-    (reach : ℕ) (H : History) (first : SnapshotModel) (among : StandsAmong sum size log site from (pre ++ y ∷ post) reach H first) where
+    (reach : ℕ) (H : History) (first : SnapshotModel) {held : ℕ} (among : StandsAmong sum held size log site from (pre ++ y ∷ post) reach H first) where
   its_stands : StandsIn sum size log (least_place size first) among.stands.scanned y.site y.from (records_to y.filled size)
   its_stands = among.behind y (Contains-append_right pre (y ∷ post) y (in_first y post))
 
@@ -103,10 +103,10 @@ module _ (sum : List ℕ → ℕ) (size : ℕ) (some : 256 ≤ size) (log : List
   whole_stands : StandsIn sum size log (least_place size first) among.stands.scanned y.site size (records_to y.filled size)
   whole_stands = record { only = its_stands.only; own = its_stands.own; read = λ later. (its_read.0, its_read.1, its_read.2, inr (refl, leads_on), λ same. behind_records) }
 
-  pub other_full : StandsAmong sum size log site from (pre ++ grown_one y size ∷ post) reach H first
+  pub other_full : StandsAmong sum held size log site from (pre ++ grown_one y size ∷ post) reach H first
   other_full = record {
     stands = among.stands;
-    held = among.held;
+    low = among.low;
     reached = among.reached;
     led = among.led;
     here = among.here;
@@ -121,10 +121,10 @@ module _ (sum : List ℕ → ℕ) (size : ℕ) (some : 256 ≤ size) (log : List
 
 -- So it is once what is left of it is written.
 pub other_rest_written : (sum : List ℕ → ℕ) (size : ℕ) (some : 256 ≤ size) (old : List ℕ) (site : SegmentPosition) (from : ℕ) (pre : List BegunSegment) (y : BegunSegment) (post : List BegunSegment) (at : ℕ) (asked : List ℕ) → at + length asked ≤ size → y.site.slot % size ≡ 0
-    → y.from ≤ at → y.from < size → size < y.from + 32 → records_to y.filled size ≤ y.from → (reach : ℕ) (H : History) (first : SnapshotModel) → StandsAmong sum size old site from (pre ++ y ∷ post) reach H first → y.site.slot ≤ length old
-    → StandsAmong sum size (overwritten old (y.site.slot + at) asked) site from (pre ++ grown_one y size ∷ post) reach H first
+    → y.from ≤ at → y.from < size → size < y.from + 32 → records_to y.filled size ≤ y.from → (reach : ℕ) (H : History) (first : SnapshotModel) → {held : ℕ} → StandsAmong sum held size old site from (pre ++ y ∷ post) reach H first → y.site.slot ≤ length old
+    → StandsAmong sum held size (overwritten old (y.site.slot + at) asked) site from (pre ++ grown_one y size ∷ post) reach H first
 other_rest_written sum size some old site from pre y post at asked inside slot_begins behind left_over full up_to reach H first among there =
     let its : Contains (pre ++ y ∷ post) y = Contains-append_right pre (y ∷ post) y (in_first y post) in
     other_full sum size some (overwritten old (y.site.slot + at) asked) site from pre y post full up_to reach H first
     (other_gap sum size some old site from (pre ++ y ∷ post) reach H first among y.site at asked inside slot_begins there y its refl
-    (rest_stands sum size some old y.site y.from at asked inside slot_begins behind left_over full reach H first among.stands (among.behind y its) among.held there))
+    (rest_stands sum size some old y.site y.from at asked inside slot_begins behind left_over full reach H first among.stands (among.behind y its) there))

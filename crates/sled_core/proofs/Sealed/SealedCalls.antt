@@ -86,8 +86,8 @@ module _ (sum : List ℕ → ℕ) (size : ℕ) (some : 256 ≤ size) (old : List
     -- A reader reads up to the end of those that are written now, where nothing fills the segment.
     pub first_alone : All (Stands sum size (site.place / size) bytes) rs → from + 32 ≤ size → All NoPadding (take (b.count + run_count rest) rs) → NoHeaderOfZeros sum → (reach : ℕ) (first : SnapshotModel) → HasOnly H (completed_in site bytes (take (b.count + run_count rest) rs)) (batches_in site bytes (take (b.count + run_count rest) rs)) (site.place + max 20 from) (site.place + run_end b.end rest)
         → (records_why size (take (b.count + run_count rest) rs) (run_end b.end rest) ≢ Broken → NoBatchEnds H (site.place + records_end (take (b.count + run_count rest) rs) (run_end b.end rest)) (site.place + size)) → Ascends H.messages → least_place size first ≤ site.place
-        → (to : ℕ) → site.slot ≤ to → {others : List BegunSegment} → StandsAmong sum size (filled to) site from others reach H first → StandsAmong sum size (padded to new) site (run_end b.end rest) others (site.place + run_end b.end rest) H first
-    first_alone stand room plain zeros reach first has no_end ordered low to far {others} alone = subst (λ (l : List ℕ). StandsAmong sum size l site (run_end b.end rest) others (site.place + run_end b.end rest) H first) (same_file to)
+        → (to : ℕ) → site.slot ≤ to → {others : List BegunSegment} → {held : ℕ} → StandsAmong sum held size (filled to) site from others reach H first → StandsAmong sum held size (padded to new) site (run_end b.end rest) others (site.place + run_end b.end rest) H first
+    first_alone stand room plain zeros reach first has no_end ordered low to far {others} {held} alone = subst (λ (l : List ℕ). StandsAmong sum held size l site (run_end b.end rest) others (site.place + run_end b.end rest) H first) (same_file to)
         (head_sealed_written sum zeros size some (filled to) site place_begins slot_begins place_small slot_small bytes from begins rs b rest fresh closed are rise inside stand room header (laid_filled to) reach first alone has no_end
         ordered (omega (arith, padded_long to old, far)) low (subst (λ (l : List ℕ). HasHeader sum l site) (sym (same_file to)) (padded_header to)) plain)
 
@@ -111,7 +111,7 @@ module _ (sum : List ℕ → ℕ) (size : ℕ) (some : 256 ≤ size) (old : List
         laid_same site.slot old (filled to) bytes from (x ∷ xs ++ b ∷ rest) size rise (record { grows = omega (arith, length-padded to old); same = λ i above below. padded_get to old (site.slot + i) }) laid
 
     -- A reader reads no further than before.
-    pub later_alone : NoHeaderOfZeros sum → (reach : ℕ) (H : History) (first : SnapshotModel) (to : ℕ) → site.slot ≤ to → {others : List BegunSegment} → StandsAmong sum size (filled to) site from others reach H first
-        → StandsAmong sum size (padded to (overwritten old (site.slot + at) asked_later)) site from others reach H first
-    later_alone zeros reach H first to far {others} alone = subst (λ (l : List ℕ). StandsAmong sum size l site from others reach H first) (same_later to)
+    pub later_alone : NoHeaderOfZeros sum → (reach : ℕ) (H : History) (first : SnapshotModel) (to : ℕ) → site.slot ≤ to → {others : List BegunSegment} → {held : ℕ} → StandsAmong sum held size (filled to) site from others reach H first
+        → StandsAmong sum held size (padded to (overwritten old (site.slot + at) asked_later)) site from others reach H first
+    later_alone zeros reach H first to far {others} {held} alone = subst (λ (l : List ℕ). StandsAmong sum held size l site from others reach H first) (same_later to)
         (written_behind_unwritten sum zeros size some old site slot_begins bytes from begins rs x xs b rest fresh are rise inside number stand reach H first (filled to) (laid_later to) alone (omega (arith, padded_long to old, far)))

@@ -80,8 +80,8 @@ module _ (sum : List ℕ → ℕ) (size : ℕ) (long : 20 ≤ size) (log : List 
 -- So a log that begins where the snapshot ends stands alone, with the newest snapshot in place of this one.
 pub begins_alone : (sum : List ℕ → ℕ) (size : ℕ) (log : List ℕ) (s first : SnapshotModel) (H : History) (site : SegmentPosition) (from : ℕ) → stable_place first.stable ≡ stable_place s.stable → site.place + from ≡ stable_place s.stable
     → site.place ≡ stable_place s.stable / size * size → ((slot : ℕ) → s.active ≡ Some slot → slot ≡ site.slot) → (0 < from → (s.active ≡ Some site.slot) × (from ≡ stable_place s.stable % size))
-    → StandsActive sum size log s H → StandsAlone sum size log site from (site.place + from) H first
-begins_alone sum size log s first H site from same end begins own behind alone =
+    → StandsActive sum size log s H → (held : ℕ) → stable_place s.stable ≤ held → StandsAlone sum held size log site from (site.place + from) H first
+begins_alone sum size log s first H site from same end begins own behind alone held above =
     let stable : ℕ = stable_place s.stable in
     let reach : ℕ = site.place + from in
     let open_none : stable_below reach H.batches ≡ stable = stable_all reach H.batches (λ b there low. (let under = alone.stands.closed b there (omega (arith, low, end)) in omega (arith, under, end))) ∙ end in
@@ -94,7 +94,8 @@ begins_alone sum size log s first H site from same end begins own behind alone =
     one_in_slot sum size log (least_place size s) (least_place size s) x z.scan.segment found ((alone.stands.numbers.found z.scan.segment).0 known.0) (sym z.in_slot) ∙ z.at_place ∙ sym begins) in
     record {
       stands = on.0;
-      held = let low = on.0.from_low in let high = on.0.from_high in omega (arith, low, high, open_none, same);
+      -- all counts from the snapshot's place
+      low = (let up = on.0.from_high in omega (arith, up, open_none, above));
       reached = inl refl;
       led = inr (inl (omega (arith, begins, least)));
       here = record {

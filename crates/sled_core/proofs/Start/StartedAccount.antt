@@ -40,6 +40,7 @@ use Rattle.sled_core.specs.Unmarked.{is_among, without}
 use Rattle.sled_core.specs.inside.Recoverable.{ActiveFits}
 use Rattle.sled_core.specs.inside.Running.{IsReadyFor}
 use Rattle.sled_core.specs.NoForeign.{NoHeaderOfZeros}
+use Rattle.sled_core.specs.declared.logger.joined_marks.JoinedMarks.{JoinedMarks}
 use Rattle.sled_core.specs.inside.Numbers.{HaveSlots, HaveSlotsFrom}
 use Rattle.sled_core.specs.inside.Slots.{HasAccount}
 use Rattle.sled_core.proofs.Logged.Alike.{table_alike}
@@ -47,7 +48,10 @@ use Rattle.sled_core.proofs.Logged.Messages.{logged_apart, logged_below, logged_
 use Rattle.sled_core.proofs.Start.Entries.{HasEntry, from_any, table_entry}
 use Rattle.sled_core.proofs.Start.OwnSlots.{HasFound, found_taken, low_active, low_raised, own_started}
 use Rattle.sled_core.proofs.Start.UsedEntries.{page_used}
+use Rattle.sled_core.proofs.Tail.MarkPlaces.{held_begun}
 use Rattle.sled_core.proofs.Tail.Multiples.{apart, same_number}
+use Rattle.sled_core.specs.LogSegments.{held_from}
+use Rattle.sled_core.specs.inside.LogSegments.{held_since}
 
 -- A page with an entry in a slot is among those of the slot.
 pages_there : (size k i : ℕ) (ps : List Page) (n : ℕ) → list_any (λ e. slot_of size e == k) (entries_in (get_or ps n Uninitialized)) ≡ true → Contains (pages_in size k i ps) (i + n)
@@ -277,12 +281,19 @@ module _ (sum : List ℕ → ℕ) (size : ℕ) (some : 0 < size) (old : State) (
       (apart_ascends H.messages (logged_apart H ready.ready.apart))
       (λ m there. (All-contains (λ (x : Message). (x.place < stable_place s.stable) × (x.place + x.size ≤ stable_place s.stable)) H.messages m low there).0) ready.active
 
-  pub start_account : {size' : ℕ} → size' ≡ size → (snapshots : ℤ → Option (List ℕ)) → snapshots ≡ old.snapshots.file → {m : Machine} → m ≡ begun_machine size (length old.log.bytes) s → HasAccount sum size' snapshots H [] m
-  start_account same snapshots names {m} machine =
-      subst (λ n. HasAccount sum n snapshots H [] m) (sym same) (subst (λ (x : Machine). HasAccount sum size snapshots H [] x) (sym machine) (record {
+  -- Where the mark that joined is the place of the snapshot, what is held counts from it.
+  held_place : (marks : JoinedMarks) → marks.joined ≡ pos (stable_place s.stable) → (began : ℕ) → began ≡ stable_place s.stable
+      → held_from size began marks.joined ≡ stable_place s.stable
+  held_place marks joined began same = ap (λ n. held_from size n marks.joined) same ∙ held_begun size (stable_place s.stable) marks.joined joined
+
+  pub start_account : (marks : JoinedMarks) → marks.joined ≡ pos (stable_place s.stable) → {size' : ℕ} → size' ≡ size → (snapshots : ℤ → Option (List ℕ))
+      → snapshots ≡ old.snapshots.file → {m : Machine} → m ≡ begun_machine size (length old.log.bytes) s → HasAccount sum marks size' snapshots H [] m
+  start_account marks joined same snapshots names {m} machine =
+      subst (λ n. HasAccount sum marks n snapshots H [] m) (sym same) (subst (λ (x : Machine). HasAccount sum marks size snapshots H [] x) (sym machine) (record {
         first = ready.ready.first;
         begins = subst (λ (file : ℤ → Option (List ℕ)). BeginsFrom sum file ready.ready.first) (sym names) ready.ready.begins;
-        account = subst (λ (o : Option ℤ). IsAccountOf size (stable_place o) (without [] H) (begun_machine size (length old.log.bytes) s)) (sym ready.ready.same_place)
+        account = subst (λ n. IsAccountOf size n (without [] H) (begun_machine size (length old.log.bytes) s))
+            (sym (held_place marks joined (stable_place ready.ready.first.stable) (ap stable_place ready.ready.same_place)))
             (same_account size (stable_place s.stable) H (begun_machine size (length old.log.bytes) s) begun_now (without [] H) (all_marked H.messages));
         outdated = begun_outdated size (length old.log.bytes) some s startable H;
         unmarked = λ e there. absurd (in_nothing e there);
@@ -301,12 +312,20 @@ module _ (sum : List ℕ → ℕ) (size : ℕ) (some : 0 < size) (old : State) (
     not_above = low;
   }
 
-  pub start_in_slots : {size' : ℕ} → size' ≡ size → (snapshots : ℤ → Option (List ℕ)) → snapshots ≡ old.snapshots.file → {m : Machine} → m ≡ begun_machine size (length old.log.bytes) s
-      → (A' : ℕ) → ((first : SnapshotModel) → BeginsFrom sum snapshots first → NoHeaderOfZeros sum → stable_place first.stable ≤ A') → HaveSlotsFrom sum size' snapshots H A' m
-  start_in_slots same snapshots names {m} machine A' low first begins =
+  -- The log begins at the place of the snapshot.
+  pub start_place : (snapshots : ℤ → Option (List ℕ)) → snapshots ≡ old.snapshots.file → (first : SnapshotModel) → BeginsFrom sum snapshots first
+      → stable_place first.stable ≡ stable_place s.stable
+  start_place snapshots names first begins =
       let one : first ≡ ready.ready.first = one_begin sum old.snapshots.file first ready.ready.first (subst (λ (file : ℤ → Option (List ℕ)). BeginsFrom sum file first) names begins) ready.ready.begins in
-      let place : stable_place first.stable ≡ stable_place s.stable = ap (λ (x : SnapshotModel). stable_place x.stable) one ∙ ap stable_place ready.ready.same_place in
-      subst (λ n. HaveSlots sum n (stable_place first.stable) H A' m) (sym same)
-      (subst (λ (x : Machine). HaveSlots sum size (stable_place first.stable) H A' x) (sym machine)
-      (subst (λ n. HaveSlots sum size n H A' (begun_machine size (length old.log.bytes) s)) (sym place)
+      ap (λ (x : SnapshotModel). stable_place x.stable) one ∙ ap stable_place ready.ready.same_place
+
+  pub start_in_slots : (marks : JoinedMarks) → marks.joined ≡ pos (stable_place s.stable) → {size' : ℕ} → size' ≡ size → (snapshots : ℤ → Option (List ℕ))
+      → snapshots ≡ old.snapshots.file → {m : Machine} → m ≡ begun_machine size (length old.log.bytes) s
+      → (A' : ℕ) → ((first : SnapshotModel) → BeginsFrom sum snapshots first → NoHeaderOfZeros sum → stable_place first.stable ≤ A')
+      → HaveSlotsFrom sum marks size' snapshots H A' m
+  start_in_slots marks joined same snapshots names {m} machine A' low first begins =
+      let place : stable_place first.stable ≡ stable_place s.stable = start_place snapshots names first begins in
+      subst (λ n. HaveSlots sum n (held_since n marks first) H A' m) (sym same)
+      (subst (λ (x : Machine). HaveSlots sum size (held_since size marks first) H A' x) (sym machine)
+      (subst (λ n. HaveSlots sum size n H A' (begun_machine size (length old.log.bytes) s)) (sym (held_place marks joined (stable_place first.stable) place))
       (begun_slots_from A' (λ zeros. let up = low first begins zeros in omega (arith, place, up)))))

@@ -4,13 +4,13 @@ use Rattle.std.specs.declared.io.Error.{Error as IoError}
 use Rattle.sled_codec.specs.Record.{IsHeader, short_header}
 use Rattle.sled_codec.specs.History.{Message, Batch, History}
 use Rattle.sled_codec.specs.WellFormed.{LieApart}
-use Rattle.sled_codec.specs.Snapshots.{stable_place}
 use Rattle.sled_store.specs.Device.{State}
 use Rattle.sled_store.specs.SegmentStates.{Machine}
 use Rattle.sled_core.specs.declared.iobuf.Reserved.{Reserved}
 use Rattle.sled_core.specs.declared.iobuf.Sealed.{Sealed}
 use Rattle.sled_core.specs.declared.iobuf.SegmentPosition.{SegmentPosition}
 use Rattle.sled_core.specs.declared.logger.Log.{Log}
+use Rattle.sled_core.specs.declared.logger.joined_marks.JoinedMarks.{JoinedMarks}
 use Rattle.sled_core.specs.Begun.{SegmentParts, SegmentView}
 use Rattle.sled_core.specs.inside.Begun.{line_end}
 use Rattle.sled_core.specs.inside.Buffers.{Stands, IsChain, batches_in, completed_in, records_end}
@@ -24,7 +24,7 @@ use Rattle.sled_core.specs.inside.SealedBuffers.{AreSealed, Laid}
 use Rattle.sled_core.specs.inside.Shown.{RestsWhole, shown}
 use Rattle.sled_core.specs.SealedBuffers.{sealed_end}
 use Rattle.sled_core.specs.Waiting.{BufferAt}
-use Rattle.sled_core.specs.Fits.{reserved_end, IsOnDevice, IsBegunFrom, EndBelow, CloseBelow, buffers_of}
+use Rattle.sled_core.specs.Fits.{held_of, reserved_end, IsOnDevice, IsBegunFrom, EndBelow, CloseBelow, buffers_of}
 
 -- What a log has of its current segment over its device: the size of segments, where this one lies, what is on the device, the failure that the log keeps,
 -- the bytes, how many of them were written, the buffers that were sealed since, and the reservations since.
@@ -119,24 +119,24 @@ HoldBehind sum size device fault place (s ∷ ss) stays batches ms =
 
 -- The same of a log: its first segment that isn't wholly on the device holds these messages and all before them, and the segments that were begun behind it
 -- hold the later ones. The newest snapshot is that with which the log began.
-pub record HoldsIn (sum : List ℕ → ℕ) (parts : LogParts) (behind : List SegmentParts) (H : History) : Type 0 where
-  pub begun : IsBegunFrom sum parts.size parts.device.snapshots.file parts.site parts.written_len H
+pub record HoldsIn (sum : List ℕ → ℕ) (marks : JoinedMarks) (parts : LogParts) (behind : List SegmentParts) (H : History) : Type 0 where
+  pub begun : IsBegunFrom sum marks.joined marks.durable parts.size parts.device.snapshots.file parts.site parts.written_len H
   pub head : List Message
   pub later : List Message
   pub messages : H.messages ≡ head ++ later
-  pub own : HoldsSegment sum parts (StaysFrom H (stable_place begun.first.stable)) (record { messages = head; batches = H.batches })
+  pub own : HoldsSegment sum parts (StaysFrom H (held_of begun)) (record { messages = head; batches = H.batches })
   pub others : HoldBehind sum parts.size parts.device parts.fault (parts.site.place + parts.size) behind
-      (StaysBelow H (stable_place begun.first.stable) parts.site.place) H.batches later
+      (StaysBelow H (held_of begun) parts.site.place) H.batches later
   pub apart : FollowApart parts.site (map begun_segment behind)
   -- the header of a segment behind of which nothing is written has a mark below the stable end
   pub marked : (s : SegmentParts) → Contains behind s → s.written_len ≡ 0 → (mark : ℤ) → IsHeader sum (take 20 s.bytes) (pos s.site.place) mark
       → mark <ℤ pos (parts.site.place + parts.written_len)
 
 -- Segments one behind another hold a history, over a device.
-abbrev pub HoldsLine : (List ℕ → ℕ) → ℕ → State → Option IoError → List SegmentView → History → Type 0
-HoldsLine sum size device fault [] H = ⊥
-HoldsLine sum size device fault (v ∷ vs) H =
-    HoldsIn sum (log_parts size v.parts.site device fault v.parts.bytes v.parts.written_len v.parts.sealed v.parts.reserved) (map parts_in vs) H
+abbrev pub HoldsLine : (List ℕ → ℕ) → JoinedMarks → ℕ → State → Option IoError → List SegmentView → History → Type 0
+HoldsLine sum marks size device fault [] H = ⊥
+HoldsLine sum marks size device fault (v ∷ vs) H =
+    HoldsIn sum marks (log_parts size v.parts.site device fault v.parts.bytes v.parts.written_len v.parts.sealed v.parts.reserved) (map parts_in vs) H
 
 -- how far the first one of segments is written
 abbrev pub written_to : List SegmentView → ℕ
@@ -155,16 +155,16 @@ pub record FitsBatches (end last : ℕ) (noted : List Batch) (H : History) : Typ
   pub rising : (b : Batch) → Contains H.batches b → (b.low ≤ b.peg) ⊎ (b.low < end)
 
 -- So do those of a log that has noted these batches and whose slots are these: theirs are taken, and the free ones have zeros.
-pub record HoldsWith (sum : List ℕ → ℕ) (noted : List Batch) (size : ℕ) (device : State) (fault : Option IoError) (line : List SegmentView) (m : Machine)
-    (H : History) : Type 0 where
-  pub holds : HoldsLine sum size device fault line H
+pub record HoldsWith (sum : List ℕ → ℕ) (marks : JoinedMarks) (noted : List Batch) (size : ℕ) (device : State) (fault : Option IoError)
+    (line : List SegmentView) (m : Machine) (H : History) : Type 0 where
+  pub holds : HoldsLine sum marks size device fault line H
   pub batches : FitsBatches (written_to line) (line_end size line) noted H
   pub slots : HasSlots size line device.log.bytes fault m
 
 -- So they do over a device of which so much is shown.
-pub record HoldsShown (sum : List ℕ → ℕ) (noted : List Batch) (size : ℕ) (device : State) (fault : Option IoError) (line : List SegmentView) (m : Machine)
-    (H : History) : Type 0 where
-  pub shows : HoldsWith sum noted size (shown size fault m line device) fault line m H
+pub record HoldsShown (sum : List ℕ → ℕ) (marks : JoinedMarks) (noted : List Batch) (size : ℕ) (device : State) (fault : Option IoError)
+    (line : List SegmentView) (m : Machine) (H : History) : Type 0 where
+  pub shows : HoldsWith sum marks noted size (shown size fault m line device) fault line m H
   pub rests : RestsWhole fault device.log
 
 -- The buffers of a log are those that they were, and behind them at most those that begin at or behind all that was reserved: the header of a segment that

@@ -1,8 +1,9 @@
--- What the marks of a log have to do with its file, and from where what is held counts once marks join.
-use Rattle.std.specs.Prelude.{◌⊎◌, ◌≤ℤ◌, ℕ, ℤ, pos, max, List}
+-- What the marks of a log have to do with its file.
+use Rattle.std.specs.Prelude.{◌⊎◌, ◌≤ℤ◌, ℕ, ℤ, pos, List, Option}
 use Rattle.sled_codec.specs.Snapshots.{SnapshotModel, stable_place}
-use Rattle.sled_core.specs.LogSegments.{begins_from}
+use Rattle.sled_store.specs.SnapshotFiles.{BeginsFrom}
 use Rattle.sled_core.specs.declared.iterator.Segment.{Segment}
+use Rattle.sled_core.specs.declared.logger.joined_marks.JoinedMarks.{JoinedMarks}
 use Rattle.sled_core.specs.inside.Scan.{IsFoundSegment}
 use Rattle.sled_core.specs.Tail.{least_place}
 
@@ -12,10 +13,12 @@ MarkStands sum size log first mark =
     (mark ≤ℤ pos (stable_place first.stable)) ⊎ ((s : Segment) × IsFoundSegment sum size log (least_place size first) s × (mark ≤ℤ s.mark))
 
 -- The marks of a log, that which joined and the greatest that is on the device: the one isn't above the other, and that one stands.
+-- (Once a buffer's write ends with a step of the accountant, no active segment is due for the one that joined: that is then a field besides, of the slots m,
+-- `still : (k : ℕ) → is_active (slot_at m k).state ≡ true → is_due size mark (slot_at m k).lsn ≡ false`. As yet segments below it stay active.)
 pub record MarksFit (sum : List ℕ → ℕ) (size : ℕ) (log : List ℕ) (first : SnapshotModel) (mark durable : ℤ) : Type 0 where
   pub joined : mark ≤ℤ durable
   pub stands : MarkStands sum size log first durable
 
--- from where what is held counts: the beginning of the segment of a mark, or the place with which the log began, where that is greater
-abbrev pub held_from : ℕ → ℕ → ℤ → ℕ
-held_from size began mark = max began (begins_from size mark)
+-- So it is from the snapshot on with which the log began.
+abbrev pub MarksFitFrom : (List ℕ → ℕ) → ℕ → (ℤ → Option (List ℕ)) → List ℕ → JoinedMarks → Type 0
+MarksFitFrom sum size snapshots log marks = (first : SnapshotModel) → BeginsFrom sum snapshots first → MarksFit sum size log first marks.joined marks.durable

@@ -2,13 +2,15 @@
 -- number, and what is of its number lies there. So a number that is forgotten, and comes again, meets nothing that looks like it.
 use Rattle.std.specs.Prelude.{◌≡◌, ◌*◌, ◌/◌, ◌≤◌, ◌<◌, ℕ, ℤ, false, List, Option, Contains}
 use Rattle.sled_codec.specs.History.{Message, History, table}
-use Rattle.sled_codec.specs.Snapshots.{SnapshotModel, stable_place}
+use Rattle.sled_codec.specs.Snapshots.{SnapshotModel}
 use Rattle.sled_store.specs.Device.{State}
 use Rattle.sled_store.specs.Marks.{slot_with}
 use Rattle.sled_store.specs.SegmentStates.{Machine, is_free, slot_at}
 use Rattle.sled_store.specs.SnapshotFiles.{BeginsFrom}
 use Rattle.sled_core.specs.NoForeign.{NoHeaderOfZeros}
+use Rattle.sled_core.specs.declared.logger.joined_marks.JoinedMarks.{JoinedMarks}
 use Rattle.sled_core.specs.inside.Hides.{IsOwnHeader, IsOwnRecord, LiesInSlot}
+use Rattle.sled_core.specs.inside.LogSegments.{held_since}
 
 -- A slot has a number: nothing that is the log's own in it has a greater one, and what is of that number lies in no other slot.
 pub record HasNumber (sum : List ℕ → ℕ) (size : ℕ) (s : State) (k number : ℕ) : Type 0 where
@@ -47,6 +49,7 @@ pub record HaveSlots (sum : List ℕ → ℕ) (size base : ℕ) (H : History) (A
   pub older : (page : ℕ) (e : Message) → Contains (table H base page) e → IsInSlot size m e
   pub not_above : NoHeaderOfZeros sum → base ≤ A
 
--- So it is from the place of the snapshot on with which a log began.
-abbrev pub HaveSlotsFrom : (List ℕ → ℕ) → ℕ → (ℤ → Option (List ℕ)) → History → ℕ → Machine → Type 0
-HaveSlotsFrom sum size snapshots H A m = (first : SnapshotModel) → BeginsFrom sum snapshots first → HaveSlots sum size (stable_place first.stable) H A m
+-- So it is from the segment of the mark on that joined, or from the place of the snapshot with which a log began.
+abbrev pub HaveSlotsFrom : (List ℕ → ℕ) → JoinedMarks → ℕ → (ℤ → Option (List ℕ)) → History → ℕ → Machine → Type 0
+HaveSlotsFrom sum marks size snapshots H A m =
+    (first : SnapshotModel) → BeginsFrom sum snapshots first → HaveSlots sum size (held_since size marks first) H A m

@@ -122,12 +122,11 @@ BeginsOne others place = (x : BegunSegment) × Contains others x × (x.site.plac
 
 -- A reader reads the log file without a gap up to a place, where a write of a segment goes on, and doesn't stop before the stable place of that. That
 -- segment and the others that were begun behind it stand there, each as far as it is written, no other one lies behind it, and no mark behind what is
--- written.
-pub record StandsAmong (sum : List ℕ → ℕ) (size : ℕ) (log : List ℕ) (site : SegmentPosition) (from : ℕ) (others : List BegunSegment) (reach : ℕ) (H : History)
-    (first : SnapshotModel) : Type 0 where
+-- written. What is held counts from a place or below it.
+pub record StandsAmong (sum : List ℕ → ℕ) (held size : ℕ) (log : List ℕ) (site : SegmentPosition) (from : ℕ) (others : List BegunSegment) (reach : ℕ)
+    (H : History) (first : SnapshotModel) : Type 0 where
   pub stands : StandsTo sum size log H (stable_below reach H.batches) first reach
-  -- as yet all counts from the snapshot's place
-  pub held : stands.from ≡ stable_place first.stable
+  pub low : stands.from ≤ held
   pub reached : ReachesIn size H site.place from reach
   pub led : IsLed sum size log (least_place size first) reach site.place
   pub here : StandsIn sum size log (least_place size first) stands.scanned site from 0
@@ -137,8 +136,8 @@ pub record StandsAmong (sum : List ℕ → ℕ) (size : ℕ) (log : List ℕ) (s
   pub below : (s : Segment) → IsFoundSegment sum size log (least_place size first) s → s.mark <ℤ pos (site.place + from)
 
 -- It is the only one that isn't wholly written.
-abbrev pub StandsAlone : (List ℕ → ℕ) → ℕ → List ℕ → SegmentPosition → ℕ → ℕ → History → SnapshotModel → Type 0
-StandsAlone sum size log site from reach H first = StandsAmong sum size log site from [] reach H first
+abbrev pub StandsAlone : (List ℕ → ℕ) → ℕ → ℕ → List ℕ → SegmentPosition → ℕ → ℕ → History → SnapshotModel → Type 0
+StandsAlone sum held size log site from reach H first = StandsAmong sum held size log site from [] reach H first
 
 -- The same where a log goes on from a snapshot: the active segment is all that is found, up to the stable place; where none is active nothing is found.
 pub record StandsActive (sum : List ℕ → ℕ) (size : ℕ) (log : List ℕ) (s : SnapshotModel) (H : History) : Type 0 where

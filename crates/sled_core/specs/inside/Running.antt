@@ -10,11 +10,15 @@ use Rattle.sled_store.specs.Foreign.{NoForeignNames}
 use Rattle.sled_store.specs.SegmentStates.{Machine}
 use Rattle.sled_store.specs.SnapshotFiles.{IsSnapshotFile}
 use Rattle.sled_core.specs.Begun.{SegmentParts, SegmentView}
+use Rattle.sled_core.specs.declared.logger.joined_marks.JoinedMarks.{JoinedMarks}
+use Rattle.sled_core.specs.Fits.{held_of}
 use Rattle.sled_core.specs.inside.Begun.{first_place, line_end}
+use Rattle.sled_core.specs.inside.Cleared.{cleared}
 use Rattle.sled_core.specs.inside.Fits.{FitsBatches, LogParts, begun_segment, log_parts, parts_in, HoldsIn, written_to}
 use Rattle.sled_core.specs.inside.FreeSlots.{HasSlots}
 use Rattle.sled_core.specs.inside.Hides.{HidesFrom}
 use Rattle.sled_core.specs.Logged.{logged}
+use Rattle.sled_core.specs.inside.MarksFit.{MarksFitFrom}
 use Rattle.sled_core.specs.inside.Numbers.{HasNumbers, HaveSlotsFrom, NumbersStay}
 use Rattle.sled_core.specs.OpenBatches.{stable_below}
 use Rattle.sled_core.specs.inside.OwnLog.{HasPlacedFile, ReadsPlaced}
@@ -75,14 +79,17 @@ pub record HaveNames (sum : List ℕ → ℕ) (size : ℕ) (device : State) (fau
 -- floor and the messages that were not marked yet.
 -- The log has records: what it holds, what a reader finds of it, and the tables of its snapshots are of the history as the log has it, without the items
 -- that blobs have. The blobs have those, so what is said of them, and of what a crash leaves, is of the history itself.
-pub record FitsIn (sum : List ℕ → ℕ) (parts : LogParts) (behind : List SegmentParts) (reach pins : ℕ) (H : History) (A f : ℕ) (U : List Message) : Type 0 where
-  pub holds : HoldsIn sum parts behind (logged H)
+pub record FitsIn (sum : List ℕ → ℕ) (marks : JoinedMarks) (parts : LogParts) (behind : List SegmentParts) (reach pins : ℕ) (H : History) (A f : ℕ)
+    (U : List Message) : Type 0 where
+  pub holds : HoldsIn sum marks parts behind (logged H)
   pub reached : ReachesTo (logged H) reach (parts.site.place + parts.written_len)
   pub among : parts.fault ≡ None → NoHeaderOfZeros sum
-      → StandsAmong sum parts.size parts.device.log.bytes parts.site parts.written_len (map begun_segment behind) reach (logged H) holds.begun.first
+      → StandsAmong sum (held_of holds.begun) parts.size parts.device.log.bytes parts.site parts.written_len (map begun_segment behind) reach (logged H)
+      holds.begun.first
   -- and so does the file with zeros behind its end, as a write there makes it
   pub beyond : (to : ℕ) → parts.site.slot ≤ to → parts.fault ≡ None → NoHeaderOfZeros sum
-      → StandsAmong sum parts.size (padded to parts.device.log.bytes) parts.site parts.written_len (map begun_segment behind) reach (logged H) holds.begun.first
+      → StandsAmong sum (held_of holds.begun) parts.size (padded to parts.device.log.bytes) parts.site parts.written_len (map begun_segment behind) reach
+      (logged H) holds.begun.first
   pub items : HaveItems sum parts.device.blobs H (stable_below reach H.batches)
   pub named : HaveNames sum parts.size parts.device parts.fault (logged H) f holds.begun.first
   -- all that was acknowledged is stable
@@ -93,35 +100,37 @@ pub record FitsIn (sum : List ℕ → ℕ) (parts : LogParts) (behind : List Seg
   pub left : LeavesRecovering sum parts.size H (stable_below reach H.batches) f parts.device
 
 -- Segments one behind another fit them, as far as a reader comes.
-abbrev pub FitsLine : (List ℕ → ℕ) → ℕ → State → Option IoError → List SegmentView → ℕ → ℕ → History → ℕ → ℕ → List Message → Type 0
-FitsLine sum size device fault [] reach pins H A f U = ⊥
-FitsLine sum size device fault (v ∷ vs) reach pins H A f U =
-    FitsIn sum (log_parts size v.parts.site device fault v.parts.bytes v.parts.written_len v.parts.sealed v.parts.reserved) (map parts_in vs) reach pins H A f U
+abbrev pub FitsLine : (List ℕ → ℕ) → JoinedMarks → ℕ → State → Option IoError → List SegmentView → ℕ → ℕ → History → ℕ → ℕ → List Message → Type 0
+FitsLine sum marks size device fault [] reach pins H A f U = ⊥
+FitsLine sum marks size device fault (v ∷ vs) reach pins H A f U =
+    FitsIn sum marks (log_parts size v.parts.site device fault v.parts.bytes v.parts.written_len v.parts.sealed v.parts.reserved) (map parts_in vs) reach pins H A f U
 
 -- So do those of a log that has noted these batches and whose slots are these. Batches and entries are of the history as the log has it.
-pub record FitsWith (sum : List ℕ → ℕ) (noted : List Batch) (size : ℕ) (device : State) (fault : Option IoError) (line : List SegmentView) (m : Machine)
-    (pins : ℕ) (H : History) (A f : ℕ) (U : List Message) : Type 0 where
+pub record FitsWith (sum : List ℕ → ℕ) (marks : JoinedMarks) (noted : List Batch) (size : ℕ) (device : State) (fault : Option IoError)
+    (line : List SegmentView) (m : Machine) (pins : ℕ) (H : History) (A f : ℕ) (U : List Message) : Type 0 where
   pub reach : ℕ
-  pub parts : FitsLine sum size device fault line reach pins H A f U
+  pub parts : FitsLine sum marks size device fault line reach pins H A f U
   pub batches : FitsBatches (written_to line) (line_end size line) noted (logged H)
   pub slots : HasSlots size line device.log.bytes fault m
   -- the segments before the first of these are read to their end, and their messages are reached
   pub whole : fault ≡ None → NoHeaderOfZeros sum → AreWhole sum size device.log.bytes (logged H) (first_place line) m
   -- all that a reader reads in them was placed by the log
   pub own : fault ≡ None → NoHeaderOfZeros sum → HasPlacedFile sum size device line
-  pub account : HasAccount sum size device.snapshots.file H U m
+  pub account : HasAccount sum marks size device.snapshots.file H U m
   -- nothing that is the log's own is of a number that is still to come, nor, in the slot of a segment, of a greater one
   pub numbers : NoHeaderOfZeros sum → HasNumbers sum size 0 device m (line_end size line)
-  -- what a table from the stable place on may need is in the slots
-  pub in_slots : HaveSlotsFrom sum size device.snapshots.file H (stable_below reach H.batches) m
+  -- what a table may need from where what is held counts is in the slots
+  pub in_slots : HaveSlotsFrom sum marks size device.snapshots.file H (stable_below reach H.batches) m
 
 -- So do those over a device of which so much is shown. What was placed, blobs and snapshots are those of the device itself.
-pub record FitsShown (sum : List ℕ → ℕ) (noted : List Batch) (size : ℕ) (device : State) (fault : Option IoError) (line : List SegmentView) (m : Machine)
+pub record FitsShown (sum : List ℕ → ℕ) (marks : JoinedMarks) (noted : List Batch) (size : ℕ) (device : State) (fault : Option IoError) (line : List SegmentView) (m : Machine)
     (pins : ℕ) (H : History) (A f : ℕ) (U : List Message) : Type 0 where
-  pub shows : FitsWith sum noted size (shown size fault m line device) fault line m pins H A f U
+  pub shows : FitsWith sum marks noted size (shown size fault m line device) fault line m pins H A f U
   pub rests : RestsWhole fault device.log
   -- and this is what the file has besides
   pub hides : fault ≡ None → NoHeaderOfZeros sum → HidesFrom sum size device m line (logged H)
+  -- the marks stand in the headers that are shown
+  pub marked : fault ≡ None → NoHeaderOfZeros sum → MarksFitFrom sum size device.snapshots.file (cleared size m line device.log.bytes) marks
 
 -- Snapshot and device are ready for a log that fits this history, the end of what was acknowledged and the floor. Log file and snapshots have records and
 -- tables, so they are ready for the history as the log has it; the blobs have the items of the history itself.

@@ -11,7 +11,7 @@ use Rattle.sled_core.specs.inside.Running.{FitsShown, IsReadyFor}
 -- The log fits this history, the end of what was acknowledged, the floor and the messages that were not marked yet.
 unfoldable pub Fits : {D C : Type 0} → (D → Trace) → (List ℕ → ℕ) → Log D C → History → ℕ → ℕ → List Message → Type 0
 Fits trace sum log H A f U =
-    FitsShown sum (noted_in log) log.config.config.segment_size (state_of (trace log.config.device)) log.fault.kept (line_of log)
+    FitsShown sum log.marks (noted_in log) log.config.config.segment_size (state_of (trace log.config.device)) log.fault.kept (line_of log)
     (machine_of log.accountant) log.pins H A f U
 
 unfoldable pub Ready : (List ℕ → ℕ) → ℕ → State → SnapshotModel → History → ℕ → ℕ → Type 0

@@ -9,7 +9,7 @@ ghost use Rattle.sled_core.specs.Fits.{NoneSealed, current_begin, device_of, fau
 ghost use Rattle.sled_core.specs.Fronts.{CameAround, WroteNone};
 ghost use Rattle.sled_core.specs.Keeps.{KeepsWriting};
 ghost use Rattle.sled_core.specs.Ledger.{ledger_behind};
-ghost use Rattle.sled_core.specs.inside.Marked.{KeepsSegment};
+ghost use Rattle.sled_core.specs.inside.Marked.{JoinsBelow, KeepsSegment};
 ghost use Rattle.sled_core.specs.ReadBuffer.{IsUsedUpAt, IsWrittenPlace, SealsAround, WritesAround, held_at, settling};
 ghost use Rattle.sled_core.specs.inside.ReadBuffer.{SettleAnswers};
 ghost use Rattle.sled_core.specs.Stable.{IsNotReserved};
@@ -33,6 +33,7 @@ impl<D: Device, C: Checksum> Log<D, C> {
         ensures answers { SettleAnswers result place (synced_end self.old) (reserved_end self.old) (held_at C.sum_of self.old place) (IsUsedUpAt self.old place)
             (fault_of self.new) (D.faults (device_of self.old)) (D.faults (device_of self.new)) }
         ensures seals { SealsAround result place self.old self.new }
+        ensures joined { JoinsBelow D.trace C.sum_of self.old self.new }
         ensures buffers { WritesAround C.sum_of result place self.old self.new
             × OnErr result (CameAround D.trace C.sum_of place self.old self.new) }
     {
@@ -58,6 +59,7 @@ impl<D: Device, C: Checksum> Log<D, C> {
         ensures answers { HeldAnswers result (held_at C.sum_of self.old (pos place)) (IsUsedUpAt self.old (pos place)) None (fault_of self.new)
             (D.faults (device_of self.old)) (D.faults (device_of self.new)) }
         ensures seals { SealsAround result (pos place) self.old self.new }
+        ensures joined { JoinsBelow D.trace C.sum_of self.old self.new }
         ensures buffers { WritesAround C.sum_of result (pos place) self.old self.new
             × OnErr result (CameAround D.trace C.sum_of (pos place) self.old self.new) }
     {
@@ -90,6 +92,7 @@ impl<D: Device, C: Checksum> Log<D, C> {
             × (ledger_of self.new ≡ ledger_of self.old)) }
         ensures one { ((b : BufferAt) → Contains (waiting_of self.old) b → has_place place b ≡ true) → OnOk result (NoneSealed self.new) }
         ensures segment { KeepsSegment self.old self.new }
+        ensures joined { JoinsBelow D.trace C.sum_of self.old self.new }
     {
         let n = self.segment_of(place);
         let (site, buffer) = self.segment(n);

@@ -23,7 +23,7 @@ ghost use Rattle.sled_core.specs.Keeps.{KeepsLog, KeepsWriting, LeavesAbove, Wri
 ghost use Rattle.sled_core.specs.Ledger.{ledger_behind, written_ledger};
 ghost use Rattle.sled_core.specs.LogStatus.{flushed, rolled, status_of};
 ghost use Rattle.sled_core.specs.Marked.{BeginsMarked};
-ghost use Rattle.sled_core.specs.inside.Marked.{KeepsSegment};
+ghost use Rattle.sled_core.specs.inside.Marked.{JoinsBelow, KeepsSegment};
 ghost use Rattle.sled_core.specs.invariants.Running.{Fits};
 ghost use Rattle.sled_core.specs.Running.{end_below};
 ghost use Rattle.sled_core.specs.Stable.{SparesDevice, SyncsAll};
@@ -258,6 +258,7 @@ impl<D: Device, C: Checksum> Log<D, C> {
         ensures answers { Answers result None (fault_of self.new) (D.faults (device_of self.old)) (D.faults (device_of self.new)) }
         ensures refused { UnlessFault result (D.trace (device_of self.old)) (D.trace (device_of self.new)) }
         ensures unwritten { OnErr result (WroteNone D.trace self.old self.new × (ledger_of self.new ≡ ledger_of self.old)) }
+        ensures joined { JoinsBelow D.trace C.sum_of self.old self.new }
     {
         self.write_bytes(n, k)?;
         let mark = self.mark_of(n, k);

@@ -1,5 +1,5 @@
 -- What a recovery leaves for a log, said of its answer: over any content that can be read back, and of a log that was flushed, whose whole history it holds again.
-use Rattle.std.proofs.Common.{◌≤◌, ◌+◌, ℕ, List, sym, subst, arith}
+use Rattle.std.proofs.Common.{ℤ, ◌≤◌, ◌+◌, ℕ, List, sym, subst, arith}
 use Rattle.sled_codec.specs.History.{History, below}
 use Rattle.sled_codec.specs.Snapshots.{SnapshotModel, stable_place}
 use Rattle.sled_store.specs.Device.{Trace, state_of}
@@ -65,7 +65,7 @@ module _ (sum : List ℕ → ℕ) (size : ℕ) (some : 256 ≤ size) (old : Trac
     ready_whole messages batches = subst (λ (K : History). Ready sum size (state_of new) s K A (stable_place s.stable)) (whole_below H A (stable_place s.stable) messages batches passes) is_ready
 
 -- Behind a flush all of a history is on the device: a recovery of that leaves what a log goes on from that holds the whole history.
-pub ready_kept : (sum : List ℕ → ℕ) (size : ℕ) (site : SegmentPosition) (from : ℕ) (old new : Trace) (H : History) (A f : ℕ) → 256 ≤ size → IsKept sum size site from (state_of old) (logged H) → end_below (site.place + from) H ≤ A → CanRecover sum size (state_of old) H A f
+pub ready_kept : (sum : List ℕ → ℕ) {mark durable : ℤ} (size : ℕ) (site : SegmentPosition) (from : ℕ) (old new : Trace) (H : History) (A f : ℕ) → 256 ≤ size → IsKept sum mark durable size site from (state_of old) (logged H) → end_below (site.place + from) H ≤ A → CanRecover sum size (state_of old) H A f
     → (s : SnapshotModel) → Restores sum size old new s → Ready sum size (state_of new) s H A (stable_place s.stable)
 ready_kept sum size site from old new H A f some kept up can s ok =
     ready_whole sum size some old H A f can new s ok (messages_last (site.place + from) A H.messages (omega (arith, up)) (logged_below (site.place + from) H kept.below) (logged_apart H kept.apart)) (batches_last (site.place + from) A H.batches (omega (arith, up)) kept.batches)

@@ -10,6 +10,7 @@ use Rattle.sled_store.specs.Device.{Trace, state_of, content_of}
 use Rattle.sled_store.specs.Moments.{LeavesOnly}
 use Rattle.sled_store.specs.Script.{Performs, after_all}
 use Rattle.sled_store.proofs.Traces.MomentLemmas.{joined}
+use Rattle.sled_core.specs.Account.{account_of}
 use Rattle.sled_core.specs.Fits.{IsKept, IsUsedUpBelow, device_of, fault_of, flushing, holding_below, reserved_end, segment_size_of, synced_end}
 use Rattle.sled_core.proofs.Logged.Alike.{table_alike}
 use Rattle.sled_core.proofs.Logged.Messages.{logged_below, logged_twice}
@@ -45,9 +46,9 @@ returns-in-Ok-clause-ready g c = λ H A f U can.
     let sizes : config.config.segment_size ≡ size = ap (λ (x : RunningConfig _ _). x.config.segment_size) is ∙ now_size in
     let same : old ≡ trace (device_of log) = ap (λ (x : RunningConfig _ _). trace x.device) is in
     let there : CanRecover sum size (state_of old) H end f = can_recover trace sum c.args.log log config.device H A end f U now_size same (same ∙ c.in-Ok.ensures.calls) c.in-Ok.ensures.answers.2 can (c.in-Ok.ensures.acknowledges H A f U can.fits) in
-    let kept : IsKept sum size log.segments.first.site log.segments.first.buffer.written_len (state_of old) (logged H) =
-    subst (λ (t : Trace). IsKept sum size log.segments.first.site log.segments.first.buffer.written_len (state_of t) (logged H)) (sym same)
-    (subst (λ n. IsKept sum n log.segments.first.site log.segments.first.buffer.written_len (state_of (trace (device_of log))) (logged H)) now_size (c.in-Ok.ensures.records H (fits_holds trace sum c.args.log H A f U can.fits))) in
+    let kept : IsKept sum (account_of log).mark (account_of log).durable size log.segments.first.site log.segments.first.buffer.written_len (state_of old) (logged H) =
+    subst (λ (t : Trace). IsKept sum (account_of log).mark (account_of log).durable size log.segments.first.site log.segments.first.buffer.written_len (state_of t) (logged H)) (sym same)
+    (subst (λ n. IsKept sum (account_of log).mark (account_of log).durable n log.segments.first.site log.segments.first.buffer.written_len (state_of (trace (device_of log))) (logged H)) now_size (c.in-Ok.ensures.records H (fits_holds trace sum c.args.log H A f U can.fits))) in
     let long : 256 ≤ size = (let least = config.config.least in omega (arith, least, sizes)) in
     let less : max A (end_below (reserved_end c.args.log) H) ≤ end = (let low = end_rises (reserved_end c.args.log) (synced_end log) H c.in-Ok.ensures.synced.whole in omega (arith, low)) in
     if_ok c.read_snapshot_or_default-snapshot.result _ (λ s. Ready sum size (state_of new) (model_of s) H (max A (end_below (reserved_end c.args.log) H)) (stable_place s.stable_lsn))

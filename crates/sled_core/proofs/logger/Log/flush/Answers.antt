@@ -86,7 +86,7 @@ unfolding Fits
 returns-clause-acknowledges g c = λ H A f U fits.
     let later = c.write_below.ensures.keeps.preserves.fits H A f U fits in
     subst (λ n. Fits g.D.Device.trace g.C.Checksum.sum_of c.write_below.new.self H (max A (end_below n H)) f U) (stable g c)
-    (fits_acknowledges _ _ _ _ _ _ _ _ _ H A f U later)
+    (fits_acknowledges _ _ _ _ _ _ _ _ _ _ H A f U later)
 
 pub returns-in-Some-clause-buffers : goal.returns-in-Some-clause-buffers
 returns-in-Some-clause-buffers g c =

@@ -100,7 +100,7 @@ returns-clause-keeps g c =
           (holds_aborted g.C.Checksum.sum_of old.config.config.segment_size (shown_of g.D.Device.trace old)
           old.fault.kept (line_of old) n f.segment f.among
           old.segments.first.site.place (nth_facts old) i f.reserved f.there f.own.open_yet (machine_of old.accountant) (noted_in old) (logged H) holds.shows);
-      fits = λ H A r U fits. ticket_fits (own g c) c.abort_in.ensures.rest g.D.Device.trace g.C.Checksum.sum_of H H A r U fits.hides fits.rests
+      fits = λ H A r U fits. ticket_fits (own g c) c.abort_in.ensures.rest g.D.Device.trace g.C.Checksum.sum_of H H A r U fits.hides fits.marked fits.rests
           (fits_aborted g.C.Checksum.sum_of old.config.config.segment_size (shown_of g.D.Device.trace old)
           old.fault.kept (line_of old) n f.segment f.among
           old.segments.first.site.place (nth_facts old) i f.reserved f.there f.own.open_yet (machine_of old.accountant) (noted_in old) old.pins H A r U fits.shows);
@@ -132,7 +132,7 @@ returns-clause-canceled g c = λ H m holds awaits.
     let now_size : c.abort_in.new.self.config.config.segment_size ≡ size = ap (λ (x : RunningConfig g.row.D.Denot g.row.C.Denot). x.config.segment_size) c.abort_in.ensures.rest.config in
     let place_is : m.place ≡ v.parts.site.place + r.from = ap (λ (x : Message). x.place) awaits.message in
     let size_is : m.size ≡ r.len = ap (λ (x : Message). x.size) awaits.message in
-    with_segment sum size (shown_of g.D.Device.trace old) old.fault.kept (line_of old) c.segment_of-n.result v (logged H) holds.shows.holds at (λ stays own segment.
+    with_segment sum size (shown_of g.D.Device.trace old) old.fault.kept _ (line_of old) c.segment_of-n.result v (logged H) holds.shows.holds at (λ stays own segment.
     let stands = reserved_in sum size (v.parts.site.place / size) v.parts.bytes r (open_plain r.state awaits.own.open_yet) (at_there (Stands sum size (v.parts.site.place / size) v.parts.bytes) v.parts.reserved i r its segment.records.stand) in
     let its_text = canceled_there sum size v.parts.site.place v.parts.bytes r segment.records.place_begins stands.room inside stands.text awaits.own.open_yet in
     let body : List ℕ = body_in v.parts.bytes r in

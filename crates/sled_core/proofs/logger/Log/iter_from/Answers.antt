@@ -33,7 +33,7 @@ returns-in-Ok-clause-messages g c = λ H A f U fits zeros.
     let log = c.args.self.now in
     let none = c.in-Ok.ensures.answers.1 in
     let size = segment_size_of log in
-    let shows = subst (λ (o : Option IoError). FitsWith g.C.Checksum.sum_of (noted_in log) size
+    let shows = subst (λ (o : Option IoError). FitsWith g.C.Checksum.sum_of log.marks (noted_in log) size
     (shown size o (machine_at log) (line_of log) (state_of (g.D.Device.trace (device_of log)))) o (line_of log) (machine_at log) (pins_of log) H A f U) none
     fits.shows in
     let here = subst (λ (o : Option Error). IfNone o (GoesOver g.D.Device.trace g.C.Checksum.sum_of log c.args.lsn c.over_log.result)) c.over_log.ensures.begun (over g c) in

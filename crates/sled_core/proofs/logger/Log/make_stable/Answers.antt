@@ -175,7 +175,7 @@ pub returns-clause-acknowledges : goal.returns-clause-acknowledges
 unfolding Fits
 returns-clause-acknowledges g c = λ H A f U fits.
     let later = c.write_below.ensures.keeps.preserves.fits H A f U fits in
-    (fits_acknowledges _ _ _ _ _ _ _ _ _ H A f U later)
+    (fits_acknowledges _ _ _ _ _ _ _ _ _ _ H A f U later)
 
 pub returns-clause-answers : goal.returns-clause-answers
 returns-clause-answers g c =

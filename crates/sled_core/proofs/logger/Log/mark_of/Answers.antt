@@ -1,5 +1,5 @@
 -- A buffer that begins its segment has the whole header: the first record of it begins behind that.
-use Rattle.std.proofs.Common.{◌≡◌, ◌∙◌, ◌≤◌, ◌+◌, ◌-◌, ◌∷◌, [], List, ℕ, ap, sym, subst, arith, max, take, drop, length, Some}
+use Rattle.std.proofs.Common.{◌≡◌, ◌∙◌, ◌≤◌, ◌+◌, ◌-◌, List, ℕ, ap, sym, subst, arith, take, drop, length, Some}
 use Rattle.std.specs.List.{slice_get}
 use Rattle.std.proofs.lemmas.List.{length-take}
 use Rattle.sled_core.specs.Begun.{SegmentView, view_at}
@@ -9,7 +9,7 @@ use Rattle.sled_core.specs.declared.logger.Log.{Log}
 use Rattle.sled_core.specs.Fits.{line_of}
 use Rattle.sled_core.specs.HeaderMark.{mark_at}
 use Rattle.sled_core.specs.SealedBuffers.{bytes_between, sealed_end}
-use Rattle.sled_core.specs.inside.Turned.{IsReadyIn, begin_at, mark_of}
+use Rattle.sled_core.specs.inside.Turned.{IsReadyIn, mark_of}
 use Rattle.sled_core.proofs.Holds.Facts.{nth_facts}
 use Rattle.sled_core.proofs.Line.NthOpen.{nth_there}
 use Rattle.sled_core.proofs.Reserve.Ranges.{chain_grows}

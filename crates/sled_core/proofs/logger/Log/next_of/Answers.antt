@@ -25,8 +25,8 @@ returns-clause-log g c =
       read = record {
         keeps = record {
           goes_on = goes_on_quietly g.D.Device.trace g.C.Checksum.sum_of old _ (record { config = reads.config; checksum = reads.checksum }) reads.unwritten (omega arith) (first_none old.fault.kept c.next-item.result _ c.note_item.ensures);
-          history = λ H holds. holds_with_kept g.C.Checksum.sum_of _ _ _ _ _ _ _ _ _ _ _ (logged H) size refl refl (ap state_of reads.unwritten) kept holds;
-          fits = λ H A f U fits. fits_with_kept g.C.Checksum.sum_of _ _ _ _ _ _ _ _ _ _ _ _ _ H A f U size refl refl refl (ap state_of reads.unwritten) kept fits
+          history = λ H holds. holds_with_kept g.C.Checksum.sum_of _ _ _ _ _ _ _ _ _ _ _ _ _ (logged H) refl size refl refl (ap state_of reads.unwritten) kept holds;
+          fits = λ H A f U fits. fits_with_kept g.C.Checksum.sum_of _ _ _ _ _ _ _ _ _ _ _ _ _ _ _ H A f U refl size refl refl refl (ap state_of reads.unwritten) kept fits
               (log_leaves g.C.Checksum.sum_of old H A f U _ fits);
           noted = noted_still old;
           kept = omega arith;

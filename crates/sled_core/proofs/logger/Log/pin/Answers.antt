@@ -11,7 +11,7 @@ unfolding Fits Holds
 returns-clause-keeps g c = record {
   goes_on = goes_on_quietly g.D.Device.trace g.C.Checksum.sum_of c.args.self.now _ (record { config = refl; checksum = refl }) refl (omega arith) (λ none. none);
   history = λ H holds. holds;
-  fits = λ H A f U fits. fits_pins _ _ _ _ _ _ _ _ _ H A f U fits _ (λ some. omega arith);
+  fits = λ H A f U fits. fits_pins _ _ _ _ _ _ _ _ _ _ H A f U fits _ (λ some. omega arith);
   noted = noted_still c.args.self.now;
   kept = omega arith;
 }

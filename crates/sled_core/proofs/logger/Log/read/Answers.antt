@@ -35,7 +35,7 @@ use Rattle.sled_core.proofs.Line.BlobReads.{IsReadable, gives_read, readable, re
 use Rattle.sled_core.proofs.Line.KeptReads.{err_waits, gives_at_once, kept_readable}
 use Rattle.sled_core.proofs.Line.LogSpans.{same_buffers, same_with}
 use Rattle.sled_core.proofs.Line.HeaderMarks.{segment_same}
-use Rattle.sled_core.proofs.Line.Reads.{above_zero, around_err, around_read, err_answers, err_damages, err_gives, err_refuses, err_settles, fits_begins, is_settled, read_answers, read_held, read_reserved, read_settles, refuses_none, seals_err, seals_read, settled_blobs, settled_names, settled_record}
+use Rattle.sled_core.proofs.Line.Reads.{above_zero, around_err, around_read, err_answers, err_damages, err_gives, err_refuses, err_settles, fits_begins, is_settled, read_answers, read_held, read_reserved, read_settles, refuses_none, seals_err, seals_read, settled_blobs, settled_record}
 use Rattle.sled_core.proofs.Line.Records.{inline_is}
 use Rattle.sled_core.proofs.Line.Settles.{held_stable, stable_up, written_still}
 use Rattle.sled_core.proofs.Read.GivesLemmas.{gives}
@@ -235,8 +235,7 @@ held_there g c H m holds there has at pointer inline =
     let here : to_z w64 (of_z w64 c.place_read.result) ≡ pos m.place = at_ok g c ∙ read_here c.args.lsn c.args.ptr inline ∙ sym at in
     let written : IsWrittenPlace mid m.place = subst (λ z. pos 0 ≤ℤ z → IsWrittenPlace mid (unsigned_abs z)) here c.in_ok-settle_at.ensures.written (omega (arith, ints)) in
     let still : m.place < synced_end old → mid ≡ old = λ below. subst (λ z. z <ℤ pos (synced_end old) → mid ≡ old) here c.settle_at.ensures.still (omega (arith, ints, below)) in
-    let names : (state_of (trace (device_of mid))).snapshots ≡ (state_of (trace (device_of old))).snapshots = ap (λ (t : Trace). (state_of t).snapshots) c.in_ok-settle_at.ensures.calls ∙ settled_names sum old _ (trace (device_of old)) in
-    let found = settled_record trace sum old mid H m holds (c.settle_at.ensures.keeps.preserves.history H holds) c.in_default.is c.in_ok-settle_at.ensures.answers.1.3 there has written still names (lid_of c.args.ptr) (pointer ∙ inline_is c.args.ptr inline) in
+    let found = settled_record trace sum old mid H m holds (c.settle_at.ensures.keeps.preserves.history H holds) c.in_default.is c.in_ok-settle_at.ensures.answers.1.3 there has written still (c.in_ok-settle_at.ensures.joined H holds) (lid_of c.args.ptr) (pointer ∙ inline_is c.args.ptr inline) in
     let place : c.unsigned_abs.result ≡ m.place = place_is g c ∙ ap unsigned_abs (sym at) in
     let number : c.unsigned_abs.result / c.args.self.now.config.config.segment_size ≡ m.place / size =
     ap (λ n. n / c.args.self.now.config.config.segment_size) place ∙ ap (λ n. m.place / n) (sym c.in_ok-settle_at.ensures.keeps.position.size) in

@@ -19,8 +19,8 @@ returns-clause-keeps g c = record {
       let size = ap (λ (x : Config). x.segment_size) answer.reads.config in
       record {
         goes_on = goes_on_quietly g.D.Device.trace g.C.Checksum.sum_of old _ (record { config = answer.reads.config; checksum = answer.reads.checksum }) answer.reads.unwritten (omega arith) (λ none. c.requires.fault);
-        history = λ H holds. holds_with_kept g.C.Checksum.sum_of _ _ _ _ _ _ _ _ _ _ _ (logged H) size refl refl (ap state_of answer.reads.unwritten) (none_or_kept _ _ c.requires.fault) holds;
-        fits = λ H A f U fits. fits_with_kept g.C.Checksum.sum_of _ _ _ _ _ _ _ _ _ _ _ _ _ H A f U size refl refl refl (ap state_of answer.reads.unwritten) (none_or_kept _ _ c.requires.fault) fits
+        history = λ H holds. holds_with_kept g.C.Checksum.sum_of _ _ _ _ _ _ _ _ _ _ _ _ _ (logged H) refl size refl refl (ap state_of answer.reads.unwritten) (none_or_kept _ _ c.requires.fault) holds;
+        fits = λ H A f U fits. fits_with_kept g.C.Checksum.sum_of _ _ _ _ _ _ _ _ _ _ _ _ _ _ _ H A f U refl size refl refl refl (ap state_of answer.reads.unwritten) (none_or_kept _ _ c.requires.fault) fits
             (log_leaves g.C.Checksum.sum_of old H A f U _ fits);
         noted = noted_still old;
         kept = omega arith;

@@ -22,7 +22,8 @@ use Rattle.sled_core.proofs.Line.Settles.{held_stable, stable_written}
 use Rattle.sled_core.proofs.logger.Log.settle.Given.{Over}
 use Rattle.sled_core.proofs.logger.Log.settle.Goals.{then-place-current_begin+in_ok-seal, else-place-current_begin}
 use Rattle.sled_core.proofs.logger.Log.settle.Goals as goal
-use Rattle.sled_core.proofs.Line.AccountBehind.{ledger_unchanged, on_ok_both}
+use Rattle.sled_core.proofs.Line.AccountBehind.{account_unchanged, ledger_unchanged, on_ok_both}
+use Rattle.sled_core.proofs.Line.MarksJoin.{joins_further, joins_same}
 
 -- The place is stable.
 
@@ -221,3 +222,17 @@ returns-clause-buffers g c =
           (omega (arith, c.if-place-synced_end.false, c.synced_end.ensures.is)) (on_ok_both r _ _ _ (λ left ledger. (left, ledger)) did.without did.ledger) (on_err r _ _ (λ failed. (failed.0, failed.2)) did.same) did.segment,
       on_err r _ _ (came_sealed g.D.Device.trace g.C.Checksum.sum_of c.args.place c.args.self.now c.if-place-current_begin.self (seals g c) c.write_around.new.self did.start did.position) did.same,
     )
+
+-- The mark that joins isn't above what was synced.
+
+pub returns-then-place-synced_end-clause-joined : goal.returns-then-place-synced_end-clause-joined
+returns-then-place-synced_end-clause-joined g c = joins_same g.D.Device.trace g.C.Checksum.sum_of c.args.self.now c.args.self.now refl
+
+pub returns-in_err-seal-clause-joined : goal.returns-in_err-seal-clause-joined
+returns-in_err-seal-clause-joined g c =
+    joins_same g.D.Device.trace g.C.Checksum.sum_of c.args.self.now c.seal.new.self (account_unchanged c.args.self.now c.seal.new.self c.in_err-seal.ensures.err)
+
+pub returns-clause-joined : goal.returns-clause-joined
+returns-clause-joined g c =
+    joins_further g.D.Device.trace g.C.Checksum.sum_of c.args.self.now c.if-place-current_begin.self c.write_around.new.self (seals g c).keeps.history
+    (seals g c).synced c.write_around.ensures.joined

@@ -11,6 +11,7 @@ use Rattle.sled_core.specs.Fronts.{CameAround}
 use Rattle.sled_core.specs.ReadBuffer.{IsUsedUpAt, SealsAround, WritesAround, held_at, settling}
 use Rattle.sled_core.proofs.Line.KeptCalls.{kept_still, place_still, tickets_still}
 use Rattle.sled_core.proofs.Line.CameFar.{around_none, still_around}
+use Rattle.sled_core.proofs.Line.MarksJoin.{joins_same}
 use Rattle.sled_core.proofs.Line.Reads.{above_zero, at_place, settle_answers}
 use Rattle.sled_core.proofs.logger.Log.settle_at.Given as given
 use Rattle.sled_core.proofs.logger.Log.settle_at.Goals.{else-at-synced_end-via-then-at-synced_end+else-at-self, else-at-synced_end-via-else-at-synced_end}
@@ -80,3 +81,11 @@ returns-clause-keeps g c = record {
   tickets = c.settle.ensures.keeps.tickets;
   position = c.settle.ensures.keeps.position;
 }
+
+-- The mark that joins isn't above what was synced.
+
+pub returns-then-place-lt0-clause-joined : goal.returns-then-place-lt0-clause-joined
+returns-then-place-lt0-clause-joined g c = joins_same g.D.Device.trace g.C.Checksum.sum_of c.args.self.now c.args.self.now refl
+
+pub returns-then-at-self-clause-joined : goal.returns-then-at-self-clause-joined
+returns-then-at-self-clause-joined g c = joins_same g.D.Device.trace g.C.Checksum.sum_of c.args.self.now c.args.self.now refl

@@ -5,7 +5,7 @@ use Rattle.sled_core.proofs.logger.Log.stable_offset.Goals as goal
 
 pub returns-clause-acknowledges : goal.returns-clause-acknowledges
 unfolding Fits
-returns-clause-acknowledges g c = λ H A f U fits. (fits_acknowledges _ _ _ _ _ _ _ _ _ H A f U fits)
+returns-clause-acknowledges g c = λ H A f U fits. (fits_acknowledges _ _ _ _ _ _ _ _ _ _ H A f U fits)
 
 pub returns-clause-first : goal.returns-clause-first
 returns-clause-first g c = first_waits c.args.self.now

@@ -17,6 +17,7 @@ use Rattle.sled_store.specs.declared.segment.start.Beginning.{Beginning}
 use Rattle.sled_store.specs.Script.{after_all}
 use Rattle.sled_store.specs.Begin.{IsStartable, beginning_of, offset_at, place_at, slots_of, unused}
 use Rattle.sled_store.specs.SegmentStates.{Machine}
+use Rattle.sled_store.specs.SnapshotFiles.{BeginsFrom}
 use Rattle.sled_store.specs.Started.{started}
 use Rattle.std.proofs.lemmas.Bool.Decides.{nat_tests}
 use Rattle.std.proofs.lemmas.List.{take_all}
@@ -64,16 +65,17 @@ use Rattle.sled_core.proofs.OwnLog.Started.{started_own}
 use Rattle.sled_core.proofs.OwnLog.StartedDevice.{started_placed}
 use Rattle.sled_core.proofs.Start.BegunSlots.{begun_slots}
 use Rattle.sled_core.proofs.Start.OlderStarted.{start_whole}
-use Rattle.sled_core.proofs.Start.StartedAccount.{start_account, start_in_slots}
+use Rattle.sled_core.proofs.Start.StartedAccount.{start_account, start_in_slots, start_place}
 use Rattle.sled_core.proofs.Start.StartedMoments.{started_throughout}
 use Rattle.sled_core.proofs.Start.ReadyStarts.{ready_starts}
 use Rattle.sled_core.proofs.Start.StartFits.{start_fits}
 use Rattle.sled_core.proofs.Start.OpenLemmas.{in_segment, place_in_reach, slot_in_reach, begins_offset, begins_place, first_next}
-use Rattle.sled_core.proofs.Start.ReadyLemmas.{begins_closed, begins_ready}
+use Rattle.sled_core.proofs.Start.ReadyLemmas.{begins_closed, begins_ready, BeginAt}
 use Rattle.sled_store.proofs.Traces.ScriptLemmas.{later_performed}
 use Rattle.sled_core.specs.Buffers.{none_open}
 use Rattle.sled_core.specs.inside.Buffers.{records_end}
 use Rattle.sled_core.proofs.logger.Log.start.Goals as goal
+use Rattle.sled_core.specs.declared.logger.joined_marks.JoinedMarks.{JoinedMarks}
 use Rattle.std.proofs.lemmas.Int.{to_z_pos}
 
 -- the only segment has no open reservation
@@ -182,19 +184,22 @@ returns-in-Ok-clause-history g c = λ H ready.
     let log_now = started_log size some s (g.D.Device.trace c.args.config.device) (g.D.Device.trace c.begin.new.config.device) c.in-Ok.ensures.made of_log.log of_log.settled in
     let names_now = ap (λ (t : Trace). (state_of t).snapshots.file) c.in-Ok.ensures.made ∙ ap (λ (n : NamesState). n.file) (started-snapshots size some old.log.bytes s (g.D.Device.trace c.args.config.device)) in
     let first = c.in-Ok.ensures.buffer in
-    let holds = begins_ready g.C.Checksum.sum_of size old now s R c.in-Ok.buffer.bytes.items c.args.config.config.least of_log c.in-Ok.ensures.answers.0 log_now names_now c.in-Ok.beginning c.in-Ok.ensures.beginning first.header first.resumed in
+    let place : to_z w64 c.stable_place.result ≡ pos (stable_place s.stable) = to_z_pos w64 c.stable_place.result c.stable_place.ensures.small ∙ ap pos c.stable_place.ensures.place in
+    let marks : JoinedMarks = c.from_place.result in
+    let at : BeginAt marks (stable_place s.stable) = (c.from_place.ensures.joined ∙ place, c.from_place.ensures.durable ∙ place) in
+    let holds = begins_ready g.C.Checksum.sum_of size old now s R c.in-Ok.buffer.bytes.items c.args.config.config.least of_log c.in-Ok.ensures.answers.0 log_now names_now marks at c.in-Ok.beginning c.in-Ok.ensures.beginning first.header first.resumed in
     holds_begun g.C.Checksum.sum_of _ (let same = ap (λ (x : Config). x.segment_size) c.begin.ensures.config in omega (arith, some, same))
-    (g.D.Device.trace c.begin.new.config.device) _ _ _ R (record {
-      holds = subst (λ (ss : List SegmentBuffer). HoldsLine g.C.Checksum.sum_of c.begin.new.config.config.segment_size now None (line_at (record { place = c.in-Ok.beginning.place; slot = c.in-Ok.beginning.slot }) c.in-Ok.buffer ss) R) (sym c.no_segments.ensures)
-          (subst (λ (n : ℕ). HoldsIn g.C.Checksum.sum_of (log_parts n (record { place = c.in-Ok.beginning.place; slot = c.in-Ok.beginning.slot }) now None c.in-Ok.buffer.bytes.items c.in-Ok.buffer.written_len c.in-Ok.buffer.sealed.items c.in-Ok.buffer.reserved.items) [] R)
+    (g.D.Device.trace c.begin.new.config.device) _ _ _ marks R (record {
+      holds = subst (λ (ss : List SegmentBuffer). HoldsLine g.C.Checksum.sum_of marks c.begin.new.config.config.segment_size now None (line_at (record { place = c.in-Ok.beginning.place; slot = c.in-Ok.beginning.slot }) c.in-Ok.buffer ss) R) (sym c.no_segments.ensures)
+          (subst (λ (n : ℕ). HoldsIn g.C.Checksum.sum_of marks (log_parts n (record { place = c.in-Ok.beginning.place; slot = c.in-Ok.beginning.slot }) now None c.in-Ok.buffer.bytes.items c.in-Ok.buffer.written_len c.in-Ok.buffer.sealed.items c.in-Ok.buffer.reserved.items) [] R)
           (sym (ap (λ (x : Config). x.segment_size) c.begin.ensures.config))
-          (subst (λ (n : ℕ). HoldsIn g.C.Checksum.sum_of (log_parts size (record { place = c.in-Ok.beginning.place; slot = c.in-Ok.beginning.slot }) now None c.in-Ok.buffer.bytes.items n c.in-Ok.buffer.sealed.items c.in-Ok.buffer.reserved.items) [] R) (sym first.from)
-          (subst (λ (l : List Sealed). HoldsIn g.C.Checksum.sum_of (log_parts size (record { place = c.in-Ok.beginning.place; slot = c.in-Ok.beginning.slot }) now None c.in-Ok.buffer.bytes.items c.in-Ok.beginning.offset l c.in-Ok.buffer.reserved.items) [] R) (sym first.sealed)
-          (subst (λ (r : List Reserved). HoldsIn g.C.Checksum.sum_of (log_parts size (record { place = c.in-Ok.beginning.place; slot = c.in-Ok.beginning.slot }) now None c.in-Ok.buffer.bytes.items c.in-Ok.beginning.offset [] r) [] R) (sym first.reserved) holds))));
+          (subst (λ (n : ℕ). HoldsIn g.C.Checksum.sum_of marks (log_parts size (record { place = c.in-Ok.beginning.place; slot = c.in-Ok.beginning.slot }) now None c.in-Ok.buffer.bytes.items n c.in-Ok.buffer.sealed.items c.in-Ok.buffer.reserved.items) [] R) (sym first.from)
+          (subst (λ (l : List Sealed). HoldsIn g.C.Checksum.sum_of marks (log_parts size (record { place = c.in-Ok.beginning.place; slot = c.in-Ok.beginning.slot }) now None c.in-Ok.buffer.bytes.items c.in-Ok.beginning.offset l c.in-Ok.buffer.reserved.items) [] R) (sym first.sealed)
+          (subst (λ (r : List Reserved). HoldsIn g.C.Checksum.sum_of marks (log_parts size (record { place = c.in-Ok.beginning.place; slot = c.in-Ok.beginning.slot }) now None c.in-Ok.buffer.bytes.items c.in-Ok.beginning.offset [] r) [] R) (sym first.reserved) holds))));
       batches = started_batches c.begin.new.config.config.segment_size (view_at (record { place = c.in-Ok.beginning.place; slot = c.in-Ok.beginning.slot }) c.in-Ok.buffer) (map segment_view c.no_segments.result.items) R c.new-in-Ok.ensures.noted
           (let low = offset_low c.args.config.config.segment_size (length (state_of (g.D.Device.trace c.args.config.device)).log.bytes) s c.in-Ok.beginning c.in-Ok.ensures.beginning some in let from = first.from in let same = ap (λ (x : Config). x.segment_size) c.begin.ensures.config in omega (arith, low, from, same))
           (subst (λ n. CloseBelow (c.in-Ok.beginning.place + n) R.batches) (sym first.from)
-          (begins_closed g.C.Checksum.sum_of size old now s R c.in-Ok.buffer.bytes.items c.args.config.config.least of_log c.in-Ok.ensures.answers.0 log_now names_now c.in-Ok.beginning c.in-Ok.ensures.beginning first.header first.resumed));
+          (begins_closed g.C.Checksum.sum_of size old now s R c.in-Ok.buffer.bytes.items c.args.config.config.least of_log c.in-Ok.ensures.answers.0 log_now names_now marks at c.in-Ok.beginning c.in-Ok.ensures.beginning first.header first.resumed));
       slots = subst (λ (ss : List SegmentBuffer). HasSlots c.begin.new.config.config.segment_size (line_at (record { place = c.in-Ok.beginning.place; slot = c.in-Ok.beginning.slot }) c.in-Ok.buffer ss) now.log.bytes None (machine_of c.in-Ok.accountant)) (sym c.no_segments.ensures)
           (start_slots size (ap (λ (x : Config). x.segment_size) c.begin.ensures.config) some s old.log.bytes now.log.bytes c.in-Ok.ensures.answers.0 (ap (λ (l : LogState). l.bytes) log_now) (view_at (record { place = c.in-Ok.beginning.place; slot = c.in-Ok.beginning.slot }) c.in-Ok.buffer) (ap (λ (x : Beginning). record { place = x.place; slot = x.slot }) c.in-Ok.ensures.beginning) c.in-Ok.ensures.machine);
     })
@@ -220,20 +225,26 @@ returns-in-Ok-clause-fits g c = λ H A f ready.
     let first = c.in-Ok.ensures.buffer in
     let log_now = started_log size some s old (g.D.Device.trace c.begin.new.config.device) c.in-Ok.ensures.made ready.ready.log ready.ready.settled in
     let names = ap (λ (t : Trace). (state_of t).snapshots.file) c.in-Ok.ensures.made ∙ ap (λ (n : NamesState). n.file) (started-snapshots size some (state_of old).log.bytes s old) in
+    let place : to_z w64 c.stable_place.result ≡ pos (stable_place s.stable) = to_z_pos w64 c.stable_place.result c.stable_place.ensures.small ∙ ap pos c.stable_place.ensures.place in
+    let marks : JoinedMarks = c.from_place.result in
+    let at : BeginAt marks (stable_place s.stable) = (c.from_place.ensures.joined ∙ place, c.from_place.ensures.durable ∙ place) in
+    let durable = (λ (first : SnapshotModel) (begins : BeginsFrom g.C.Checksum.sum_of now.snapshots.file first).
+    c.from_place.ensures.durable ∙ place
+    ∙ ap pos (sym (start_place g.C.Checksum.sum_of size some (state_of old) s H A f ready c.in-Ok.ensures.answers.0 now.snapshots.file names first begins))) in
     let parts =
-    subst (λ (ss : List SegmentBuffer). FitsLine g.C.Checksum.sum_of c.begin.new.config.config.segment_size now None (line_at site c.in-Ok.buffer ss) (c.in-Ok.beginning.place + c.in-Ok.beginning.offset) 0 H A f []) (sym c.no_segments.ensures)
-    (subst (λ n. FitsIn g.C.Checksum.sum_of (log_parts n site now None c.in-Ok.buffer.bytes.items c.in-Ok.buffer.written_len c.in-Ok.buffer.sealed.items c.in-Ok.buffer.reserved.items) [] (c.in-Ok.beginning.place + c.in-Ok.beginning.offset) 0 H A f []) (sym same)
+    subst (λ (ss : List SegmentBuffer). FitsLine g.C.Checksum.sum_of marks c.begin.new.config.config.segment_size now None (line_at site c.in-Ok.buffer ss) (c.in-Ok.beginning.place + c.in-Ok.beginning.offset) 0 H A f []) (sym c.no_segments.ensures)
+    (subst (λ n. FitsIn g.C.Checksum.sum_of marks (log_parts n site now None c.in-Ok.buffer.bytes.items c.in-Ok.buffer.written_len c.in-Ok.buffer.sealed.items c.in-Ok.buffer.reserved.items) [] (c.in-Ok.beginning.place + c.in-Ok.beginning.offset) 0 H A f []) (sym same)
     (start_fits g.C.Checksum.sum_of size (state_of old) now s H A f c.args.config.config.least ready c.in-Ok.ensures.answers.0
     log_now (ap (λ (t : Trace). (state_of t).blobs) c.in-Ok.ensures.made ∙ started-blobs size some (state_of old).log.bytes s old) (ap (λ (t : Trace). (state_of t).snapshots) c.in-Ok.ensures.made ∙ started-snapshots size some (state_of old).log.bytes s old)
-    c.in-Ok.beginning c.in-Ok.ensures.beginning c.in-Ok.buffer.bytes.items c.in-Ok.buffer.written_len c.in-Ok.buffer.sealed.items c.in-Ok.buffer.reserved.items first.header first.resumed first.from first.sealed first.reserved)) in
-    fits_begun g.C.Checksum.sum_of _ (omega (arith, some, same)) (g.D.Device.trace c.begin.new.config.device) _ _ _ _ H A f [] (record {
+    marks at c.in-Ok.beginning c.in-Ok.ensures.beginning c.in-Ok.buffer.bytes.items c.in-Ok.buffer.written_len c.in-Ok.buffer.sealed.items c.in-Ok.buffer.reserved.items first.header first.resumed first.from first.sealed first.reserved)) in
+    fits_begun g.C.Checksum.sum_of _ (omega (arith, some, same)) (g.D.Device.trace c.begin.new.config.device) _ _ _ marks _ H A f [] durable (record {
       reach = c.in-Ok.beginning.place + c.in-Ok.beginning.offset;
       parts = parts;
       batches = started_batches c.begin.new.config.config.segment_size (view_at (record { place = c.in-Ok.beginning.place; slot = c.in-Ok.beginning.slot }) c.in-Ok.buffer) (map segment_view c.no_segments.result.items) (logged H) c.new-in-Ok.ensures.noted
           (let low = offset_low c.args.config.config.segment_size (length (state_of (g.D.Device.trace c.args.config.device)).log.bytes) s c.in-Ok.beginning c.in-Ok.ensures.beginning some in let from = first.from in let same = ap (λ (x : Config). x.segment_size) c.begin.ensures.config in omega (arith, low, from, same))
           (subst (λ n. CloseBelow (c.in-Ok.beginning.place + n) (logged H).batches) (sym first.from)
           (begins_closed g.C.Checksum.sum_of size (state_of old) now s (logged H) c.in-Ok.buffer.bytes.items c.args.config.config.least ready.ready c.in-Ok.ensures.answers.0 log_now
-          (ap (λ (t : Trace). (state_of t).snapshots.file) c.in-Ok.ensures.made ∙ ap (λ (n : NamesState). n.file) (started-snapshots size some (state_of old).log.bytes s old)) c.in-Ok.beginning c.in-Ok.ensures.beginning first.header first.resumed));
+          (ap (λ (t : Trace). (state_of t).snapshots.file) c.in-Ok.ensures.made ∙ ap (λ (n : NamesState). n.file) (started-snapshots size some (state_of old).log.bytes s old)) marks at c.in-Ok.beginning c.in-Ok.ensures.beginning first.header first.resumed));
       slots = subst (λ (ss : List SegmentBuffer). HasSlots c.begin.new.config.config.segment_size (line_at site c.in-Ok.buffer ss) now.log.bytes None (machine_of c.in-Ok.accountant)) (sym c.no_segments.ensures)
           (start_slots size same some s (state_of old).log.bytes now.log.bytes c.in-Ok.ensures.answers.0 (ap (λ (l : LogState). l.bytes) log_now) (view_at site c.in-Ok.buffer) (ap (λ (x : Beginning). record { place = x.place; slot = x.slot }) c.in-Ok.ensures.beginning) c.in-Ok.ensures.machine);
       whole = λ none zeros. start_whole g.C.Checksum.sum_of size c.args.config.config.least (state_of old) s (logged H) ready.ready ready.alone c.in-Ok.ensures.answers.0 ready.active same (ap (λ (l : LogState). l.bytes) log_now)
@@ -247,13 +258,13 @@ returns-in-Ok-clause-fits g c = λ H A f ready.
           (subst (λ (ss : List SegmentBuffer). HasPlacedFile g.C.Checksum.sum_of size now (line_at site c.in-Ok.buffer ss)) (sym c.no_segments.ensures)
           (started_own g.C.Checksum.sum_of size c.args.config.config.least zeros (state_of old) now s H A f ready c.in-Ok.ensures.answers.0 (ap (λ (l : LogState). l.bytes) log_now) behind (view_at site c.in-Ok.buffer)
           (ap (λ (x : Beginning). record { place = x.place; slot = x.slot }) c.in-Ok.ensures.beginning) (first.from ∙ offset) first.sealed)));
-      account = start_account g.C.Checksum.sum_of size some (state_of old) s H A f ready c.in-Ok.ensures.answers.0 same now.snapshots.file names c.in-Ok.ensures.machine;
+      account = start_account g.C.Checksum.sum_of size some (state_of old) s H A f ready c.in-Ok.ensures.answers.0 marks at.0 same now.snapshots.file names c.in-Ok.ensures.machine;
       numbers = λ zeros. subst (λ (ss : List SegmentBuffer). HasNumbers g.C.Checksum.sum_of c.begin.new.config.config.segment_size 0 now (machine_of c.in-Ok.accountant)
           (line_end c.begin.new.config.config.segment_size (line_at site c.in-Ok.buffer ss))) (sym c.no_segments.ensures)
           (start_numbers g.C.Checksum.sum_of size c.args.config.config.least zeros old (g.D.Device.trace c.begin.new.config.device) s H A f ready c.in-Ok.ensures.answers.0 c.begin.ensures.calls
           log_now same c.in-Ok.ensures.machine (view_at site c.in-Ok.buffer) (ap (λ (x : Beginning). record { place = x.place; slot = x.slot }) c.in-Ok.ensures.beginning));
-      in_slots = start_in_slots g.C.Checksum.sum_of size some (state_of old) s H A f ready c.in-Ok.ensures.answers.0 same now.snapshots.file names c.in-Ok.ensures.machine _
-          (λ newest begins zeros. newest_stable g.C.Checksum.sum_of c.begin.new.config.config.segment_size now None refl (line_at site c.in-Ok.buffer c.no_segments.result.items) (c.in-Ok.beginning.place + c.in-Ok.beginning.offset) 0 H A f [] parts zeros newest begins);
+      in_slots = start_in_slots g.C.Checksum.sum_of size some (state_of old) s H A f ready c.in-Ok.ensures.answers.0 marks at.0 same now.snapshots.file names c.in-Ok.ensures.machine _
+          (λ newest begins zeros. newest_stable g.C.Checksum.sum_of c.begin.new.config.config.segment_size marks now None refl (line_at site c.in-Ok.buffer c.no_segments.result.items) (c.in-Ok.beginning.place + c.in-Ok.beginning.offset) 0 H A f [] parts zeros newest begins);
     })
 
 -- damage comes only where a log can't begin

@@ -21,8 +21,8 @@ returns-clause-keeps g c = record {
       let same : state_of (trace c.stop_after.new.self) ≡ state_of (trace old.config.device) = asked_state stopped c.args.n (trace old.config.device) (trace c.stop_after.new.self) asked in
       record {
         goes_on = goes_on_asked trace g.C.Checksum.sum_of old _ stopped c.args.n (record { config = refl; checksum = refl }) asked (omega arith) (λ none. none);
-        history = λ H holds. holds_with_device g.C.Checksum.sum_of _ _ _ _ _ _ _ _ (logged H) same refl holds;
-        fits = λ H A f U fits. fits_with_device g.C.Checksum.sum_of _ _ _ _ _ _ _ _ _ H A f U same refl fits;
+        history = λ H holds. holds_with_device g.C.Checksum.sum_of _ _ _ _ _ _ _ _ _ (logged H) same refl holds;
+        fits = λ H A f U fits. fits_with_device g.C.Checksum.sum_of _ _ _ _ _ _ _ _ _ _ H A f U same refl fits;
         noted = noted_still old;
         kept = omega arith;
       }

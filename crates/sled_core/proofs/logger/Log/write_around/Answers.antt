@@ -10,6 +10,7 @@ use Rattle.sled_core.specs.inside.Marked.{KeepsSegment}
 use Rattle.sled_core.proofs.Line.CameFar.{on_err_both}
 use Rattle.sled_core.proofs.Line.HeaderMarks.{segment_same, segment_written}
 use Rattle.sled_core.proofs.Line.LogSpans.{same_buffers, written_starts}
+use Rattle.sled_core.proofs.Line.MarksJoin.{joins_same}
 use Rattle.sled_core.proofs.Line.Outcomes.{answers_free, done_free, either, on_ok}
 use Rattle.sled_core.proofs.Line.Settles.{found_early, found_gone, found_held, held_at_found, held_none, inside, is_ready_there, ledger_it, ledger_still, looks, nothing_waits, number_within, settling_found, settling_it, some_held, without_still, wrote_all, wrote_place, wrote_without, written_found}
 use Rattle.sled_core.proofs.logger.Log.write_around.Goals as goal
@@ -198,3 +199,14 @@ returns-clause-ledger g c =
     on_ok c.write_buffer.result _ _
     (λ is. is ∙ sym (ledger_it c.args.self.now c.args.place looked c.around-k.result.0 c.around-k.result.1 c.if-at-buffer.false c.around-k.ensures.there c.around-k.ensures.point c.if-b.false (let none = c.if-b-gt0.false in omega (arith, none))))
     (c.write_buffer.ensures.ledger looked.segment looked.among)
+
+-- The mark that joins isn't above what was synced.
+
+pub returns-then-at-buffer-clause-joined : goal.returns-then-at-buffer-clause-joined
+returns-then-at-buffer-clause-joined g c = joins_same g.D.Device.trace g.C.Checksum.sum_of c.args.self.now c.args.self.now refl
+
+pub returns-then-b-clause-joined : goal.returns-then-b-clause-joined
+returns-then-b-clause-joined g c = joins_same g.D.Device.trace g.C.Checksum.sum_of c.args.self.now c.args.self.now refl
+
+pub returns-then-b-gt0-clause-joined : goal.returns-then-b-gt0-clause-joined
+returns-then-b-gt0-clause-joined g c = joins_same g.D.Device.trace g.C.Checksum.sum_of c.args.self.now c.args.self.now refl

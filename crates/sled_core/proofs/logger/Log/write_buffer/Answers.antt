@@ -1,4 +1,4 @@
-use Rattle.std.proofs.Common.{nat_lt, if◌then◌else◌, ◌≡◌, ◌∙◌, List, ℕ, ap, sym, subst, refl, arith, rules, length, deque_len, map, set, true, Option, None, Some, Err, inl, inr}
+use Rattle.std.proofs.Common.{nat_lt, if◌then◌else◌, ◌≡◌, ◌∙◌, List, ℕ, ap, sym, subst, refl, arith, rules, length, deque_len, map, set, true, Option, None, Some, Err, inl, inr, ◌≤ℤ◌}
 use Rattle.std.specs.declared.io.Error.{Error as IoError}
 use Rattle.sled_codec.specs.declared.result.Error.{Error}
 use Rattle.sled_codec.specs.declared.result.Error.TheVariants.{Io, OutOfMemory}
@@ -42,7 +42,7 @@ use Rattle.sled_core.proofs.Line.Faulty.{fits_with_same, holds_with_same}
 use Rattle.sled_core.proofs.Line.Among.{among_further, among_same}
 use Rattle.sled_core.proofs.Line.GivenUp.{given_promoted, set_given}
 use Rattle.sled_core.proofs.Line.LineEnds.{kept_same, noted_later, noted_same}
-use Rattle.sled_core.proofs.Line.LogWrites.{KeepsInvariants, crash_write, end_grows, fits_done, fits_failed, holds_done, holds_failed, keeps_invariants, line_after, line_left, names, noted_left, same_line, segments_written}
+use Rattle.sled_core.proofs.Line.LogWrites.{KeepsInvariants, crash_write, end_grows, fits_done, fits_failed, holds_done, holds_failed, keeps_invariants, line_after, line_left, names, noted_left, same_line, segments_written, mark_joins, Joins}
 use Rattle.sled_core.proofs.Line.Marks.{HasReady, ready_at}
 use Rattle.sled_core.proofs.Line.NthOpen.{nth_is, nth_there, nth_within}
 use Rattle.sled_core.proofs.Line.OpenManifests.{manifests_promoted, set_same}
@@ -58,6 +58,8 @@ use Rattle.sled_core.proofs.Line.AccountBehind.{account_same, ledger_same}
 use Rattle.sled_core.proofs.Line.FreeingStep.{no_more, nothing_done}
 use Rattle.sled_core.proofs.Line.KeptCalls.{position_place}
 use Rattle.sled_core.proofs.Line.LogSpans.{same_with}
+use Rattle.sled_core.proofs.Line.MarksJoin.{joined_up, joins_same}
+use Rattle.sled_core.specs.declared.logger.joined_marks.JoinedMarks.{JoinedMarks}
 
 -- The same batches are noted,
 noted_items : {D C : Type 0} (old mid : Log D C) → ChangesDevice old mid → mid.batches.noted.items ≡ old.batches.noted.items
@@ -129,9 +131,9 @@ returns-in_err-write_bytes-clause-keeps g c = record {
           sound = λ none. c.requires.fault;
           items = λ none. items_same g.D.Device.trace g.C.Checksum.sum_of old _ (names old c.args.n c.args.k r g.D.Device.trace g.C.Checksum.sum_of c.requires.fault (g.D.Device.trace mid.config.device) did.at_most).0;
         };
-        history = λ H holds. holds_with_same g.C.Checksum.sum_of _ _ _ _ _ _ _ _ _ _ (logged H) kept_noted sizes (same_line old mid rest) slots
+        history = λ H holds. holds_with_same g.C.Checksum.sum_of _ _ _ _ _ _ _ _ _ _ _ _ (logged H) rest.marks kept_noted sizes (same_line old mid rest) slots
             (holds_failed old c.args.n c.args.k r g.D.Device.trace g.C.Checksum.sum_of c.requires.fault (g.D.Device.trace mid.config.device) did.at_most mid.fault.kept did.refused H holds);
-        fits = λ H A f U fits. fits_with_same g.C.Checksum.sum_of _ _ _ _ _ _ _ _ _ _ _ _ H A f U kept_noted sizes (same_line old mid rest) slots rest.pins
+        fits = λ H A f U fits. fits_with_same g.C.Checksum.sum_of _ _ _ _ _ _ _ _ _ _ _ _ _ _ H A f U rest.marks kept_noted sizes (same_line old mid rest) slots rest.pins
             (fits_failed old c.args.n c.args.k r g.D.Device.trace g.C.Checksum.sum_of c.requires.fault (g.D.Device.trace mid.config.device) did.at_most mid.fault.kept did.refused H A f U fits);
         noted = noted_later old mid items (let same = ap written_to (same_line old mid rest) in omega (arith, same));
         kept = kept_same old mid items;
@@ -262,6 +264,11 @@ returns-clause-keeps g c = record {
       let sizes : segment_size_of mid ≡ segment_size_of old = ap (λ (x : Config). x.segment_size) rest.config in
       let slots = ap machine_of rest.accountant in
       let line = returns-clause-line g c r.segment r.among in
+      let mark = c.mark_of-mark.ensures r.segment (ap (λ (l : List SegmentView). slice_get l c.args.n) (same_line old mid rest) ∙ r.among) in
+      let joins : Joins old c.args.n c.args.k r g.D.Device.trace g.C.Checksum.sum_of c.requires.fault c.note_mark.new.self = (
+        subst (λ (x : JoinedMarks). x.joined ≤ℤ c.note_mark.new.self.joined) rest.marks (joined_up _ _ mid.marks c.note_mark.new.self c.note_mark.ensures.joined),
+        c.note_mark.ensures.durable ∙ (λ j. greater_mark (mark j) (rest.marks j).durable),
+      ) in
       record {
         goes_on = record {
           config = record { config = rest.config; checksum = rest.checksum };
@@ -271,10 +278,10 @@ returns-clause-keeps g c = record {
           sound = λ none. c.requires.fault;
           items = λ none. items_same g.D.Device.trace g.C.Checksum.sum_of old _ (names old c.args.n c.args.k r g.D.Device.trace g.C.Checksum.sum_of c.requires.fault (g.D.Device.trace mid.config.device) did.at_most).0;
         };
-        history = λ H holds. holds_with_same g.C.Checksum.sum_of _ _ _ _ _ _ _ _ _ _ (logged H) (noted_left_is old c.args.n c.args.k r (noted_items old mid rest) line) sizes line slots
-            (holds_done old c.args.n c.args.k r g.D.Device.trace g.C.Checksum.sum_of c.requires.fault (g.D.Device.trace mid.config.device) did.calls mid.fault.kept did.answers.1 H holds);
-        fits = λ H A f U fits. fits_with_same g.C.Checksum.sum_of _ _ _ _ _ _ _ _ _ _ _ _ H A f U (noted_left_is old c.args.n c.args.k r (noted_items old mid rest) line) sizes line slots rest.pins
-            (fits_done old c.args.n c.args.k r g.D.Device.trace g.C.Checksum.sum_of c.requires.fault (g.D.Device.trace mid.config.device) did.calls mid.fault.kept did.answers.1 H A f U fits);
+        history = λ H holds. holds_with_same g.C.Checksum.sum_of _ _ _ _ _ _ _ _ _ _ _ _ (logged H) refl (noted_left_is old c.args.n c.args.k r (noted_items old mid rest) line) sizes line slots
+            (holds_done old c.args.n c.args.k r g.D.Device.trace g.C.Checksum.sum_of c.requires.fault (g.D.Device.trace mid.config.device) did.calls mid.fault.kept did.answers.1 _ joins H holds);
+        fits = λ H A f U fits. fits_with_same g.C.Checksum.sum_of _ _ _ _ _ _ _ _ _ _ _ _ _ _ H A f U refl (noted_left_is old c.args.n c.args.k r (noted_items old mid rest) line) sizes line slots rest.pins
+            (fits_done old c.args.n c.args.k r g.D.Device.trace g.C.Checksum.sum_of c.requires.fault (g.D.Device.trace mid.config.device) did.calls mid.fault.kept did.answers.1 _ joins H A f U fits);
         noted = noted_left_is old c.args.n c.args.k r (noted_items old mid rest) line ∙ ap (λ e. not_whole e (noted_in old)) (sym (ap written_to line));
         kept = kept_same old mid (noted_items old mid rest);
       }
@@ -331,3 +338,23 @@ returns-clause-ledger g c = λ v among.
         pinned = nat_lt 0 (rest.pins i);
       };
     }
+
+-- And it isn't above what was synced.
+
+pub returns-in_err-write_bytes-clause-joined : goal.returns-in_err-write_bytes-clause-joined
+returns-in_err-write_bytes-clause-joined g c =
+    let rest = c.in_err-write_bytes.ensures.rest in
+    joins_same g.D.Device.trace g.C.Checksum.sum_of c.args.self.now c.write_bytes.new.self
+    (account_same c.args.self.now c.write_bytes.new.self rest.marks rest.pins)
+
+pub returns-clause-joined : goal.returns-clause-joined
+returns-clause-joined g c = λ H holds.
+    let old = c.args.self.now in
+    let mid = c.write_bytes.new.self in
+    let r = c.requires.ready in
+    let rest = c.in_ok-write_bytes.ensures.rest in
+    let mark = c.mark_of-mark.ensures r.segment (ap (λ (l : List SegmentView). slice_get l c.args.n) (same_line old mid rest) ∙ r.among) in
+    mark_joins old c.args.n c.args.k r g.D.Device.trace g.C.Checksum.sum_of c.requires.fault c.note_mark.new.self (
+      subst (λ (x : JoinedMarks). x.joined ≤ℤ c.note_mark.new.self.joined) rest.marks (joined_up _ _ mid.marks c.note_mark.new.self c.note_mark.ensures.joined),
+      c.note_mark.ensures.durable ∙ (λ j. greater_mark (mark j) (rest.marks j).durable),
+    ) H holds

@@ -1,5 +1,5 @@
 -- A buffer begins with the header exactly where it begins its segment.
-use Rattle.std.proofs.Common.{rules, w64, SFits, ◌≡◌, ◌∙◌, ◌==◌, ap, sym, arith, true, false, if◌then◌else◌, Bool, Option, Some, None}
+use Rattle.std.proofs.Common.{rules, w64, SFits, ◌≡◌, ◌∙◌, ◌==◌, ap, sym, arith, true, false, if◌then◌else◌, Bool, Some, None}
 use Rattle.std.proofs.lemmas.Bool.Decides.{nat_tests}
 use Rattle.sled_core.specs.HeaderMark.{mark_at, mark_in}
 use Rattle.sled_core.proofs.logger.joined_marks.mark_at.Goals as goal

@@ -2,6 +2,7 @@
 use Rattle.std.proofs.Common.{◌≡◌, ◌<◌, ◌∙◌, inl, inr, max, ℕ, List, length, arith, subst, sym, refl, ap}
 use Rattle.sled_store.specs.Device.{Event, state_of}
 use Rattle.sled_store.specs.Script.{Performs, after_all}
+use Rattle.sled_core.specs.Account.{account_of}
 use Rattle.sled_core.specs.Fits.{IsKept, IsUsedUpBelow, current_begin, device_of, fault_of, held_len, holding_below, reserved_end, segment_size_of, stable_end, synced_end}
 use Rattle.sled_core.specs.Logged.{logged}
 use Rattle.sled_core.specs.invariants.Running.{Fits}
@@ -36,8 +37,8 @@ returns-in-Ok-clause-step g c = λ k at free.
     let position = place_pinned old new at.pinned c.flush.ensures.keeps.position in
     let put = stays_put trace sum old new c.flush.ensures.keeps.tickets position c.flush.ensures.keeps.preserves in
     let ends : synced_end new ≡ stable_from to l = sym c.in-Ok.ensures.synced.stable ∙ stable_seen old sum begun k.tickets k.given_up k.heads to some new (view old.config.device) (view new.config.device) H k.acknowledged k.floor put above in
-    let settled : IsKept sum (segment_size_of old) new.segments.first.site new.segments.first.buffer.written_len (state_of (trace (device_of new))) (logged H) =
-    subst (λ n. IsKept sum n new.segments.first.site new.segments.first.buffer.written_len (state_of (trace (device_of new))) (logged H)) position.size (c.in-Ok.ensures.records H holds) in
+    let settled : IsKept sum (account_of new).mark (account_of new).durable (segment_size_of old) new.segments.first.site new.segments.first.buffer.written_len (state_of (trace (device_of new))) (logged H) =
+    subst (λ n. IsKept sum (account_of new).mark (account_of new).durable n new.segments.first.site new.segments.first.buffer.written_len (state_of (trace (device_of new))) (logged H)) position.size (c.in-Ok.ensures.records H holds) in
     let reached : ℕ = max k.acknowledged (end_below (stable_end new) H) in
     record {
       not_refused = refl;
@@ -49,6 +50,8 @@ returns-in-Ok-clause-step g c = λ k at free.
         site = new.segments.first.site;
         from = new.segments.first.buffer.written_len;
         at = ends;
+        mark = (account_of new).mark;
+        durable = (account_of new).durable;
         kept = settled;
       };
       at = λ own. still_open trace sum opened new k reached at c.flush.ensures.keeps.tickets (only_begun sum opened.log new c.flush.ensures.buffers.0.marked) position (was_free old new c.flush.ensures.spares.faulty) c.flush.ensures.keeps.preserves
