@@ -31,7 +31,7 @@ use Rattle.sled_core.specs.declared.logger.joined_marks.JoinedMarks.{JoinedMarks
 use Rattle.sled_core.proofs.Behind.Calls.{behind-aborted, ended_long, held_here}
 use Rattle.sled_core.proofs.Behind.Completes.{adds_here, behind-complete, completed_history}
 use Rattle.sled_core.proofs.Behind.FitsCalls.{behind-fits-aborted, behind-fits-completed}
-use Rattle.sled_core.proofs.Holds.Added.{added_there, message_grows}
+use Rattle.sled_core.proofs.Holds.Added.{added_there, message_above, message_grows}
 use Rattle.sled_core.proofs.Holds.CompletedLemmas.{behind_written, ends_within}
 use Rattle.sled_core.proofs.Holds.FitsBatches.{batches_completed, batches_up}
 use Rattle.sled_core.proofs.Holds.MessagesBeside.{batch_beside}
@@ -51,6 +51,7 @@ use Rattle.sled_core.proofs.Reserve.Ranges.{at_there}
 use Rattle.sled_core.proofs.Sealed.Ended.{ends_up}
 use Rattle.sled_core.proofs.Line.Accounts.{account_completed}
 use Rattle.sled_core.proofs.Line.ActiveSegments.{inside_segment, lies_active}
+use Rattle.sled_core.proofs.Reached.GrowsAt.{GrowsAbove}
 use Rattle.sled_core.specs.inside.LogSegments.{held_since}
 
 -- What the one that is set has as the one before it had it, each has as before.
@@ -219,7 +220,7 @@ module _ (sum : List ℕ → ℕ) (size : ℕ) (device : State) (fault : Option 
     whole = λ none zeros. subst (λ p. AreWhole sum size device.log.bytes (logged H) p machine) (sym (first_set line n v (ended_now i r (canceling sum v.parts.bytes r) Canceled v) there refl)) (fits.whole none zeros);
     own = λ none zeros. own_ended sum size (HeaderWasPlaced device.placed) (RecordWasPlaced sum size device.placed) device.log.bytes line n v i r (canceling sum v.parts.bytes r) Canceled there (fits.own none zeros);
     account = fits.account;
-    numbers = λ zeros. subst (HasNumbers sum size 0 device machine) (sym (end_set size line n v (ended_now i r (canceling sum v.parts.bytes r) Canceled v) there refl)) (fits.numbers zeros);
+    numbers = λ zeros. subst (HasNumbers sum size _ device machine) (sym (end_set size line n v (ended_now i r (canceling sum v.parts.bytes r) Canceled v) there refl)) (fits.numbers zeros);
     in_slots = fits.in_slots;
   }
 
@@ -251,6 +252,7 @@ module _ (sum : List ℕ → ℕ) (size : ℕ) (device : State) (fault : Option 
   pub fits_completed : (x : Message) → in_log x ≡ message_in v.parts.site v.parts.bytes r → BlobIsBelow x x.pointer → KeepsItem sum device.blobs x x.pointer → NamesNoOutdated machine x → is_manifest r.log_kind r.page ≡ false → (pins : ℕ) (H : History) (A f : ℕ) (U : List Message) → 256 ≤ size → fault ≡ None → 0 < pins
       → {marks : JoinedMarks} → FitsWith sum marks noted size device fault line machine pins H A f U
       → (H' : History) × AddsMessage H x H' × FitsWith sum marks noted size device fault (set line n (ended_now i r (completing r) Completed v)) machine pins H' A f (x ∷ U)
+      × GrowsAbove (logged H) (logged H') (first_place line)
   fits_completed x its_message below stored fresh none pins H A f U least ok out fits =
       let done = complete_fits sum size device fault v i r at is_open _ x its_message below stored none line n place fits.reach pins H A f U least ok out there facts fits.parts in
       let held = line_holds sum size device fault _ line fits.reach pins H A f U fits.parts in
@@ -271,7 +273,8 @@ module _ (sum : List ℕ → ℕ) (size : ℕ) (device : State) (fault : Option 
           account = account_completed sum size device.snapshots.file H U machine fits.account done.0 x done.1 fresh
               (lies_active sum size device fault line fits.reach pins H A f U fits.parts machine fits.account least v (first_below size place line (from_each size place line facts) n v there)
               (at_there (HasSlot size machine) line n v there fits.slots.taken) x v.parts.bytes r its_message (inside_segment (facts n v there) i r at));
-          numbers = λ zeros. subst (HasNumbers sum size 0 device machine) (sym (end_set size line n v (ended_now i r (completing r) Completed v) there refl)) (fits.numbers zeros);
+          numbers = λ zeros. subst (HasNumbers sum size _ device machine) (sym (end_set size line n v (ended_now i r (completing r) Completed v) there refl)) (fits.numbers zeros);
           in_slots = slots_completed _ H fits.reach x its_message held fits.slots done.0 done.1 fits.in_slots;
         },
+        message_above (logged H) (logged done.0) (in_log x) put (first_place line) past,
       )

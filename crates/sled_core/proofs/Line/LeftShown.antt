@@ -1,7 +1,7 @@
 -- What a crash leaves of the device of a log that fits a history can be recovered where what it leaves of what is shown can: no call on the log file is under
 -- way, and what the file has besides what is shown is of segments that are gone.
 use Rattle.std.specs.declared.io.Error.{Error as IoError}
-use Rattle.std.proofs.Common.{◌≡◌, ◌≤◌, ℕ, List, [], ◌∷◌, map, Option, None, refl, sym, subst, arith, inl, inr}
+use Rattle.std.proofs.Common.{◌≡◌, ◌≤◌, ℕ, List, [], ◌∷◌, map, Option, None, refl, sym, subst, inl, inr}
 use Rattle.sled_codec.specs.History.{Batch, History, Message}
 use Rattle.sled_codec.specs.Snapshots.{SnapshotModel}
 use Rattle.sled_store.specs.Device.{State}
@@ -33,7 +33,10 @@ use Rattle.sled_core.proofs.Line.Quiet.{quiet_shown}
 use Rattle.sled_core.proofs.Line.Segments.{AreSegments, line_segments}
 use Rattle.sled_core.proofs.Logged.Messages.{logged_twice}
 use Rattle.sled_core.proofs.OwnLog.NoneForeign.{WasPlaced}
+use Rattle.sled_core.proofs.Reached.MarkWritten.{stands_lower}
+use Rattle.sled_core.proofs.Reached.MarksRaise.{mark_low}
 use Rattle.sled_core.proofs.Reserve.Ranges.{at_there}
+use Rattle.sled_core.specs.LogSegments.{begins_from}
 use Rattle.sled_core.specs.inside.LogSegments.{held_since}
 
 module _ (sum : List ℕ → ℕ) (marks : JoinedMarks) (noted : List Batch) (size : ℕ) (big : 256 ≤ size) (device : State) (fault : Option IoError) (m : Machine) (pins : ℕ)
@@ -56,12 +59,16 @@ module _ (sum : List ℕ → ℕ) (marks : JoinedMarks) (noted : List Batch) (si
       let among : StandsAmong sum (held_since size marks first) size file v.parts.site v.parts.written_len (map begun_segment (map parts_in vs)) fits.shows.reach (logged H) first =
       subst (λ (l : List ℕ). StandsAmong sum (held_since size marks first) size l v.parts.site v.parts.written_len (map begun_segment (map parts_in vs)) fits.shows.reach (logged H) first)
       bytes (its.among whole zeros) in
+      let its_marks = fits.marked whole zeros first its.holds.begun.begins in
+      let low =
+      mark_low sum size file big (logged H) (stable_below fits.shows.reach H.batches) first fits.shows.reach among.stands marks.joined
+      (stands_lower sum size file first marks.joined marks.durable its_marks.joined its_marks.stands) in
       let reads : ReadsShown sum size m file device.log.bytes =
       quiet_shown sum zeros size big m v vs here (λ j w at_j. at_there (HasSlot size m) line j w at_j fits.shows.slots.taken) fits.shows.slots.own device
       (logged H) first fits.shows.reach
       (subst (λ (l : List ℕ). AreWhole sum size l (logged H) v.parts.site.place m) bytes (fits.shows.whole whole zeros)) among in
-      rest_recovers sum size big device m line first 0 (logged H) (fits.hides whole zeros first its.holds.begun.begins) reads (line_end size line)
-      fits.shows.slots.own file among.stands.ordering among.stands.numbers among.stands.marks (omega arith) H (logged_twice H) (fits.file.rests whole)
+      rest_recovers sum size big device m line first (begins_from size marks.joined) (logged H) (fits.hides whole zeros first its.holds.begun.begins) reads (line_end size line)
+      fits.shows.slots.own file among.stands.ordering among.stands.numbers among.stands.marks low H (logged_twice H) (fits.file.rests whole)
       (λ k p mark header. refl) sees (shown_rests size fault m line device whole) refl refl
       (subst (λ (l : List ℕ). (slot : ℕ) → WasPlaced sum size device.placed l slot) bytes (placed zeros)) (logged H) f its.named.names
       (stable_below fits.shows.reach H.batches) f its.left left leaves own_left

@@ -65,7 +65,10 @@ use Rattle.sled_core.proofs.Reached.StartedStands.{both_along}
 use Rattle.sled_core.proofs.Start.StartedMoments.{along_if}
 use Rattle.sled_core.proofs.Line.PlacedWrite.{placed_left}
 use Rattle.sled_core.proofs.Line.WriteMarks.{mark_low, marks_written}
+use Rattle.sled_core.proofs.Numbers.HidesAs.{from_higher}
+use Rattle.sled_core.proofs.Numbers.Stay.{numbers_from}
 use Rattle.sled_core.proofs.Tail.MarkPlaces.{begins_lower}
+use Rattle.sled_core.specs.LogSegments.{begins_from}
 use Rattle.sled_core.specs.inside.LogSegments.{held_since}
 use Rattle.sled_store.proofs.Histories.Ascending.{Ascends}
 use Rattle.std.proofs.lemmas.Int.{ints}
@@ -217,7 +220,7 @@ module _ {D C : Type 0} (log : Log D C) (n k : ℕ) (r : IsReadyIn (line_of log)
 
     -- Made or not, in the slots nothing that is the log's own has a greater number.
     abbrev Numbered : State → Type 0
-    Numbered s = HasNumbers sum size 0 s slots (line_end size line)
+    Numbered s = HasNumbers sum size (begins_from size log.marks.joined) s slots (line_end size line)
 
     module _ (H : History) (A f : ℕ) (U : List Message) (fits : FitsShown sum log.marks (noted_in log) size device log.fault.kept line slots log.pins H A f U)
         (zeros : NoHeaderOfZeros sum) where
@@ -249,7 +252,7 @@ module _ {D C : Type 0} (log : Log D C) (n k : ℕ) (r : IsReadyIn (line_of log)
         (passes_line sum _ size sees log.fault.kept line fits.shows.reach log.pins H A f U fits.shows.parts) (record {
           can = can;
           numbers = λ zeros.
-              stays_in sum (noted_in log) size (omega (arith, least)) sees log.fault.kept line slots log.pins H A f U fits.shows
+              stays_in sum (noted_in log) size least sees log.fault.kept line slots log.pins H A f U fits.shows
               (fits_ascends trace sum log H A f U fits)
               zeros s (has zeros);
         }))
@@ -398,8 +401,11 @@ module _ {D C : Type 0} (log : Log D C) (n k : ℕ) (r : IsReadyIn (line_of log)
       }
 
       -- What is held counts from no lower place.
+      base_up : begins_from size log.marks.joined ≤ begins_from size marks.joined
+      base_up = begins_lower size log.config.config.least log.marks.joined marks.joined joins.0
+
       higher : (first : SnapshotModel) → held_since size log.marks first ≤ held_since size marks first
-      higher first = let up = begins_lower size log.config.config.least log.marks.joined marks.joined joins.0 in omega (arith, up)
+      higher first = let up = base_up in omega (arith, up)
 
       fits_behind : Ascends H.messages → FitsShown sum marks noted_left size behind_calls None line_left slots log.pins H A f U
       fits_behind order = record {
@@ -417,18 +423,20 @@ module _ {D C : Type 0} (log : Log D C) (n k : ℕ) (r : IsReadyIn (line_of log)
               (line_segments log) n r.among slots has (logged H) log.marks held_now zeros (fits.shows.own whole zeros));
           account = account_raised sum size device.snapshots.file H U slots fits.shows.account marks (higher fits.shows.account.first);
           numbers = λ zeros.
-              subst (λ (s : State). HasNumbers sum size 0 s slots (line_end size line_left)) (sym settled)
-              (subst (HasNumbers sum size 0 sees_behind slots) (sym end_stays)
+              numbers_from sum size sees_now slots (line_end size line_left) (begins_from size log.marks.joined) (begins_from size marks.joined) base_up
+              (subst (λ (s : State). HasNumbers sum size (begins_from size log.marks.joined) s slots (line_end size line_left)) (sym settled)
+              (subst (HasNumbers sum size (begins_from size log.marks.joined) sees_behind slots) (sym end_stays)
               (numbers_behind sum size log.config.config.least sees log.fault.kept whole v k r.buffer r.there r.ready log.segments.first.site.place line
-              (line_segments log) n r.among slots has (logged H) log.marks held_now zeros (fits.shows.own whole zeros) (fits.shows.numbers zeros)));
+              (line_segments log) n r.among slots has (logged H) log.marks held_now zeros (fits.shows.own whole zeros) (fits.shows.numbers zeros))));
           in_slots = λ first begins. slots_raised sum size (held_since size log.marks first) (stable_below fits.shows.reach H.batches) H order slots
               (fits.shows.in_slots first begins) (held_since size marks first) (stable_below after.0 H.batches) (higher first)
               (λ zeros. held_stable sum size log.config.config.least marks sees_now None (λ i. None) line_left after.0 log.pins H A f U parts_now zeros
               (marked_now zeros) first begins);
         };
         file = shown_after has fits.file None;
-        hides = λ none zeros. hides_behind sum log.marks (noted_in log) size log.config.config.least device log.fault.kept whole zeros slots log.pins H A f U
-            log.segments.first.site.place line (line_segments log) fits.shows (fits.hides whole zeros) n v r.among k r.buffer r.there r.ready;
+        hides = λ none zeros. from_higher sum size (begins_from size log.marks.joined) (begins_from size marks.joined) base_up behind_calls slots line_left (logged H)
+            (hides_behind sum log.marks (noted_in log) size log.config.config.least device log.fault.kept whole zeros slots log.pins H A f U
+            log.segments.first.site.place line (line_segments log) fits.shows (fits.hides whole zeros) n v r.among k r.buffer r.there r.ready);
         marked = λ none zeros. marked_now zeros;
       }
 

@@ -1,7 +1,7 @@
 -- What a log shows of its device: where a call leaves that, what is held and fitted over it is held and fitted by the log behind the call. As yet it is the
 -- device itself.
 use Rattle.std.specs.declared.io.Error.{Error as IoError}
-use Rattle.std.proofs.Common.{◌≡◌, ◌≢◌, ◌∙◌, ◌+◌, ◌*◌, ◌<◌, ℕ, zero, suc, pos, max, List, [], ◌∷◌, Option, Some, None, refl, sym, ap, subst, arith, inl, inr}
+use Rattle.std.proofs.Common.{◌≡◌, ◌≢◌, ◌∙◌, ◌+◌, ◌*◌, ◌<◌, ℕ, zero, suc, pos, max, List, [], ◌∷◌, Option, Some, None, refl, sym, ap, subst, arith, inl, inr, ◌≤◌}
 use Rattle.std.specs.List.{slice_get}
 use Rattle.std.proofs.Math.Nat.{suc-mul}
 use Rattle.std.proofs.lemmas.Bool.{cases_order}
@@ -33,6 +33,8 @@ use Rattle.sled_core.proofs.Line.Ends.{line_holds, with_part}
 use Rattle.sled_core.proofs.Line.Segments.{AreSegments, nth_segment}
 use Rattle.sled_core.proofs.Numbers.HidesAtRest.{hides_at_rest}
 use Rattle.sled_core.proofs.Sealed.Ended.{ends_rise, ends_up}
+use Rattle.sled_core.proofs.Tail.MarkPlaces.{begins_lower}
+use Rattle.sled_core.specs.LogSegments.{begins_from}
 
 -- where the n-th of segments one behind another begins
 pub nth_at : (size place : ℕ) (vs : List SegmentView) → AreSegments size place vs → (n : ℕ) (u : SegmentView) → slice_get vs n ≡ Some u
@@ -77,7 +79,7 @@ module _ (sum : List ℕ → ℕ) (noted : List Batch) (size : ℕ) (device : St
   }
 
   pub fits_shown : (marks : JoinedMarks) (pins : ℕ) (H : History) (A f : ℕ) (U : List Message)
-      → (fault ≡ None → NoHeaderOfZeros sum → HidesFrom sum size device m' line' (logged H))
+      → (fault ≡ None → NoHeaderOfZeros sum → HidesFrom sum size (begins_from size marks.joined) device m' line' (logged H))
       → (fault ≡ None → NoHeaderOfZeros sum → MarksFitFrom sum size device.snapshots.file (cleared size m line device.log.bytes) marks)
       → FitsWith sum marks noted size (shown size fault m line device) fault line' m' pins H A f U
       → FitsShown sum marks noted size device fault line' m' pins H A f U
@@ -100,7 +102,7 @@ module _ (sum : List ℕ → ℕ) (noted : List Batch) (size : ℕ) (device : St
       subst (λ (d : State). FitsWith sum marks noted size d fault line m pins H A f U) (shown_is size fault m line device fits.file) fits.shows
 
 -- A log that holds a history over its device, as one does that begins, shows the device itself, and hides nothing.
-module _ (sum : List ℕ → ℕ) (size : ℕ) (some : 0 < size) (t : Trace) (m : Machine) (line : List SegmentView) where
+module _ (sum : List ℕ → ℕ) (size : ℕ) (big : 256 ≤ size) (t : Trace) (m : Machine) (line : List SegmentView) where
   abbrev device : State
   device = state_of t
 
@@ -108,7 +110,7 @@ module _ (sum : List ℕ → ℕ) (size : ℕ) (some : 0 < size) (t : Trace) (m 
       → IsAsShown size None m line device.log
   begins_shown marks H holds slots = record {
     rests = λ none. settled _ line holds;
-    same = λ none. cleared_itself size some m line device.log.bytes (slots.zeros refl)
+    same = λ none. cleared_itself size (omega (arith, big)) m line device.log.bytes (slots.zeros refl)
         (λ n v there. with_part sum size device None _ line n v H holds there (λ stays own segment. segment.laid refl));
   } where
     settled : (marks : JoinedMarks) (vs : List SegmentView) → HoldsLine sum marks size device None vs H → device.log ≡ at_rest device.log.bytes
@@ -133,7 +135,8 @@ module _ (sum : List ℕ → ℕ) (size : ℕ) (some : 0 < size) (t : Trace) (m 
           file = file;
           hides = λ none zeros first begins.
               hides_at_rest sum size t m line (file.same refl) (file.rests refl) (fits.numbers zeros) fits.slots.own
-              (least_place size first) 0 (logged H) (omega arith);
+              (least_place size first) (begins_from size marks.joined) (logged H)
+              (let same = at first begins in let ordered = marks.ordered in begins_lower size big marks.joined (pos (stable_place first.stable)) (omega (arith, ints, same, ordered)));
           -- the marks are the place with which it began
           marked = λ none zeros first begins.
               record { joined = marks.ordered; stands = inl (let same = at first begins in omega (arith, ints, same)) };

@@ -21,9 +21,11 @@ use Rattle.sled_core.proofs.Line.EndedLine.{completing_short}
 use Rattle.sled_core.proofs.Holds.Facts.{nth_facts}
 use Rattle.sled_core.proofs.Line.TicketEnds.{EndsAt, IsReservedAt, found_at, kind_there, open_at, ticket_ends, ticket_fits, ticket_given, ticket_goes_on, ticket_holds, ticket_keeps}
 use Rattle.sled_core.proofs.Holds.ReachLemmas.{fits_apart}
+use Rattle.sled_core.proofs.Line.HidesBeyond.{hides_beyond}
 use Rattle.sled_core.proofs.Logged.Messages.{put_real}
 use Rattle.sled_core.proofs.logger.Log.complete.Given.{Over}
 use Rattle.sled_core.proofs.logger.Log.complete.Goals as goal
+use Rattle.sled_store.specs.Device.{state_of}
 
 pub returns-in-Some-clause-goes_on : goal.returns-in-Some-clause-goes_on
 returns-in-Some-clause-goes_on g c = goes_on_still g.D.Device.trace g.C.Checksum.sum_of c.args.self.now
@@ -104,7 +106,9 @@ returns-clause-fits g c = λ H A f U m fits awaits stored may out.
     (apart_ascends H.messages (fits_apart g.D.Device.trace g.C.Checksum.sum_of old H A f U fits)) fits.shows.account.outdated m may) (sym its.own.manifest ∙ c.requires.message) old.pins H A f U old.config.config.least c.in_default.is out fits.shows in (
       done.0,
       done.1,
-      ticket_fits e c.complete_in.ensures.rest g.D.Device.trace g.C.Checksum.sum_of H done.0 A f _ fits.hides fits.marked fits.file done.2,
+      ticket_fits e c.complete_in.ensures.rest g.D.Device.trace g.C.Checksum.sum_of done.0 A f _
+          (hides_beyond g.C.Checksum.sum_of old.marks (noted_in old) old.config.config.segment_size old.config.config.least (state_of (g.D.Device.trace old.config.device))
+          old.fault.kept (line_of old) (machine_of old.accountant) old.pins H A f U fits done.0 done.3) fits.marked fits.file done.2,
     )
 
 -- Other tickets stay, and nothing else changes.
