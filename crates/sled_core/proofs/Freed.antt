@@ -11,6 +11,7 @@ pub mod FreedSlots
 pub mod FrontWritten
 pub mod Gone
 pub mod GoneAlone
+pub mod GrownHides
 pub mod KeptHides
 pub mod Known
 pub mod LeftOwn

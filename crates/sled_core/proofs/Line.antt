@@ -35,6 +35,7 @@ pub mod Gathered
 pub mod GivenUp
 pub mod HeaderMarks
 pub mod Heads
+pub mod HidesBeyond
 pub mod KeptCalls
 pub mod KeptReads
 pub mod Last

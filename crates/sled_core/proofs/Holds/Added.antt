@@ -1,11 +1,11 @@
 -- The messages of a history with one more are its own and that one.
-use Rattle.std.proofs.Common.{⊎_elim, ◌≡◌, ◌⊎◌, ℕ, List, ◌∷◌, ◌++◌, sym, ap, subst, inl, inr}
+use Rattle.std.proofs.Common.{⊎_elim, ◌≡◌, ◌⊎◌, ◌≤◌, ℕ, List, ◌∷◌, ◌++◌, sym, ap, subst, inl, inr}
 use Rattle.std.specs.List.{Contains}
 use Rattle.std.proofs.lemmas.List.Elements.{Contains-append_cases, Contains-append_left, Contains-append_right}
 use Rattle.sled_codec.specs.History.{Message, Batch, History, AddsMessage}
 use Rattle.sled_store.proofs.Segments.Elements.{in_first, in_rest, in_cases}
 use Rattle.sled_core.specs.inside.Recoverable.{NoBatchBegins}
-use Rattle.sled_core.proofs.Reached.GrowsAt.{GrowsAt}
+use Rattle.sled_core.proofs.Reached.GrowsAt.{GrowsAbove, GrowsAt}
 
 module _ (H H' : History) (m : Message) (adds : AddsMessage H m H') where
   in_new : (x : Message) → Contains (adds.before ++ m ∷ adds.after) x → Contains H'.messages x
@@ -47,3 +47,6 @@ module _ (H H' : History) (m : Message) (adds : AddsMessage H m H') where
     batch_stays = λ b there. subst (λ (l : List Batch). Contains l b) (sym adds.batches) there;
     batch_was = λ b there. inl (batch_was b there);
   }
+
+  pub message_above : (low : ℕ) → low ≤ m.place → GrowsAbove H H' low
+  message_above low above = record { at = m.place; grows = message_grows; above = above; ends = λ b there. inl (batch_was b there) }

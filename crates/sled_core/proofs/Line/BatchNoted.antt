@@ -35,10 +35,11 @@ use Rattle.sled_core.proofs.Line.AccountBehind.{account_same}
 use Rattle.sled_core.proofs.Line.KeptCalls.{goes_on_quietly, position_further}
 use Rattle.sled_core.proofs.Line.EndedKeeps.{keeps_ended, position_ended}
 use Rattle.sled_core.proofs.Line.EndedLine.{marking_short}
-use Rattle.sled_core.proofs.Line.EndsBatch.{fits_noted, holds_noted}
+use Rattle.sled_core.proofs.Line.EndsBatch.{fits_noted, holds_noted, grows_noted}
 use Rattle.sled_core.proofs.Line.EntryPlaces.{line_unwritten}
 use Rattle.sled_core.proofs.Holds.Facts.{IsSegment, nth_facts}
 use Rattle.sled_core.proofs.Line.Fillings.{log_off}
+use Rattle.sled_core.proofs.Line.HidesBeyond.{hides_beyond}
 use Rattle.sled_core.proofs.Line.LogSpans.{ended_buffers}
 use Rattle.sled_core.proofs.Line.LineEnds.{end_set}
 use Rattle.sled_core.proofs.Numbers.HidesAs.{from_as}
@@ -249,10 +250,14 @@ module _ {D C : Type 0} (trace : D → Trace) (sum : List ℕ → ℕ) (old mid 
           subst (λ (x : Batch). AddsBatch H x (noted_history H b)) (λ j. record { low = (sym begins ∙ low_is) j; peg = peg }) (noted_adds H b later),
           fits_as trace sum old new now_config (rest.fault ∙ ended.fault) (rest.marks ∙ ended.marks) (with_batch b (noted_in old)) now_noted (set (line_of old) n (ended_now i r (marking sum v.parts.bytes r peg) Manifest v)) (noted_line mid new rest ∙ line) (machine_of old.accountant)
               (ap machine_of (rest.accountant ∙ ended.accountant)) same_shown fits.rests (noted_history H b) A f' U (rest.pins ∙ ended.pins)
-              (λ whole zeros. from_as sum size (omega (arith, old.config.config.least))
+              (λ whole zeros. from_as sum size
               (state_of (trace old.config.device)) (machine_of old.accountant) (machine_of old.accountant)
-              (line_of old) (set (line_of old) n (ended_now i r (marking sum v.parts.bytes r peg) Manifest v)) (logged H) (logged (noted_history H b))
+              (line_of old) (set (line_of old) n (ended_now i r (marking sum v.parts.bytes r peg) Manifest v)) (logged (noted_history H b))
               (λ j. refl) (λ j. refl) (same_shown (state_of (trace old.config.device)).log.bytes)
               (omega (arith, end_set size (line_of old) n v (ended_now i r (marking sum v.parts.bytes r peg) Manifest v) f.among refl))
-              (fits.hides whole zeros)) fits.marked now,
+              (hides_beyond sum old.marks (noted_in old) size old.config.config.least (state_of (trace old.config.device)) old.fault.kept (line_of old)
+              (machine_of old.accountant) old.pins H A f' U fits (noted_history H b)
+              (grows_noted sum size (shown_of trace old) old.fault.kept (line_of old) n v f.among old.segments.first.site.place (nth_facts old) i r f.there f.own.open_yet
+              (of_manifest old ticket n index f manifest) peg (omega (arith, within, reach)) later (omega (arith, within, ends)) (machine_of old.accountant) (noted_in old)
+              (λ c known. elim (apart c known) [ inl front ↦ inl (omega (arith, ints, front, at)) | inr behind ↦ inr behind ]) (logged H)) whole zeros)) fits.marked now,
         )

@@ -82,6 +82,7 @@ use Rattle.sled_core.specs.inside.Numbers.{HasNumbers}
 use Rattle.sled_core.proofs.Numbers.HidesAs.{from_begun}
 use Rattle.sled_store.specs.Marks.{IsNewPlace}
 use Rattle.sled_core.proofs.Line.AccountBehind.{account_same}
+use Rattle.sled_core.proofs.Line.HidesBeyond.{base_low}
 
 -- the first of them is no longer than this
 abbrev FirstShort : ℕ → List SegmentView → Type 0
@@ -277,19 +278,19 @@ module _ (sum : List ℕ → ℕ) (size : ℕ) where
             omega (arith, lies_there, ends_there, ap (λ n. n * size) long, suc-mul (suc (length xs)) size)
 
       -- What the file has besides what is shown it may have still.
-      pub from_next : (d : State) (H : History) → HasSlots size (v ∷ vs) device.log.bytes fault m → ShowsSame size m (handed_out place m) (v ∷ vs) next
-          → HidesFrom sum size d m (v ∷ vs) H → HidesFrom sum size d (handed_out place m) next H
-      from_next d H has same =
-          from_begun sum size (omega (arith, big)) d m (handed_out place m) (v ∷ vs) next H H (next_slot m) place
+      pub from_next : {base : ℕ} (d : State) (H : History) → base ≤ first_place (v ∷ vs) → HasSlots size (v ∷ vs) device.log.bytes fault m → ShowsSame size m (handed_out place m) (v ∷ vs) next
+          → HidesFrom sum size base d m (v ∷ vs) H → HidesFrom sum size base d (handed_out place m) next H
+      from_next d H under has same =
+          from_begun sum size d m (handed_out place m) (v ∷ vs) next H (omega (arith, big)) (next_slot m) place
           (ap (λ (x : SlotState). x.lsn) (handed_there m (next_within m slots) place)) (handed_other m (next_within m slots) place) (same d.log.bytes)
-          ends_there (begins_multiple has) next_end
+          ends_there (begins_multiple has) next_end (omega (arith, ends_there, under))
 
-      numbers_next : HasSlots size (v ∷ vs) device.log.bytes fault m → HasNumbers sum size 0 device m (line_end size (v ∷ vs))
-          → HasNumbers sum size 0 device (handed_out place m) (line_end size next)
-      numbers_next has_slots has =
+      numbers_next : {base : ℕ} → HasSlots size (v ∷ vs) device.log.bytes fault m → HasNumbers sum size base device m (line_end size (v ∷ vs))
+          → HasNumbers sum size base device (handed_out place m) (line_end size next)
+      numbers_next {base} has_slots has =
           numbers_handed sum size (omega (arith, big)) m (next_within m slots) (next_free m slots) place device (line_end size next)
           (let aligned = begins_multiple has_slots in omega (arith, mod-add-div' place size, aligned))
-          (let same = ends_there in let up = next_end in omega (arith, same, up)) (subst (HasNumbers sum size 0 device m) (sym ends_there) has)
+          (let same = ends_there in let up = next_end in omega (arith, same, up)) (subst (HasNumbers sum size base device m) (sym ends_there) has)
 
       low : stable ≤ written_to (closed (v ∷ vs))
       low = let is = stable_low (written_to (v ∷ vs)) noted in omega (arith, is, closed_written v vs)
@@ -511,9 +512,12 @@ module _ {D C : Type 0} (trace : D → Trace) (sum : List ℕ → ℕ) (old new 
             (ap (λ (x : RunningConfig D C). trace x.device) rest.config) (let same = begins_synced in omega (arith, same)) (λ none. sym rest.fault ∙ none);
         history = λ H holds. holds_as trace sum old new rest.config rest.fault rest.marks (noted_in old) begins_noted _ line _ machine same_shown holds.rests H
             (holds_next sum its_size device (fault_of old) (machine_at old) big old.account.slots first behind closes g.short small lies f.place_small (noted_in old) (logged H) holds.shows);
-        fits = λ H A f' U fits. fits_as trace sum old new rest.config rest.fault rest.marks (noted_in old) begins_noted _ line _ machine same_shown fits.rests H A f' U rest.pins
+        fits = λ H A f' U fits. fits_as trace sum old new rest.config rest.fault rest.marks (noted_in old) begins_noted _ line _ machine same_shown fits.rests H
+            A f' U rest.pins
             (λ none zeros. from_next sum its_size device (fault_of old) (machine_at old) big old.account.slots first behind closes g.short small lies
-            f.place_small (noted_in old) (state_of (trace (device_of old))) (logged H) fits.shows.slots same_shown (fits.hides none zeros)) fits.marked
+            f.place_small (noted_in old) (state_of (trace (device_of old))) (logged H)
+            (base_low sum old.marks (noted_in old) its_size big (state_of (trace (device_of old))) (fault_of old) (line_of old) (machine_at old) (pins_of old) H A f' U fits)
+            fits.shows.slots same_shown (fits.hides none zeros)) fits.marked
             (fits_next sum its_size device (fault_of old) (machine_at old) big old.account.slots first behind closes g.short small lies f.place_small (noted_in old) (pins_of old) H A f' U fits.shows);
         noted = noted_later old new rest.noted (let same = begins_synced in omega (arith, same));
         kept = kept_same old new rest.noted;

@@ -3,7 +3,7 @@ use Rattle.std.proofs.Common.{◌≡◌, ◌∙◌, ◌-◌, ◌<◌, sym, subst
 use Rattle.std.specs.List.{slice_get}
 use Rattle.sled_codec.specs.History.{AddsMessage, History, Message}
 use Rattle.sled_store.specs.Accounts.{machine_of}
-use Rattle.sled_store.specs.Device.{Trace}
+use Rattle.sled_store.specs.Device.{Trace, state_of}
 use Rattle.sled_store.specs.Outdated.{MayName}
 use Rattle.sled_store.specs.SegmentStates.{Machine}
 use Rattle.sled_store.proofs.Marks.OutdatedSteps.{none_outdated}
@@ -29,6 +29,7 @@ use Rattle.sled_core.proofs.Holds.Facts.{nth_facts}
 use Rattle.sled_core.proofs.Holds.ReachLemmas.{fits_apart}
 use Rattle.sled_core.proofs.Line.EndedLine.{completing_short}
 use Rattle.sled_core.proofs.Line.Ends.{fits_completed, holds_completed}
+use Rattle.sled_core.proofs.Line.HidesBeyond.{hides_beyond}
 use Rattle.sled_core.proofs.Line.TicketEnds.{EndsAt, IsReservedAt, ticket_fits, ticket_holds}
 use Rattle.sled_core.proofs.Logged.Messages.{put_real}
 
@@ -85,5 +86,10 @@ module _ {D C : Type 0} {old : Log D C} {ticket : Reservation} {n index : ℕ} (
           let apart = apart_ascends H.messages (fits_apart trace sum old H A g U fits) in
           let none = none_outdated size H machine apart fits.shows.account.outdated m may in
           let done = fits_completed sum size (shown_of trace old) old.fault.kept (line_of old) n v f.among least (nth_facts old) i r f.there f.own.open_yet
-          machine (noted_in old) m its stored.below stored.item none plain old.pins H A g U old.config.config.least ok out fits.shows in
-          (done.0, done.1, ticket_fits ends_completed rest trace sum H done.0 A g (m ∷ U) fits.hides fits.marked fits.rests done.2)
+          machine (noted_in old) m its stored.below stored.item none plain old.pins H A g U old.config.config.least ok out fits.shows in (
+            done.0,
+            done.1,
+            ticket_fits ends_completed rest trace sum done.0 A g (m ∷ U)
+                (hides_beyond sum old.marks (noted_in old) size old.config.config.least (state_of (trace old.config.device))
+                old.fault.kept (line_of old) machine old.pins H A g U fits done.0 done.3) fits.marked fits.rests done.2,
+          )

@@ -40,6 +40,7 @@ use Rattle.sled_core.proofs.Line.Ends.{set_keeps}
 use Rattle.sled_core.proofs.Holds.Facts.{nth_facts}
 use Rattle.sled_core.proofs.Holds.Nth.{last_get}
 use Rattle.sled_core.proofs.Line.AccountBehind.{account_same}
+use Rattle.sled_core.specs.LogSegments.{begins_from}
 
 -- No buffer is sealed that isn't written where none was.
 
@@ -135,18 +136,18 @@ module _ {D C : Type 0} (old new : Log D C) (n : ℕ) (v : SegmentView) (there :
       holds_as trace sum old new rest.config rest.fault rest.marks (noted_in old) noted_ended (set (line_of old) n e) line (machine_of old.accountant)
       (ap machine_of rest.accountant) shows_ended rests H holds
 
-  pub fits_ended : (trace : D → Trace) (sum : List ℕ → ℕ) (H' H : History) (A f : ℕ) (U : List Message)
-      → (old.fault.kept ≡ None → NoHeaderOfZeros sum → HidesFrom sum old.config.config.segment_size (state_of (trace old.config.device))
-      (machine_of old.accountant) (line_of old) (logged H'))
+  pub fits_ended : (trace : D → Trace) (sum : List ℕ → ℕ) (H : History) (A f : ℕ) (U : List Message)
+      → (old.fault.kept ≡ None → NoHeaderOfZeros sum → HidesFrom sum old.config.config.segment_size (begins_from old.config.config.segment_size old.marks.joined) (state_of (trace old.config.device))
+      (machine_of old.accountant) (line_of old) (logged H))
       → MarksStand trace sum old
       → RestsWhole old.fault.kept (state_of (trace old.config.device)).log
       → FitsWith sum old.marks (noted_in old) old.config.config.segment_size (shown_of trace old) old.fault.kept (set (line_of old) n e) (machine_of old.accountant)
       old.pins H A f U
       → Fits trace sum new H A f U
-  fits_ended trace sum H' H A f U hides marked rests =
+  fits_ended trace sum H A f U hides marked rests =
       fits_as trace sum old new rest.config rest.fault rest.marks (noted_in old) noted_ended (set (line_of old) n e) line (machine_of old.accountant)
       (ap machine_of rest.accountant) shows_ended rests H A f U rest.pins
-      (λ none zeros. from_as sum old.config.config.segment_size (omega (arith, old.config.config.least)) (state_of (trace old.config.device))
-      (machine_of old.accountant) (machine_of old.accountant) (line_of old) (set (line_of old) n e) (logged H') (logged H) (λ j. refl) (λ j. refl)
+      (λ none zeros. from_as sum old.config.config.segment_size (state_of (trace old.config.device))
+      (machine_of old.accountant) (machine_of old.accountant) (line_of old) (set (line_of old) n e) (logged H) (λ j. refl) (λ j. refl)
       (shows_ended (state_of (trace old.config.device)).log.bytes)
       (omega (arith, end_set old.config.config.segment_size (line_of old) n v e there refl)) (hides none zeros)) marked

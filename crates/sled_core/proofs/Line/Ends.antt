@@ -31,7 +31,7 @@ use Rattle.sled_core.specs.declared.logger.joined_marks.JoinedMarks.{JoinedMarks
 use Rattle.sled_core.proofs.Behind.Calls.{behind-aborted, ended_long, held_here}
 use Rattle.sled_core.proofs.Behind.Completes.{adds_here, behind-complete, completed_history}
 use Rattle.sled_core.proofs.Behind.FitsCalls.{behind-fits-aborted, behind-fits-completed}
-use Rattle.sled_core.proofs.Holds.Added.{added_there, message_grows}
+use Rattle.sled_core.proofs.Holds.Added.{added_there, message_above, message_grows}
 use Rattle.sled_core.proofs.Holds.CompletedLemmas.{behind_written, ends_within}
 use Rattle.sled_core.proofs.Holds.FitsBatches.{batches_completed, batches_up}
 use Rattle.sled_core.proofs.Holds.MessagesBeside.{batch_beside}
@@ -51,6 +51,7 @@ use Rattle.sled_core.proofs.Reserve.Ranges.{at_there}
 use Rattle.sled_core.proofs.Sealed.Ended.{ends_up}
 use Rattle.sled_core.proofs.Line.Accounts.{account_completed}
 use Rattle.sled_core.proofs.Line.ActiveSegments.{inside_segment, lies_active}
+use Rattle.sled_core.proofs.Reached.GrowsAt.{GrowsAbove}
 use Rattle.sled_core.specs.inside.LogSegments.{held_since}
 
 -- What the one that is set has as the one before it had it, each has as before.
@@ -75,8 +76,8 @@ module _ (sum : List ℕ → ℕ) (size : ℕ) (device : State) (fault : Option 
   parts_of v = log_parts size v.parts.site device fault v.parts.bytes v.parts.written_len v.parts.sealed v.parts.reserved
 
   -- Each of the segments that hold a history holds a part of it, with all batches.
-  pub with_part : (marks : JoinedMarks) {P : Type 0} (line : List SegmentView) (n : ℕ) (v : SegmentView) (H : History) → HoldsLine sum marks size device fault line H
-      → slice_get line n ≡ Some v
+  pub with_part : (marks : JoinedMarks) {P : Type 0} (line : List SegmentView) (n : ℕ) (v : SegmentView) (H : History)
+      → HoldsLine sum marks size device fault line H → slice_get line n ≡ Some v
       → ((stays : Message → Type 0) (own : List Message) → HoldsSegment sum (parts_of v) stays (record { messages = own; batches = H.batches }) → P) → P
   with_part marks [] n v H holds there go = cc
   with_part marks {P} (w ∷ ws) zero v H holds there go =
@@ -90,7 +91,8 @@ module _ (sum : List ℕ → ℕ) (size : ℕ) (device : State) (fault : Option 
       go _ _ (held_here sum size w.parts.site device fault w.parts.bytes w.parts.written_len w.parts.sealed w.parts.reserved H (map parts_in (take k ws))
       v.parts (map parts_in (drop (suc k) ws)) its).segment
 
-  pub with_segment : (marks : JoinedMarks) {P : Type 0} (line : List SegmentView) (n : ℕ) (v : SegmentView) (H : History) → HoldsLine sum marks size device fault line H
+  pub with_segment : (marks : JoinedMarks) {P : Type 0} (line : List SegmentView) (n : ℕ) (v : SegmentView) (H : History)
+      → HoldsLine sum marks size device fault line H
       → slice_get line n ≡ Some v
       → ((stays : Message → Type 0) (own : History) → HoldsSegment sum (parts_of v) stays own → P) → P
   with_segment marks line n v H holds there go =
@@ -130,7 +132,8 @@ module _ (sum : List ℕ → ℕ) (size : ℕ) (device : State) (fault : Option 
         v.parts (map parts_in (drop (suc k) ws)) its i r at is_open)
 
     -- and they fit what they fitted
-    pub abort_fits : (marks : JoinedMarks) (line : List SegmentView) (n : ℕ) {place : ℕ} (reach pins : ℕ) (H : History) (A f : ℕ) (U : List Message) → slice_get line n ≡ Some v
+    pub abort_fits : (marks : JoinedMarks) (line : List SegmentView) (n : ℕ) {place : ℕ} (reach pins : ℕ) (H : History) (A f : ℕ) (U : List Message)
+        → slice_get line n ≡ Some v
         → IsSegment size place v
         → FitsLine sum marks size device fault line reach pins H A f U → FitsLine sum marks size device fault (set line n canceled) reach pins H A f U
     abort_fits marks [] n reach pins H A f U there facts fits = cc
@@ -149,7 +152,8 @@ module _ (sum : List ℕ → ℕ) (size : ℕ) (device : State) (fault : Option 
         (map parts_in (take k ws)) v.parts (map parts_in (drop (suc k) ws)) its i r at is_open)
 
     -- It is completed: the segments hold the history with its message,
-    pub complete_holds : (marks : JoinedMarks) → is_manifest r.log_kind r.page ≡ false → (line : List SegmentView) (n place : ℕ) (H : History) → slice_get line n ≡ Some v
+    pub complete_holds : (marks : JoinedMarks) → is_manifest r.log_kind r.page ≡ false → (line : List SegmentView) (n place : ℕ) (H : History)
+        → slice_get line n ≡ Some v
         → ((k : ℕ) (x : SegmentView) → slice_get line k ≡ Some x → IsSegment size (place + k * size) x)
         → HoldsLine sum marks size device fault line H → (H' : History) × AddsMessage H m H' × HoldsLine sum marks size device fault (set line n completed) H'
     complete_holds marks none [] n place H there facts holds = cc
@@ -176,7 +180,8 @@ module _ (sum : List ℕ → ℕ) (size : ℕ) (device : State) (fault : Option 
         )
 
     -- and they fit it, where a pin is out.
-    pub complete_fits : (marks : JoinedMarks) (x : Message) → in_log x ≡ m → BlobIsBelow x x.pointer → KeepsItem sum device.blobs x x.pointer → is_manifest r.log_kind r.page ≡ false
+    pub complete_fits : (marks : JoinedMarks) (x : Message) → in_log x ≡ m → BlobIsBelow x x.pointer → KeepsItem sum device.blobs x x.pointer
+        → is_manifest r.log_kind r.page ≡ false
         → (line : List SegmentView) (n place reach pins : ℕ) (H : History) (A f : ℕ) (U : List Message) → 256 ≤ size → fault ≡ None → 0 < pins
         → slice_get line n ≡ Some v
         → ((k : ℕ) (x : SegmentView) → slice_get line k ≡ Some x → IsSegment size (place + k * size) x)
@@ -273,7 +278,8 @@ module _ (sum : List ℕ → ℕ) (size : ℕ) (device : State) (fault : Option 
     slots = slots_set size line device.log.bytes fault machine n v (ended_now i r (canceling sum v.parts.bytes r) Canceled v) there refl holds.slots;
   }
 
-  pub fits_aborted : (pins : ℕ) (H : History) (A f : ℕ) (U : List Message) → {marks : JoinedMarks} → FitsWith sum marks noted size device fault line machine pins H A f U
+  pub fits_aborted : (pins : ℕ) (H : History) (A f : ℕ) (U : List Message) → {marks : JoinedMarks}
+      → FitsWith sum marks noted size device fault line machine pins H A f U
       → FitsWith sum marks noted size device fault (set line n (ended_now i r (canceling sum v.parts.bytes r) Canceled v)) machine pins H A f U
   fits_aborted pins H A f U fits = record {
     reach = fits.reach;
@@ -285,7 +291,7 @@ module _ (sum : List ℕ → ℕ) (size : ℕ) (device : State) (fault : Option 
     own = λ none zeros. own_ended sum size (HeaderWasPlaced device.placed) (RecordWasPlaced sum size device.placed) device.log.bytes line n v i r
         (canceling sum v.parts.bytes r) Canceled there (fits.own none zeros);
     account = fits.account;
-    numbers = λ zeros. subst (HasNumbers sum size 0 device machine)
+    numbers = λ zeros. subst (HasNumbers sum size _ device machine)
         (sym (end_set size line n v (ended_now i r (canceling sum v.parts.bytes r) Canceled v) there refl)) (fits.numbers zeros);
     in_slots = fits.in_slots;
   }
@@ -332,6 +338,7 @@ module _ (sum : List ℕ → ℕ) (size : ℕ) (device : State) (fault : Option 
       → {marks : JoinedMarks} → FitsWith sum marks noted size device fault line machine pins H A f U
       → (H' : History) × AddsMessage H x H'
       × FitsWith sum marks noted size device fault (set line n (ended_now i r (completing r) Completed v)) machine pins H' A f (x ∷ U)
+      × GrowsAbove (logged H) (logged H') (first_place line)
   fits_completed x its_message below stored fresh none pins H A f U least ok out fits =
       let done =
       complete_fits sum size device fault v i r at is_open _ x its_message below stored none line n place fits.reach pins H A f U least ok out there facts
@@ -360,8 +367,9 @@ module _ (sum : List ℕ → ℕ) (size : ℕ) (device : State) (fault : Option 
               (lies_active sum size device fault line fits.reach pins H A f U fits.parts machine fits.account least v
               (first_below size place line (from_each size place line facts) n v there)
               (at_there (HasSlot size machine) line n v there fits.slots.taken) x v.parts.bytes r its_message (inside_segment (facts n v there) i r at));
-          numbers = λ zeros. subst (HasNumbers sum size 0 device machine) (sym (end_set size line n v (ended_now i r (completing r) Completed v) there refl))
+          numbers = λ zeros. subst (HasNumbers sum size _ device machine) (sym (end_set size line n v (ended_now i r (completing r) Completed v) there refl))
               (fits.numbers zeros);
           in_slots = slots_completed _ H fits.reach x its_message held fits.slots done.0 done.1 fits.in_slots;
         },
+        message_above (logged H) (logged done.0) (in_log x) put (first_place line) past,
       )

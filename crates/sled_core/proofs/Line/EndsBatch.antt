@@ -37,9 +37,10 @@ use Rattle.sled_core.proofs.Line.LineEnds.{end_set, first_set}
 use Rattle.sled_core.proofs.Line.NeededSlots.{held_stable}
 use Rattle.sled_core.proofs.Line.Noted.{mark_fits, mark_holds, mark_placed}
 use Rattle.sled_core.proofs.Line.OlderSlots.{whole_grown}
-use Rattle.sled_core.proofs.Reached.AddedBatch.{batch_grows}
+use Rattle.sled_core.proofs.Reached.AddedBatch.{batch_grows, batch_above}
 use Rattle.sled_core.proofs.OwnLog.Calls.{own_ended}
 use Rattle.sled_core.proofs.Line.Accounts.{account_noted}
+use Rattle.sled_core.proofs.Reached.GrowsAt.{GrowsAbove}
 use Rattle.sled_core.specs.inside.LogSegments.{held_since}
 use Rattle.sled_core.specs.inside.MarksFit.{MarksFitFrom}
 
@@ -146,6 +147,12 @@ module _ (sum : List ℕ → ℕ) (size : ℕ) (device : State) (fault : Option 
     slots = slots_set size line device.log.bytes fault machine n v (ended_now i r (marking sum v.parts.bytes r peg) Manifest v) there (λ j. v.parts.site) holds.slots;
   }
 
+  -- What that has more lies in no segment in front of them.
+  pub grows_noted : (H : History) → GrowsAbove H (noted_history H b) (first_place line)
+  grows_noted H =
+      batch_above H (noted_history H b) b (noted_adds H b later) (first_place line)
+      (first_before sum size device fault line n v there place facts i r at is_open machine noted)
+
   -- What tables need is in the slots still, with the stable place that it has.
   slots_noted : (base A : ℕ) (H : History) → HaveSlots sum size base H A machine → (B : ℕ) → (NoHeaderOfZeros sum → base ≤ B) → HaveSlots sum size base (noted_history H b) B machine
   unfolding table
@@ -171,7 +178,7 @@ module _ (sum : List ℕ → ℕ) (size : ℕ) (device : State) (fault : Option 
             (first_before sum size device fault line n v there place facts i r at is_open machine noted) (fits.whole none zeros));
         own = λ none zeros. own_ended sum size (HeaderWasPlaced device.placed) (RecordWasPlaced sum size device.placed) device.log.bytes line n v i r (marking sum v.parts.bytes r peg) Manifest there (fits.own none zeros);
         account = account_noted sum size device.snapshots.file H U machine fits.account (noted_history H b) refl;
-        numbers = λ zeros. subst (HasNumbers sum size 0 device machine) (sym (end_set size line n v (ended_now i r (marking sum v.parts.bytes r peg) Manifest v) there refl)) (fits.numbers zeros);
+        numbers = λ zeros. subst (HasNumbers sum size _ device machine) (sym (end_set size line n v (ended_now i r (marking sum v.parts.bytes r peg) Manifest v) there refl)) (fits.numbers zeros);
         in_slots = λ first begins. slots_noted (held_since size marks first) (stable_below fits.reach H.batches) H (fits.in_slots first begins) (stable_below fits.reach (noted_history H b).batches)
             (λ zeros. held_stable sum size least _ device fault ok (set line n (ended_now i r (marking sum v.parts.bytes r peg) Manifest v)) fits.reach pins (noted_history H b) A f U fitted zeros (stand zeros) first begins);
       }

@@ -25,6 +25,7 @@ use Rattle.sled_core.proofs.Flush.FlushLemmas.{fault_or_none, holds-faulty}
 use Rattle.sled_core.proofs.Flush.SameFits.{fits_faulty}
 use Rattle.sled_core.proofs.Numbers.OwnLess.{less_same}
 use Rattle.sled_core.proofs.Numbers.Stay.{numbers_less}
+use Rattle.sled_core.specs.LogSegments.{begins_from}
 
 -- It keeps the failure, and its snapshots and blobs are the same.
 pub holds_line_faulty : (sum : List ℕ → ℕ) (marks : JoinedMarks) (size : ℕ) (device : State) (fault : Option IoError) (line : List SegmentView) (H : History) → HoldsLine sum marks size device fault line H → (new : State) (e : IoError) (now : Option IoError) → now ≡ Some e
@@ -59,7 +60,7 @@ pub fits_shown_faulty : (sum : List ℕ → ℕ) (marks : JoinedMarks) (noted : 
     (m : Machine) (pins : ℕ) (H : History) (A f : ℕ) (U : List Message) (fits : FitsWith sum marks noted size device fault line m pins H A f U)
     → (e : IoError) → now ≡ Some e → new.blobs ≡ device.blobs → new.snapshots ≡ device.snapshots
     → LeavesRecovering sum size H (stable_below fits.reach H.batches) f new
-    → (NoHeaderOfZeros sum → HasNumbers sum size 0 new m (line_end size line)) → FitsShown sum marks noted size new now line m pins H A f U
+    → (NoHeaderOfZeros sum → HasNumbers sum size (begins_from size marks.joined) new m (line_end size line)) → FitsShown sum marks noted size new now line m pins H A f U
 fits_shown_faulty sum marks noted size device new fault now line m pins H A f U fits e is blobs names left numbers =
     let sees : State = shown size now m line new in
     let same : sees ≡ new = shown_faulty size e now is m line new in
@@ -73,7 +74,7 @@ fits_shown_faulty sum marks noted size device new fault now line m pins H A f U 
         whole = λ none zeros. cc;
         own = λ none zeros. cc;
         account = subst (λ (s : NamesState). HasAccount sum marks size s.file H U m) (sym names) fits.account;
-        numbers = λ zeros. subst (λ (s : State). HasNumbers sum size 0 s m (line_end size line)) (sym same) (numbers zeros);
+        numbers = λ zeros. subst (λ (s : State). HasNumbers sum size (begins_from size marks.joined) s m (line_end size line)) (sym same) (numbers zeros);
         in_slots = subst (λ (s : NamesState). HaveSlotsFrom sum marks size s.file H (stable_below fits.reach H.batches) m) (sym names) fits.in_slots;
       };
       rests = λ none. cc;
@@ -113,8 +114,8 @@ holds_with_kept sum marks marks' noted size size' device new fault now line line
 ])
 
 -- where the same was placed the same numbers are the log's own
-pub numbers_placed : (sum : List ℕ → ℕ) (size : ℕ) (s t : State) (m : Machine) (end : ℕ) → t.placed ≡ s.placed → HasNumbers sum size 0 s m end
-    → HasNumbers sum size 0 t m end
+pub numbers_placed : (sum : List ℕ → ℕ) (size : ℕ) {base : ℕ} (s t : State) (m : Machine) (end : ℕ) → t.placed ≡ s.placed → HasNumbers sum size base s m end
+    → HasNumbers sum size base t m end
 numbers_placed sum size s t m end same has = numbers_less sum size t s (less_same sum size t s same) m end has
 
 -- what a log fits a crash leaves

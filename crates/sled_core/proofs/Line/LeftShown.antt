@@ -1,7 +1,7 @@
 -- What a crash leaves of the device of a log that fits a history can be recovered where what it leaves of what is shown can: no call on the log file is under
 -- way, and what the file has besides what is shown is of segments that are gone.
 use Rattle.std.specs.declared.io.Error.{Error as IoError}
-use Rattle.std.proofs.Common.{◌≡◌, ◌≤◌, ℕ, List, [], ◌∷◌, Option, None, refl, sym, subst, arith, inl, inr}
+use Rattle.std.proofs.Common.{◌≡◌, ◌≤◌, ℕ, List, [], ◌∷◌, Option, None, refl, sym, subst, inl, inr}
 use Rattle.sled_codec.specs.History.{Batch, History, Message}
 use Rattle.sled_codec.specs.Snapshots.{SnapshotModel}
 use Rattle.sled_store.specs.Device.{State}
@@ -14,6 +14,7 @@ use Rattle.sled_core.specs.OpenBatches.{stable_below}
 use Rattle.sled_core.specs.Recoverable.{NoHeaderOfZeros}
 use Rattle.sled_core.specs.declared.logger.Log.{Log}
 use Rattle.sled_core.specs.declared.logger.joined_marks.JoinedMarks.{JoinedMarks}
+use Rattle.sled_core.specs.LogSegments.{begins_from}
 use Rattle.sled_core.specs.inside.Cleared.{cleared}
 use Rattle.sled_core.specs.inside.Begun.{line_end}
 use Rattle.sled_core.specs.inside.Lasting.{LeavesRecovering}
@@ -24,7 +25,7 @@ use Rattle.sled_core.proofs.Flush.FlushLemmas.{fault_or_none}
 use Rattle.sled_core.proofs.Freed.LeftRecovers.{rest_recovers}
 use Rattle.sled_core.proofs.Line.Faulty.{line_leaves}
 use Rattle.sled_core.proofs.Line.Segments.{AreSegments, line_segments}
-use Rattle.sled_core.proofs.Line.ShownParts.{file_among, file_own, file_reads}
+use Rattle.sled_core.proofs.Line.ShownParts.{file_among, file_low, file_own, file_reads}
 use Rattle.sled_core.proofs.Logged.Messages.{logged_twice}
 use Rattle.sled_core.proofs.OwnLog.Zeroed.{own_read}
 
@@ -43,9 +44,11 @@ module _ (sum : List ℕ → ℕ) (marks : JoinedMarks) (noted : List Batch) (si
       let file : List ℕ = cleared size m line device.log.bytes in
       let here : AreSegments size v.parts.site.place line = subst (λ p. AreSegments size p line) (sym are.0.at) are in
       let among = file_among sum marks noted size big device fault whole zeros m pins H A f U v vs here fits.shows in
-      rest_recovers sum size big device m line first 0 (logged H) (fits.hides whole zeros first its.holds.begun.begins)
+      rest_recovers sum size big device m line first (begins_from size marks.joined) (logged H) (fits.hides whole zeros first its.holds.begun.begins)
       (file_reads sum marks noted size big device fault whole zeros m pins H A f U v vs here fits.shows) (line_end size line) fits.shows.slots.own file
-      among.stands.ordering among.stands.numbers among.stands.marks (omega arith) H (logged_twice H) (fits.rests whole)
+      among.stands.ordering among.stands.numbers among.stands.marks
+      (file_low sum marks noted size big device fault whole zeros m pins H A f U v vs here fits.shows (fits.marked whole zeros)) H (logged_twice H)
+      (fits.rests whole)
       (λ k p mark header. refl) (shown size fault m line device) (shown_rests size fault m line device whole) refl refl
       (λ slot. own_read sum size (HeaderWasPlaced device.placed) (RecordWasPlaced sum size device.placed) file slot
       (file_own sum marks noted size big device fault whole zeros m pins H A f U v vs here fits.shows slot))

@@ -57,6 +57,7 @@ use Rattle.sled_core.proofs.Reserve.Heads.{length-short_header_tail}
 use Rattle.sled_core.proofs.Reserve.ReserveLemmas.{head_whole, more_long, stands}
 use Rattle.sled_core.proofs.Sealed.Ended.{ends_up}
 use Rattle.sled_core.proofs.Line.AccountBehind.{account_same}
+use Rattle.sled_core.specs.LogSegments.{begins_from}
 
 -- Where its record is put.
 
@@ -218,16 +219,18 @@ module _ {D C : Type 0} (trace : D → Trace) (sum : List ℕ → ℕ) (old new 
   reserves_keeps = record {
     goes_on = goes_on_quietly trace sum old new (record { config = ap (λ (x : RunningConfig D C). x.config) rest.config; checksum = ap (λ (x : RunningConfig D C). x.checksum) rest.config })
         (ap (λ (x : RunningConfig D C). trace x.device) rest.config) (let same = reserves_synced in omega (arith, same)) (λ none. sym rest.fault ∙ none);
-    history = λ H holds. holds_as trace sum old new rest.config rest.fault rest.marks (noted_in old) kept_noted (at_last (reserved_now more r) (line_of old)) line (machine_at old) machine same_shown holds.rests H
+    history = λ H holds. holds_as trace sum old new rest.config rest.fault rest.marks (noted_in old) kept_noted (at_last (reserved_now more r) (line_of old))
+        line (machine_at old) machine same_shown holds.rests H
         (record {
           holds = line_reserved sum its_size more r (shown_of trace old) (fault_of old) _ (logged H) v vs fits holds.shows.holds;
           batches = batches_up (written_to (line_of old)) (written_to (at_last (reserved_now more r) (line_of old))) (line_end its_size (line_of old)) (line_end its_size (at_last (reserved_now more r) (line_of old))) (noted_in old) (logged H) (let same = kept_written v vs in omega (arith, same))
               (let same = end_last its_size (reserved_now more r) (λ _. refl) v vs in omega (arith, same)) holds.shows.batches;
           slots = slots_reserved sum its_size more r (line_of old) (shown_of trace old).log.bytes (fault_of old) (machine_at old) holds.shows.slots;
         });
-    fits = λ H A f U its. fits_as trace sum old new rest.config rest.fault rest.marks (noted_in old) kept_noted (at_last (reserved_now more r) (line_of old)) line (machine_at old) machine same_shown its.rests H A f U rest.pins
-        (λ none zeros. from_as sum its_size (omega (arith, old.config.config.least)) (state_of (trace (device_of old))) (machine_at old) (machine_at old)
-        (line_of old) (at_last (reserved_now more r) (line_of old)) (logged H) (logged H) (λ k. refl) (λ k. refl)
+    fits = λ H A f U its. fits_as trace sum old new rest.config rest.fault rest.marks (noted_in old) kept_noted (at_last (reserved_now more r) (line_of old))
+        line (machine_at old) machine same_shown its.rests H A f U rest.pins
+        (λ none zeros. from_as sum its_size (state_of (trace (device_of old))) (machine_at old) (machine_at old)
+        (line_of old) (at_last (reserved_now more r) (line_of old)) (logged H) (λ k. refl) (λ k. refl)
         (same_shown (state_of (trace (device_of old))).log.bytes)
         (omega (arith, end_at_last its_size (reserved_now more r) (λ _. refl) (line_of old))) (its.hides none zeros)) its.marked
         (record {
@@ -239,7 +242,7 @@ module _ {D C : Type 0} (trace : D → Trace) (sum : List ℕ → ℕ) (old new 
           whole = λ none zeros. subst (λ p. AreWhole sum its_size (shown_of trace old).log.bytes (logged H) p (machine_at old)) (sym (first_at_last (reserved_now more r) (λ _. refl) (line_of old))) (its.shows.whole none zeros);
           own = λ none zeros. own_reserved sum its_size (HeaderWasPlaced (shown_of trace old).placed) (RecordWasPlaced sum its_size (shown_of trace old).placed) (shown_of trace old).log.bytes more r (line_of old) (its.shows.own none zeros);
           account = its.shows.account;
-          numbers = λ zeros. subst (HasNumbers sum its_size 0 (shown_of trace old) (machine_at old)) (sym (end_at_last its_size (reserved_now more r) (λ _. refl) (line_of old))) (its.shows.numbers zeros);
+          numbers = λ zeros. subst (HasNumbers sum its_size (begins_from its_size old.marks.joined) (shown_of trace old) (machine_at old)) (sym (end_at_last its_size (reserved_now more r) (λ _. refl) (line_of old))) (its.shows.numbers zeros);
           in_slots = its.shows.in_slots;
         });
     noted = noted_later old new rest.noted (let same = reserves_synced in omega (arith, same));

@@ -1,5 +1,6 @@
 -- A log at each moment of the write of one of its sealed buffers, once that failed, and once it is done: what it held and fitted it holds and fits.
-use Rattle.std.proofs.Common.{◌≡◌, ◌∙◌, ◌<◌, ◌≤◌, ◌≤ℤ◌, ◌+◌, ap, refl, sym, arith, subst, ℕ, zero, suc, pos, List, [], ◌∷◌, length, map, set, Option, None, Some, inl, inr}
+use Rattle.std.proofs.Common.{◌≡◌, ◌∙◌, ◌<◌, ◌≤◌, ◌≤ℤ◌, ◌+◌, ap, refl, sym, arith, subst, ℕ, zero, suc, pos, List, [], ◌∷◌, length, map, set, Option, None}
+use Rattle.std.proofs.Common.{Some, inl, inr}
 use Rattle.std.specs.List.{slice_get}
 use Rattle.std.specs.declared.io.Error.{Error as IoError}
 use Rattle.std.proofs.lemmas.Int.{ints}
@@ -30,6 +31,7 @@ use Rattle.sled_core.specs.inside.Fits.{FitsBatches, HoldsLine, HoldsShown, writ
 use Rattle.sled_core.specs.invariants.Fits.{Holds}
 use Rattle.sled_core.specs.Fits.{device_of, fault_of, line_of, noted_in, segment_size_of, synced_end}
 use Rattle.sled_core.specs.HeaderMark.{greater_mark}
+use Rattle.sled_core.specs.LogSegments.{begins_from}
 use Rattle.sled_core.specs.inside.Cleared.{is_stale}
 use Rattle.sled_core.specs.inside.FreeSlots.{HasSlots}
 use Rattle.sled_core.specs.inside.LogSegments.{held_since}
@@ -60,14 +62,17 @@ use Rattle.sled_core.proofs.Line.NthOpen.{line_with, nth_same}
 use Rattle.sled_core.proofs.Line.Promotes.{end_promoted, holds_promoted}
 use Rattle.sled_core.proofs.Holds.Facts.{nth_facts}
 use Rattle.sled_core.proofs.Line.Fillings.{log_recorded}
-use Rattle.sled_core.proofs.Line.Segments.{AreSegments, filled_promoted, filled_written, follow_segments, line_segments, promoted_place, promoted_waits, run_written, segments_promoted, set_segment, written_segment}
+use Rattle.sled_core.proofs.Line.Segments.{AreSegments, filled_promoted, filled_written, follow_segments, line_segments, promoted_place, promoted_waits}
+use Rattle.sled_core.proofs.Line.Segments.{run_written, segments_promoted, set_segment, written_segment}
 use Rattle.sled_core.proofs.Line.ShownWrite.{fits_moved, holds_moved, shown_written}
 use Rattle.sled_core.proofs.Line.Writes.{along_write, buffer_begin, buffer_bytes, buffer_calls, buffer_synced, calls_are, fits_write, holds_write, passes_line, slots_write}
 use Rattle.sled_core.proofs.Line.WrittenSlots.{whole_write}
 use Rattle.sled_core.proofs.Line.NeededSlots.{held_stable}
 use Rattle.sled_core.proofs.Line.NumbersKept.{fits_ascends, stays_in}
 use Rattle.sled_core.proofs.Line.NumbersWritten.{numbers_along, numbers_behind}
+use Rattle.sled_core.proofs.Numbers.HidesAs.{from_higher}
 use Rattle.sled_core.proofs.Numbers.Lasting.{lasts_leaves}
+use Rattle.sled_core.proofs.Numbers.Stay.{numbers_from}
 use Rattle.sled_core.proofs.Reached.StartedStands.{both_along}
 use Rattle.sled_core.proofs.Start.StartedMoments.{along_if}
 use Rattle.sled_core.proofs.Line.PlacedWrite.{placed_left}
@@ -249,7 +254,7 @@ module _ {D C : Type 0} (log : Log D C) (n k : ℕ) (r : IsReadyIn (line_of log)
 
     -- Made or not, in the slots nothing that is the log's own has a greater number.
     abbrev Numbered : State → Type 0
-    Numbered s = HasNumbers sum size 0 s slots (line_end size line)
+    Numbered s = HasNumbers sum size (begins_from size log.marks.joined) s slots (line_end size line)
 
     -- What it fits.
     module _ (H : History) (A f : ℕ) (U : List Message)
@@ -290,10 +295,10 @@ module _ {D C : Type 0} (log : Log D C) (n k : ℕ) (r : IsReadyIn (line_of log)
           (line_segments log) n r.among slots has (logged H) log.marks held zeros (fits.shows.own whole zeros) before (fits.rests whole) refl
           (ap length (shown_bytes size log.fault.kept slots line device whole) ∙ zeroed_long (is_stale size slots line) device.log.bytes))
 
-      numbers_after : NoHeaderOfZeros sum → HasNumbers sum size 0 sees_now slots (line_end size line_left)
+      numbers_after : NoHeaderOfZeros sum → HasNumbers sum size (begins_from size log.marks.joined) sees_now slots (line_end size line_left)
       numbers_after zeros =
           numbers_placed sum size behind_calls sees_now slots (line_end size line_left) refl
-          (subst (HasNumbers sum size 0 behind_calls slots) (sym end_stays)
+          (subst (HasNumbers sum size (begins_from size log.marks.joined) behind_calls slots) (sym end_stays)
           (numbers_behind sum size log.config.config.least sees log.fault.kept whole v k r.buffer r.there r.ready log.segments.first.site.place line
           (line_segments log) n r.among slots has (logged H) log.marks held zeros (fits.shows.own whole zeros) (fits.shows.numbers zeros) device refl))
 
@@ -319,8 +324,11 @@ module _ {D C : Type 0} (log : Log D C) (n k : ℕ) (r : IsReadyIn (line_of log)
         }
 
         -- What is held counts from no lower place.
+        base_up : begins_from size log.marks.joined ≤ begins_from size marks.joined
+        base_up = begins_lower size log.config.config.least log.marks.joined marks.joined joins.0
+
         higher : (first : SnapshotModel) → held_since size log.marks first ≤ held_since size marks first
-        higher first = let up = begins_lower size log.config.config.least log.marks.joined marks.joined joins.0 in omega (arith, up)
+        higher first = let up = base_up in omega (arith, up)
 
         fits_behind : Ascends H.messages → FitsShown sum marks noted_left size behind_calls None line_left slots log.pins H A f U
         fits_behind order = record {
@@ -335,15 +343,18 @@ module _ {D C : Type 0} (log : Log D C) (n k : ℕ) (r : IsReadyIn (line_of log)
                 fits.shows.reach after.0 log.pins H A f U fits.shows.parts after.1 zeros (fits.shows.whole whole zeros));
             own = λ none zeros. own_behind zeros;
             account = account_raised sum size device.snapshots.file H U slots fits.shows.account marks (higher fits.shows.account.first);
-            numbers = numbers_after;
+            numbers = λ zeros. numbers_from sum size sees_now slots (line_end size line_left) (begins_from size log.marks.joined)
+                (begins_from size marks.joined) base_up (numbers_after zeros);
             in_slots = λ first begins. slots_raised sum size (held_since size log.marks first) stable H order slots
                 (fits.shows.in_slots first begins) (held_since size marks first) (stable_below after.0 H.batches) (higher first)
                 (λ zeros. held_stable sum size log.config.config.least marks sees_now None (λ i. None) line_left after.0 log.pins H A f U parts_now zeros
                 (marked_now zeros) first begins);
           };
           rests = λ none. refl;
-          hides = λ none zeros. hides_behind sum log.marks (noted_in log) size log.config.config.least device log.fault.kept whole zeros slots log.pins H A f U
-              log.segments.first.site.place line (line_segments log) fits.shows (fits.hides whole zeros) n v r.among k r.buffer r.there r.ready;
+          hides = λ none zeros.
+              from_higher sum size (begins_from size log.marks.joined) (begins_from size marks.joined) base_up behind_calls slots line_left (logged H)
+              (hides_behind sum log.marks (noted_in log) size log.config.config.least device log.fault.kept whole zeros slots log.pins H A f U
+              log.segments.first.site.place line (line_segments log) fits.shows (fits.hides whole zeros) n v r.among k r.buffer r.there r.ready);
           marked = λ none zeros. marked_now zeros;
         }
 
@@ -352,8 +363,8 @@ module _ {D C : Type 0} (log : Log D C) (n k : ℕ) (r : IsReadyIn (line_of log)
         left_along : Along (LeavesRecovering sum size H stable f) (write_in line n k) device
         left_along =
             subst (λ (es : List Event). Along (LeavesRecovering sum size H stable f) es device) (sym calls)
-            (left_writes sum log.marks marks_behind (noted_in log) noted_left size log.config.config.least device log.fault.kept whole slots log.pins H A f U
-            log.segments.first.site.place line (line_segments log) fits n v r.among k r.buffer r.there r.ready left_segments.0 left_segments.1
+            (left_writes sum log.marks marks_behind refl (noted_in log) noted_left size log.config.config.least device log.fault.kept whole slots log.pins H A f
+            U log.segments.first.site.place line (line_segments log) fits n v r.among k r.buffer r.there r.ready left_segments.0 left_segments.1
             (fits_behind marks_behind joins_behind order)
             (along_write sum size log.config.config.least sees log.fault.kept whole v k r.buffer r.there r.ready log.pins H A f U
             (log_recorded log n v r.among) _ log.segments.first.site.place fits.shows.reach line (line_segments log) n r.among fits.shows.parts))
@@ -379,7 +390,7 @@ module _ {D C : Type 0} (log : Log D C) (n k : ℕ) (r : IsReadyIn (line_of log)
         (passes_line sum _ size sees log.fault.kept line fits.shows.reach log.pins H A f U fits.shows.parts) (record {
           can = can;
           numbers = λ zeros.
-              stays_in sum (noted_in log) size (omega (arith, least)) sees log.fault.kept line slots log.pins H A f U fits.shows
+              stays_in sum (noted_in log) size least sees log.fault.kept line slots log.pins H A f U fits.shows
               (fits_ascends trace sum log H A f U fits)
               zeros s (has zeros);
         }))

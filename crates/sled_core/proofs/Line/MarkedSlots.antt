@@ -98,9 +98,10 @@ module _ {D C : Type 0} (trace : D → Trace) (sum : List ℕ → ℕ) (old new 
         → HasAccount sum old.marks (segment_size_of old) (state_of (trace (device_of old))).snapshots.file H V m → Fits trace sum new H A f V
     unfolding Fits
     fits_marked H A f U V fits fewer account =
-        fits_as trace sum old new rest.config fault_same rest.marks (noted_in old) noted_same (line_of old) line_same m is same_shown fits.rests H A f V rest.pins
-        (λ none zeros. from_as sum (segment_size_of old) (omega (arith, old.config.config.least)) (state_of (trace (device_of old))) (machine_at old) m
-        (line_of old) (line_of old) (logged H) (logged H) (λ k. (same k).free) (λ k. (same k).lsn)
+        fits_as trace sum old new rest.config fault_same rest.marks (noted_in old) noted_same (line_of old) line_same m is same_shown fits.rests H A f V
+        rest.pins
+        (λ none zeros. from_as sum (segment_size_of old) (state_of (trace (device_of old))) (machine_at old) m
+        (line_of old) (line_of old) (logged H) (λ k. (same k).free) (λ k. (same k).lsn)
         (same_shown (state_of (trace (device_of old))).log.bytes) (omega arith) (fits.hides none zeros)) fits.marked
         (record {
           reach = fits.shows.reach;

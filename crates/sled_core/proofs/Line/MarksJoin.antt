@@ -21,6 +21,7 @@ use Rattle.sled_core.specs.inside.Numbers.{HaveSlots}
 use Rattle.sled_core.specs.inside.Running.{FitsLine}
 use Rattle.sled_core.proofs.Holds.HoldsRaised.{fits_raised, holds_raised}
 use Rattle.sled_core.proofs.Line.Segments.{AreSegments, written_within}
+use Rattle.sled_core.proofs.Tail.MarkPlaces.{begins_lower}
 use Rattle.sled_core.proofs.Tail.Multiples.{apart, put_down}
 use Rattle.sled_core.specs.Account.{Account, account_of}
 use Rattle.sled_core.specs.Fits.{synced_end}
@@ -106,6 +107,14 @@ pub marks_low : (sum : List ℕ → ℕ) (marks : JoinedMarks) (size : ℕ) (dev
     → HoldsLine sum marks size device fault line H → IsMarkLow size line marks.durable
 marks_low sum marks size device fault [] H holds = absurd holds
 marks_low sum marks size device fault (v ∷ vs) H holds = record { written = holds.begun.written; begins = holds.begun.marked }
+
+-- So the segment of the mark that joined begins no higher than the first one.
+pub marks_base : (sum : List ℕ → ℕ) (marks : JoinedMarks) (size : ℕ) → 256 ≤ size → (device : State) (fault : Option IoError) (line : List SegmentView) (H : History)
+    → HoldsLine sum marks size device fault line H → begins_from size marks.joined ≤ first_place line
+marks_base sum marks size big device fault line H holds =
+    let low = (marks_low sum marks size device fault line H holds).begins in
+    let up = begins_lower size big marks.joined marks.durable marks.ordered in
+    omega (arith, low, up)
 
 -- What a table needs from a higher place on is in the slots.
 pub slots_raised : (sum : List ℕ → ℕ) (size base A : ℕ) (H : History) → Ascends H.messages → (m : Machine) → HaveSlots sum size base H A m

@@ -21,6 +21,7 @@ use Rattle.sled_core.specs.inside.Running.{FitsShown, FitsWith}
 use Rattle.sled_core.specs.inside.Shown.{RestsWhole, shown_of}
 use Rattle.sled_core.proofs.Cleared.Shown.{ShowsSame}
 use Rattle.sled_core.proofs.Line.Shown.{fits_shown, holds_shown}
+use Rattle.sled_core.specs.LogSegments.{begins_from}
 
 -- the marks of a log that keeps no failure stand in what it shows
 abbrev pub MarksStand : {D C : Type 0} → (D → Trace) → (List ℕ → ℕ) → Log D C → Type 0
@@ -45,7 +46,7 @@ module _ {D C : Type 0} (trace : D → Trace) (sum : List ℕ → ℕ) (old new 
       rests old.marks (logged H) holds))))))
 
   pub fits_as : (A f : ℕ) (U : List Message) → pins_of new ≡ pins_of old
-      → (fault_of old ≡ None → NoHeaderOfZeros sum → HidesFrom sum (segment_size_of old) (state_of (trace (device_of old))) m line (logged H))
+      → (fault_of old ≡ None → NoHeaderOfZeros sum → HidesFrom sum (segment_size_of old) (begins_from (segment_size_of old) old.marks.joined) (state_of (trace (device_of old))) m line (logged H))
       → MarksStand trace sum old
       → FitsWith sum old.marks bs (segment_size_of old) (shown_of trace old) (fault_of old) line m (pins_of old) H A f U → Fits trace sum new H A f U
   unfolding Fits

@@ -14,7 +14,8 @@ use Rattle.sled_core.specs.declared.logger.batches.NotedBatch.{NotedBatch}
 use Rattle.sled_core.specs.declared.logger.Log.{Log}
 use Rattle.sled_core.specs.inside.Buffers.{completed_in}
 use Rattle.sled_core.specs.LogFile.{StaysFrom}
-use Rattle.sled_core.specs.Fits.{CloseBelow, IsOnDevice, IsWritten, device_of, fault_of, held_of, line_of, machine_at, noted_in, reserved_end, segment_size_of, stable_end, synced_end}
+use Rattle.sled_core.specs.Fits.{CloseBelow, IsOnDevice, IsWritten, device_of, fault_of, held_of, line_of, machine_at, noted_in, reserved_end, segment_size_of}
+use Rattle.sled_core.specs.Fits.{stable_end, synced_end}
 use Rattle.sled_core.specs.inside.FreeSlots.{HasSlot}
 use Rattle.sled_core.specs.inside.Shown.{shown}
 use Rattle.sled_core.specs.inside.Fits.{HoldBehind, HoldsNext, HoldsWith, parts_in}
@@ -121,7 +122,8 @@ module _ {D C : Type 0} (trace : D → Trace) (sum : List ℕ → ℕ) (log : Lo
   behind = map segment_view log.segments.behind.items
 
   module _ (rests : its_device.log ≡ at_rest its_device.log.bytes)
-      (holds : HoldsWith sum log.marks (noted_in log) its_size sees None its_line (machine_at log) (logged H)) (closed : CloseBelow (synced_end log) H.batches) where
+      (holds : HoldsWith sum log.marks (noted_in log) its_size sees None its_line (machine_at log) (logged H))
+      (closed : CloseBelow (synced_end log) H.batches) where
     within : from ≤ its_size
     within = let low = written_behind log.segments.first.buffer in let short = log.line.lies.in_segment in omega (arith, low, short)
 

@@ -50,7 +50,7 @@ module _ (sum : List ℕ → ℕ) (size : ℕ) (big : 256 ≤ size) (device : St
     (there : slice_get v.parts.sealed k ≡ Some b) (ready : is_ready b ≡ true) (place : ℕ) (line : List SegmentView) (are : AreSegments size place line) (n : ℕ)
     (among : slice_get line n ≡ Some v) (m : Machine) (slots : HasSlots size line device.log.bytes fault m) (H : History)
     (marks : JoinedMarks) (holds : HoldsLine sum marks size device fault line H) (none : NoHeaderOfZeros sum) (own : HasPlacedFile sum size device line)
-    (numbers : HasNumbers sum size 0 device m (line_end size line)) where
+    {base : ℕ} (numbers : HasNumbers sum size base device m (line_end size line)) where
   -- where it is written, and its bytes
   abbrev slot : ℕ
   slot = v.parts.site.slot
@@ -144,7 +144,7 @@ module _ (sum : List ℕ → ℕ) (size : ℕ) (big : 256 ≤ size) (device : St
         (here, head_is at_first text its.1 p mark header)
 
     -- Behind the write it is so still,
-    numbers_behind_write : HasNumbers sum size 0 (step (Wrote (slot + begin) asked now) device) m (line_end size line)
+    numbers_behind_write : HasNumbers sum size base (step (Wrote (slot + begin) asked now) device) m (line_end size line)
     numbers_behind_write =
         let l = lies in
         let end = ends in
@@ -163,7 +163,7 @@ module _ (sum : List ℕ → ℕ) (size : ℕ) (big : 256 ≤ size) (device : St
         headers_placed
 
   abbrev Numbered : State → Type 0
-  Numbered s = HasNumbers sum size 0 s m (line_end size line)
+  Numbered s = HasNumbers sum size base s m (line_end size line)
 
   -- So it is of each device on which the same was placed.
   module _ (real : State) (same : real.placed ≡ device.placed) where

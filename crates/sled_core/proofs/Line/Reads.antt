@@ -25,7 +25,8 @@ use Rattle.sled_core.specs.Begun.{segment_view, SegmentView}
 use Rattle.sled_core.specs.Causes.{HeldAnswers, IsFault, IsFaultAt, IsHeld, OnDone}
 use Rattle.sled_core.specs.inside.Causes.{RecordAnswers}
 use Rattle.sled_core.specs.declared.logger.Log.{Log}
-use Rattle.sled_core.specs.Fits.{HasRecordOf, current_begin, device_of, fault_of, held_of, ledger_of, line_of, machine_at, noted_in, position_with, reserved_end, segment_size_of, start_of, synced_end, waiting_of}
+use Rattle.sled_core.specs.Fits.{HasRecordOf, current_begin, device_of, fault_of, held_of, ledger_of, line_of, machine_at, noted_in, position_with}
+use Rattle.sled_core.specs.Fits.{reserved_end, segment_size_of, start_of, synced_end, waiting_of}
 use Rattle.sled_core.specs.invariants.Fits.{Holds}
 use Rattle.sled_core.specs.inside.Fits.{HoldsLine, HoldsWith}
 use Rattle.sled_core.specs.inside.FreeSlots.{HasSlot}
@@ -108,8 +109,8 @@ module _ {D C : Type 0} (sum : List ℕ → ℕ) (log : Log D C) (device : State
 
 -- What it shows of its device, which stands in the file itself.
 module _ {D C : Type 0} (sum : List ℕ → ℕ) (log : Log D C) (device : State) (H : History)
-    (holds : HoldsWith sum log.marks (noted_in log) (segment_size_of log) (shown (segment_size_of log) None (machine_at log) (line_of log) device) None (line_of log)
-    (machine_at log) H) where
+    (holds : HoldsWith sum log.marks (noted_in log) (segment_size_of log) (shown (segment_size_of log) None (machine_at log) (line_of log) device) None
+    (line_of log) (machine_at log) H) where
   abbrev size : ℕ
   size = segment_size_of log
 
@@ -150,13 +151,13 @@ fits_begins trace sum log H A f U fits none m there has lid pointer =
 
 -- What a log that keeps no failure holds it holds over what it shows of its device then.
 shows_none : {D C : Type 0} (sum : List ℕ → ℕ) (log : Log D C) (device : State) (H : History) → fault_of log ≡ None
-    → HoldsWith sum log.marks (noted_in log) (segment_size_of log) (shown (segment_size_of log) (fault_of log) (machine_at log) (line_of log) device) (fault_of log)
-    (line_of log) (machine_at log) H
+    → HoldsWith sum log.marks (noted_in log) (segment_size_of log) (shown (segment_size_of log) (fault_of log) (machine_at log) (line_of log) device)
+    (fault_of log) (line_of log) (machine_at log) H
     → HoldsWith sum log.marks (noted_in log) (segment_size_of log) (shown (segment_size_of log) None (machine_at log) (line_of log) device) None (line_of log)
     (machine_at log) H
 shows_none sum log device H none holds =
-    subst (λ (o : Option IoError). HoldsWith sum log.marks (noted_in log) (segment_size_of log) (shown (segment_size_of log) o (machine_at log) (line_of log) device) o
-    (line_of log) (machine_at log) H) none holds
+    subst (λ (o : Option IoError). HoldsWith sum log.marks (noted_in log) (segment_size_of log) (shown (segment_size_of log) o (machine_at log) (line_of log)
+    device) o (line_of log) (machine_at log) H) none holds
 
 -- The record of a message of the history stands where its pointer says, once its place was brought to the device.
 pub settled_record : {D C : Type 0} (trace : D → Trace) (sum : List ℕ → ℕ) (old mid : Log D C) (H : History) (m : Message) → Holds trace sum old H → Holds trace sum mid H → fault_of old ≡ None → fault_of mid ≡ None → Contains H.messages m → HasRecordOf old H m

@@ -56,6 +56,7 @@ use Rattle.sled_core.proofs.Line.OpenPlaces.{places_sealed}
 use Rattle.sled_core.proofs.OwnLog.Calls.{own_sealed}
 use Rattle.sled_core.proofs.Sealed.Appended.{end_one}
 use Rattle.sled_core.proofs.Line.AccountBehind.{account_same}
+use Rattle.sled_core.specs.LogSegments.{begins_from}
 
 -- The current buffer holds something, in a segment of this size.
 pub record IsFilledSome (size : ℕ) (v : SegmentView) : Type 0 where
@@ -192,16 +193,18 @@ module _ {D C : Type 0} (trace : D → Trace) (sum : List ℕ → ℕ) (old new 
   sealed_keeps = record {
     goes_on = goes_on_quietly trace sum old new (record { config = ap (λ (x : RunningConfig D C). x.config) rest.config; checksum = ap (λ (x : RunningConfig D C). x.checksum) rest.config })
         (ap (λ (x : RunningConfig D C). trace x.device) rest.config) (let same = sealed_synced in omega (arith, same)) (λ none. sym rest.fault ∙ none);
-    history = λ H holds. holds_as trace sum old new rest.config rest.fault rest.marks (noted_in old) kept_noted (at_last sealed_now (line_of old)) line (machine_at old) machine same_shown holds.rests H
+    history = λ H holds. holds_as trace sum old new rest.config rest.fault rest.marks (noted_in old) kept_noted (at_last sealed_now (line_of old)) line
+        (machine_at old) machine same_shown holds.rests H
         (record {
           holds = line_sealed sum size (shown_of trace old) (fault_of old) _ (logged H) v vs its holds.shows.holds;
           batches = batches_up (written_to (line_of old)) (written_to (at_last sealed_now (line_of old))) (line_end size (line_of old)) (line_end size (at_last sealed_now (line_of old))) (noted_in old) (logged H) (let same = kept_written v vs in omega (arith, same))
               (let same = end_last size sealed_now (λ _. refl) v vs in omega (arith, same)) holds.shows.batches;
           slots = slots_sealed size (line_of old) (shown_of trace old).log.bytes (fault_of old) (machine_at old) holds.shows.slots;
         });
-    fits = λ H A f U fits. fits_as trace sum old new rest.config rest.fault rest.marks (noted_in old) kept_noted (at_last sealed_now (line_of old)) line (machine_at old) machine same_shown fits.rests H A f U rest.pins
-        (λ none zeros. from_as sum size (omega (arith, old.config.config.least)) (state_of (trace (device_of old))) (machine_at old) (machine_at old)
-        (line_of old) (at_last sealed_now (line_of old)) (logged H) (logged H) (λ k. refl) (λ k. refl)
+    fits = λ H A f U fits. fits_as trace sum old new rest.config rest.fault rest.marks (noted_in old) kept_noted (at_last sealed_now (line_of old)) line
+        (machine_at old) machine same_shown fits.rests H A f U rest.pins
+        (λ none zeros. from_as sum size (state_of (trace (device_of old))) (machine_at old) (machine_at old)
+        (line_of old) (at_last sealed_now (line_of old)) (logged H) (λ k. refl) (λ k. refl)
         (same_shown (state_of (trace (device_of old))).log.bytes) (omega (arith, end_at_last size sealed_now (λ _. refl) (line_of old)))
         (fits.hides none zeros)) fits.marked
         (record {
@@ -213,7 +216,7 @@ module _ {D C : Type 0} (trace : D → Trace) (sum : List ℕ → ℕ) (old new 
           whole = λ none zeros. subst (λ p. AreWhole sum size (shown_of trace old).log.bytes (logged H) p (machine_at old)) (sym (first_at_last sealed_now (λ _. refl) (line_of old))) (fits.shows.whole none zeros);
           own = λ none zeros. own_sealed sum size (HeaderWasPlaced (shown_of trace old).placed) (RecordWasPlaced sum size (shown_of trace old).placed) (shown_of trace old).log.bytes (line_of old) (fits.shows.own none zeros);
           account = fits.shows.account;
-          numbers = λ zeros. subst (HasNumbers sum size 0 (shown_of trace old) (machine_at old)) (sym (end_at_last size sealed_now (λ _. refl) (line_of old))) (fits.shows.numbers zeros);
+          numbers = λ zeros. subst (HasNumbers sum size (begins_from size old.marks.joined) (shown_of trace old) (machine_at old)) (sym (end_at_last size sealed_now (λ _. refl) (line_of old))) (fits.shows.numbers zeros);
           in_slots = fits.shows.in_slots;
         });
     noted = noted_later old new rest.noted (let same = sealed_synced in omega (arith, same));

@@ -1,7 +1,8 @@
 -- What a log shows of its device: where a call leaves that, what is held and fitted over it is held and fitted by the log behind the call. A log that begins
 -- shows the device itself.
 use Rattle.std.specs.declared.io.Error.{Error as IoError}
-use Rattle.std.proofs.Common.{◌≡◌, ◌≢◌, ◌∙◌, ◌+◌, ◌*◌, ◌<◌, ℕ, zero, suc, max, pos, List, [], ◌∷◌, Option, Some, None, refl, sym, ap, subst, arith, inl, inr}
+use Rattle.std.proofs.Common.{◌≡◌, ◌≢◌, ◌∙◌, ◌+◌, ◌*◌, ◌<◌, ◌≤◌, ℕ, zero, suc, max, pos, List, [], ◌∷◌, Option, Some, None, refl, sym, ap, subst, arith, inl}
+use Rattle.std.proofs.Common.{inr}
 use Rattle.std.specs.List.{slice_get}
 use Rattle.std.proofs.Math.Nat.{suc-mul}
 use Rattle.std.proofs.lemmas.Bool.{cases_order}
@@ -14,6 +15,7 @@ use Rattle.sled_store.specs.SnapshotFiles.{BeginsFrom}
 use Rattle.sled_store.proofs.Segments.FilledLemmas.{slot_before}
 use Rattle.sled_core.specs.declared.logger.joined_marks.JoinedMarks.{JoinedMarks}
 use Rattle.sled_core.specs.Begun.{SegmentView}
+use Rattle.sled_core.specs.LogSegments.{begins_from}
 use Rattle.sled_core.specs.Logged.{logged}
 use Rattle.sled_core.specs.Recoverable.{NoHeaderOfZeros}
 use Rattle.sled_core.specs.OpenBatches.{stable_below}
@@ -34,6 +36,7 @@ use Rattle.sled_core.proofs.Line.Ends.{line_holds, with_part}
 use Rattle.sled_core.proofs.Line.Segments.{AreSegments, nth_segment}
 use Rattle.sled_core.proofs.Numbers.HidesAtRest.{hides_at_rest}
 use Rattle.sled_core.proofs.Sealed.Ended.{ends_rise, ends_up}
+use Rattle.sled_core.proofs.Tail.MarkPlaces.{begins_lower}
 
 -- where the n-th of segments one behind another begins
 pub nth_at : (size place : ℕ) (vs : List SegmentView) → AreSegments size place vs → (n : ℕ) (u : SegmentView) → slice_get vs n ≡ Some u
@@ -78,7 +81,7 @@ module _ (sum : List ℕ → ℕ) (noted : List Batch) (size : ℕ) (device : St
   }
 
   pub fits_shown : (marks : JoinedMarks) (pins : ℕ) (H : History) (A f : ℕ) (U : List Message)
-      → (fault ≡ None → NoHeaderOfZeros sum → HidesFrom sum size device m' line' (logged H))
+      → (fault ≡ None → NoHeaderOfZeros sum → HidesFrom sum size (begins_from size marks.joined) device m' line' (logged H))
       → (fault ≡ None → NoHeaderOfZeros sum → MarksFitFrom sum size device.snapshots.file (cleared size m line device.log.bytes) marks)
       → FitsWith sum marks noted size (shown size fault m line device) fault line' m' pins H A f U
       → FitsShown sum marks noted size device fault line' m' pins H A f U
@@ -91,7 +94,7 @@ module _ (sum : List ℕ → ℕ) (noted : List Batch) (size : ℕ) (device : St
   }
 
 -- A log that holds a history over its device, as one does that begins, shows the device itself, and hides nothing.
-module _ (sum : List ℕ → ℕ) (size : ℕ) (some : 0 < size) (t : Trace) (m : Machine) (line : List SegmentView) where
+module _ (sum : List ℕ → ℕ) (size : ℕ) (big : 256 ≤ size) (t : Trace) (m : Machine) (line : List SegmentView) where
   abbrev device : State
   device = state_of t
 
@@ -105,7 +108,7 @@ module _ (sum : List ℕ → ℕ) (size : ℕ) (some : 0 < size) (t : Trace) (m 
           on.settled ∙ ap at_rest (sym (ap (λ (x : LogState). x.bytes) on.settled))
 
     begins_same : cleared size m line device.log.bytes ≡ device.log.bytes
-    begins_same = cleared_itself size some m line device.log.bytes (slots.zeros refl)
+    begins_same = cleared_itself size (omega (arith, big)) m line device.log.bytes (slots.zeros refl)
         (λ n v there. with_part sum size device None _ line n v H holds there (λ stays own segment. segment.laid refl))
 
     begins_shown : shown size None m line device ≡ device
@@ -128,8 +131,10 @@ module _ (sum : List ℕ → ℕ) (size : ℕ) (some : 0 < size) (t : Trace) (m 
           shows = subst (λ (d : State). FitsWith sum marks noted size d None line m pins H A f U) (sym (begins_shown marks (logged H) held fits.slots)) fits;
           rests = λ none. begins_rests marks (logged H) held fits.slots;
           hides = λ none zeros first begins.
-              hides_at_rest sum size t m line (begins_same marks (logged H) held fits.slots) (begins_rests marks (logged H) held fits.slots) (fits.numbers zeros)
-              fits.slots.own (least_place size first) 0 (logged H) (omega arith);
+              hides_at_rest sum size t m line (begins_same marks (logged H) held fits.slots) (begins_rests marks (logged H) held fits.slots)
+              (fits.numbers zeros) fits.slots.own (least_place size first) (begins_from size marks.joined) (logged H)
+              (let same = at first begins in let ordered = marks.ordered in
+              begins_lower size big marks.joined (pos (stable_place first.stable)) (omega (arith, ints, same, ordered)));
           -- the marks are the place with which it began
           marked = λ none zeros first begins.
               record { joined = marks.ordered; stands = inl (let same = at first begins in omega (arith, ints, same)) };

@@ -10,8 +10,11 @@ use Rattle.sled_store.specs.Foreign.{HeaderWasPlaced, RecordWasPlaced}
 use Rattle.sled_store.specs.SegmentStates.{Machine}
 use Rattle.sled_core.specs.Begun.{SegmentView}
 use Rattle.sled_core.specs.LogFile.{MessageStands, StaysFrom}
+use Rattle.sled_core.specs.LogSegments.{begins_from}
 use Rattle.sled_core.specs.Logged.{logged}
+use Rattle.sled_core.specs.OpenBatches.{stable_below}
 use Rattle.sled_core.specs.Recoverable.{NoHeaderOfZeros}
+use Rattle.sled_core.specs.Tail.{least_place, tail_begins}
 use Rattle.sled_core.specs.declared.logger.joined_marks.JoinedMarks.{JoinedMarks}
 use Rattle.sled_core.specs.Fits.{held_of}
 use Rattle.sled_core.specs.inside.Cleared.{IsWrittenIn, StandWritten, cleared, is_stale}
@@ -19,6 +22,7 @@ use Rattle.sled_core.specs.inside.Fits.{HoldsLine, begun_segment, parts_in}
 use Rattle.sled_core.specs.inside.FreeSlots.{HasSlot}
 use Rattle.sled_core.specs.inside.Hides.{ReadsShown}
 use Rattle.sled_core.specs.inside.LogSegments.{held_since}
+use Rattle.sled_core.specs.inside.MarksFit.{MarksFitFrom}
 use Rattle.sled_core.specs.inside.OwnLog.{HasOwnSlot}
 use Rattle.sled_core.specs.inside.Reached.{StandsAmong}
 use Rattle.sled_core.specs.inside.Running.{FitsWith}
@@ -33,6 +37,8 @@ use Rattle.sled_core.proofs.Line.Quiet.{quiet_shown}
 use Rattle.sled_core.proofs.Line.Segments.{AreSegments}
 use Rattle.sled_core.proofs.Line.Shown.{line_rises, others_beside}
 use Rattle.sled_core.proofs.Line.StandsThere.{line_elsewhere, older_same, stands_there}
+use Rattle.sled_core.proofs.Reached.MarkWritten.{stands_lower}
+use Rattle.sled_core.proofs.Reached.MarksRaise.{mark_low}
 use Rattle.sled_core.proofs.Reserve.Ranges.{at_there}
 
 -- What is written of each segment of a line that holds a history over what is shown stands in the file as it does there.
@@ -72,9 +78,9 @@ module _ (sum : List ℕ → ℕ) (size : ℕ) (some : 0 < size) (device : State
       (λ n u at. (line_elsewhere sum size (shown size None m line device) None refl v vs H holds e still below lid inline n u at).apart))
       s
 
-module _ (sum : List ℕ → ℕ) (marks : JoinedMarks) (noted : List Batch) (size : ℕ) (big : 256 ≤ size) (device : State) (fault : Option IoError) (whole : fault ≡ None)
-    (zeros : NoHeaderOfZeros sum) (m : Machine) (pins : ℕ) (H : History) (A f : ℕ) (U : List Message) (v : SegmentView) (vs : List SegmentView)
-    (are : AreSegments size v.parts.site.place (v ∷ vs))
+module _ (sum : List ℕ → ℕ) (marks : JoinedMarks) (noted : List Batch) (size : ℕ) (big : 256 ≤ size) (device : State) (fault : Option IoError)
+    (whole : fault ≡ None) (zeros : NoHeaderOfZeros sum) (m : Machine) (pins : ℕ) (H : History) (A f : ℕ) (U : List Message) (v : SegmentView)
+    (vs : List SegmentView) (are : AreSegments size v.parts.site.place (v ∷ vs))
     (fits : FitsWith sum marks noted size (shown size fault m (v ∷ vs) device) fault (v ∷ vs) m pins H A f U) where
   abbrev file : List ℕ
   file = cleared size m (v ∷ vs) device.log.bytes
@@ -89,11 +95,21 @@ module _ (sum : List ℕ → ℕ) (marks : JoinedMarks) (noted : List Batch) (si
   file_whole =
       subst (λ (l : List ℕ). AreWhole sum size l (logged H) v.parts.site.place m) (shown_bytes size fault m (v ∷ vs) device whole) (fits.whole whole zeros)
 
-  pub file_among : StandsAmong sum (held_since size marks fits.parts.holds.begun.first) size file v.parts.site v.parts.written_len (map begun_segment (map parts_in vs)) fits.reach (logged H)
-      fits.parts.holds.begun.first
+  pub file_among : StandsAmong sum (held_since size marks fits.parts.holds.begun.first) size file v.parts.site v.parts.written_len
+      (map begun_segment (map parts_in vs)) fits.reach (logged H) fits.parts.holds.begun.first
   file_among =
-      subst (λ (l : List ℕ). StandsAmong sum (held_since size marks fits.parts.holds.begun.first) size l v.parts.site v.parts.written_len (map begun_segment (map parts_in vs)) fits.reach (logged H)
-      fits.parts.holds.begun.first) (shown_bytes size fault m (v ∷ vs) device whole) (fits.parts.among whole zeros)
+      subst (λ (l : List ℕ). StandsAmong sum (held_since size marks fits.parts.holds.begun.first) size l v.parts.site v.parts.written_len
+      (map begun_segment (map parts_in vs)) fits.reach (logged H) fits.parts.holds.begun.first)
+      (shown_bytes size fault m (v ∷ vs) device whole) (fits.parts.among whole zeros)
+
+  -- The segment of the mark that joined begins no higher than the tail of a recovery.
+  pub file_low : MarksFitFrom sum size device.snapshots.file file marks
+      → begins_from size marks.joined ≤ tail_begins size (least_place size fits.parts.holds.begun.first) file_among.stands.ordering
+  file_low marked =
+      let first = fits.parts.holds.begun.first in
+      let its = marked first fits.parts.holds.begun.begins in
+      mark_low sum size file big (logged H) (stable_below fits.reach H.batches) first fits.reach file_among.stands marks.joined
+      (stands_lower sum size file first marks.joined marks.durable its.joined its.stands)
 
   pub file_reads : ReadsShown sum size m file device.log.bytes
   file_reads =
@@ -110,8 +126,8 @@ module _ (sum : List ℕ → ℕ) (marks : JoinedMarks) (noted : List Batch) (si
   file_written = line_written sum size (omega (arith, big)) device fault whole m v.parts.site.place (v ∷ vs) are (logged H) marks fits.parts.holds file_taken
 
 -- So each line that a log fits over what it shows is read of bytes that count.
-module _ (sum : List ℕ → ℕ) (marks : JoinedMarks) (noted : List Batch) (size : ℕ) (big : 256 ≤ size) (device : State) (fault : Option IoError) (whole : fault ≡ None)
-    (zeros : NoHeaderOfZeros sum) (m : Machine) (pins : ℕ) (H : History) (A f : ℕ) (U : List Message) where
+module _ (sum : List ℕ → ℕ) (marks : JoinedMarks) (noted : List Batch) (size : ℕ) (big : 256 ≤ size) (device : State) (fault : Option IoError)
+    (whole : fault ≡ None) (zeros : NoHeaderOfZeros sum) (m : Machine) (pins : ℕ) (H : History) (A f : ℕ) (U : List Message) where
   pub line_reads : (place : ℕ) (line : List SegmentView) → AreSegments size place line
       → FitsWith sum marks noted size (shown size fault m line device) fault line m pins H A f U
       → ReadsShown sum size m (cleared size m line device.log.bytes) device.log.bytes

@@ -135,7 +135,8 @@ module _ (sum : List ℕ → ℕ) (size : ℕ) (device : State) (fault : Option 
       behind_elsewhere (place + size) xs stays batches later rest e still (omega (arith, below)) lid inline n u at
 
   pub line_elsewhere : (v : SegmentView) (vs : List SegmentView) (H : History) {marks : JoinedMarks}
-      (holds : HoldsLine sum marks size device fault (v ∷ vs) H) → (e : Message) → StaysFrom H (held_of holds.begun) e → e.place < v.parts.site.place → (lid : ℕ) → e.pointer ≡ Inline lid
+      (holds : HoldsLine sum marks size device fault (v ∷ vs) H) → (e : Message) → StaysFrom H (held_of holds.begun) e → e.place < v.parts.site.place
+      → (lid : ℕ) → e.pointer ≡ Inline lid
       → (n : ℕ) (u : SegmentView) → slice_get (v ∷ vs) n ≡ Some u → StandsElsewhere sum size device.log.bytes u.parts.site lid e
   line_elsewhere v vs H holds e still below lid inline zero u at =
       let same : v ≡ u = cc in

@@ -37,6 +37,7 @@ use Rattle.sled_core.proofs.Line.EndedKeeps.{fits_ended, goes_on_ended, holds_en
 use Rattle.sled_core.proofs.Line.EndedTickets.{ended_fillings, ended_heads, ended_keeps_given, ended_takes, others_await, says_place, ticket_among, ticket_there}
 use Rattle.sled_core.proofs.Line.LogSpans.{ended_buffers}
 use Rattle.sled_core.proofs.Line.Moves.{MarksStand}
+use Rattle.sled_core.specs.LogSegments.{begins_from}
 
 -- The reservation of a ticket, by numbers.
 pub record IsReservedAt {D C : Type 0} (log : Log D C) (ticket : Reservation) (n index : ℕ) : Type 0 where
@@ -164,9 +165,9 @@ module _ {D C : Type 0} {old new : Log D C} {ticket : Reservation} {n index : �
       ticket_holds = holds_ended old new n v e.at.among i r e.at.there e.at.own.open_yet e.text e.short state e.line rest trace sum
 
       -- and fits what they fit.
-      pub ticket_fits : (H' H : History) (A f : ℕ) (U : List Message)
-          → (old.fault.kept ≡ None → NoHeaderOfZeros sum → HidesFrom sum old.config.config.segment_size (state_of (trace old.config.device))
-          (machine_of old.accountant) (line_of old) (logged H'))
+      pub ticket_fits : (H : History) (A f : ℕ) (U : List Message)
+          → (old.fault.kept ≡ None → NoHeaderOfZeros sum → HidesFrom sum old.config.config.segment_size (begins_from old.config.config.segment_size old.marks.joined) (state_of (trace old.config.device))
+          (machine_of old.accountant) (line_of old) (logged H))
           → MarksStand trace sum old
           → RestsWhole old.fault.kept (state_of (trace old.config.device)).log
           → FitsWith sum old.marks (noted_in old) old.config.config.segment_size (shown_of trace old) old.fault.kept

@@ -59,8 +59,10 @@ module _ {D C : Type 0} (old new : Log D C) (same : IsUnchanged old new) where
   unchanged_keeps trace sum = record {
     goes_on = goes_on_quietly trace sum old new (record { config = ap (λ (x : RunningConfig D C). x.config) same.config; checksum = ap (λ (x : RunningConfig D C). x.checksum) same.config })
         (ap (λ (x : RunningConfig D C). trace x.device) same.config) (let is = unchanged_synced in omega (arith, is)) (λ none. sym same.fault ∙ none);
-    history = λ H holds. holds_as trace sum old new same.config same.fault same.marks (noted_in old) same.noted (line_of old) same.line (machine_at old) same.machine (λ l. refl) holds.rests H holds.shows;
-    fits = λ H A f U fits. fits_as trace sum old new same.config same.fault same.marks (noted_in old) same.noted (line_of old) same.line (machine_at old) same.machine (λ l. refl) fits.rests H A f U same.pins fits.hides fits.marked fits.shows;
+    history = λ H holds. holds_as trace sum old new same.config same.fault same.marks (noted_in old) same.noted (line_of old) same.line (machine_at old)
+        same.machine (λ l. refl) holds.rests H holds.shows;
+    fits = λ H A f U fits. fits_as trace sum old new same.config same.fault same.marks (noted_in old) same.noted (line_of old) same.line (machine_at old)
+        same.machine (λ l. refl) fits.rests H A f U same.pins fits.hides fits.marked fits.shows;
     noted = noted_quiet old new same.noted unchanged_synced;
     kept = same.kept;
   }

@@ -14,7 +14,7 @@ use Rattle.sled_core.specs.inside.Begun.{line_end}
 use Rattle.sled_core.specs.inside.Cleared.{cleared}
 use Rattle.sled_core.specs.inside.Hides.{Hides, HidesFrom, IsOwnRecord}
 use Rattle.sled_core.specs.Tail.{least_place}
-use Rattle.sled_core.proofs.Numbers.Hides.{gone_less, hides_same}
+use Rattle.sled_core.proofs.Numbers.Hides.{gone_less, hides_higher, hides_same}
 use Rattle.sled_core.proofs.Numbers.OwnLess.{less_same}
 use Rattle.sled_core.proofs.Tail.Multiples.{put_down}
 
@@ -94,40 +94,30 @@ module _ (sum : List ℕ → ℕ) (size : ℕ) (s : State) (least base : ℕ) (H
       was_used : (j : ℕ) → j ≢ k → is_free (slot_at m' j).state ≡ false → is_free (slot_at m j).state ≡ false
       was_used j other used = ap (λ (x : SlotState). is_free x.state) (sym (others j other)) ∙ used
 
--- As yet no segment is gone, so it is the same for each history.
-pub hides_whatever : (sum : List ℕ → ℕ) (size : ℕ) → 0 < size → (s : State) (m : Machine) (line : List SegmentView) (least : ℕ) (H H' : History)
-    → Hides sum size s m line least 0 H → Hides sum size s m line least 0 H'
-hides_whatever sum size some s m line least H H' hides = record {
-  to_come = hides.to_come;
-  taken = hides.taken;
-  free = hides.free;
-  headers = λ k place mark low own. elim (hides.headers k place mark low own) [
-    | inl shown ↦ inl shown
-    | inr gone ↦ absurd (let none = gone.below in omega (arith, none, some))
-  ];
-  alone = hides.alone;
-}
-
-module _ (sum : List ℕ → ℕ) (size : ℕ) (some : 0 < size) (s : State) (m m' : Machine) (line line' : List SegmentView) (H H' : History) where
+module _ (sum : List ℕ → ℕ) (size : ℕ) {base : ℕ} (s : State) (m m' : Machine) (line line' : List SegmentView) (H : History) where
   -- So it is from the snapshot on with which the log began: where slots have what they had,
   pub from_as : ((k : ℕ) → is_free (slot_at m' k).state ≡ is_free (slot_at m k).state) → ((k : ℕ) → (slot_at m' k).lsn ≡ (slot_at m k).lsn)
       → cleared size m' line' s.log.bytes ≡ cleared size m line s.log.bytes → line_end size line ≤ line_end size line'
-      → HidesFrom sum size s m line H → HidesFrom sum size s m' line' H'
+      → HidesFrom sum size base s m line H → HidesFrom sum size base s m' line' H
   from_as free lsn same up hides first begins =
-      hides_as sum size s (least_place size first) 0 H' m m' line line' free lsn same up
-      (hides_whatever sum size some s m line (least_place size first) H H' (hides first begins))
+      hides_as sum size s (least_place size first) base H m m' line line' free lsn same up (hides first begins)
 
   -- and where one more has a segment.
-  pub from_begun : (k place : ℕ) → (slot_at m' k).lsn ≡ place → ((j : ℕ) → j ≢ k → slot_at m' j ≡ slot_at m j)
+  pub from_begun : 0 < size → (k place : ℕ) → (slot_at m' k).lsn ≡ place → ((j : ℕ) → j ≢ k → slot_at m' j ≡ slot_at m j)
       → cleared size m' line' s.log.bytes ≡ cleared size m line s.log.bytes → place ≡ line_end size line → place % size ≡ 0
-      → line_end size line ≤ line_end size line' → HidesFrom sum size s m line H → HidesFrom sum size s m' line' H'
-  from_begun k place its others same ends aligned up hides first begins =
-      hides_begun sum size s (least_place size first) 0 H' m m' line line' k place its others same ends aligned up some (omega arith)
-      (hides_whatever sum size some s m line (least_place size first) H H' (hides first begins))
+      → line_end size line ≤ line_end size line' → base ≤ place → HidesFrom sum size base s m line H → HidesFrom sum size base s m' line' H
+  from_begun some k place its others same ends aligned up low hides first begins =
+      hides_begun sum size s (least_place size first) base H m m' line line' k place its others same ends aligned up some low (hides first begins)
 
--- It is so where the names are others, and the newest snapshot is the same.
-pub from_names : (sum : List ℕ → ℕ) (size : ℕ) (s t : State) (m : Machine) (line : List SegmentView) (H : History) → t.placed ≡ s.placed
-    → t.log.bytes ≡ s.log.bytes → t.snapshots.file ≡ s.snapshots.file → HidesFrom sum size s m line H → HidesFrom sum size t m line H
-from_names sum size s t m line H placed bytes files hides first begins =
-    hides_same sum size s m line (least_place size first) 0 H (hides first (subst (λ (f : ℤ → Option (List ℕ)). BeginsFrom sum f first) files begins)) t
-    (less_same sum size t s placed) bytes
+-- It is so where the names are others, and the newest snapshot is the same,
+pub from_names : (sum : List ℕ → ℕ) (size : ℕ) {base : ℕ} (s t : State) (m : Machine) (line : List SegmentView) (H : History) → t.placed ≡ s.placed
+    → t.log.bytes ≡ s.log.bytes → t.snapshots.file ≡ s.snapshots.file → HidesFrom sum size base s m line H → HidesFrom sum size base t m line H
+from_names sum size {base} s t m line H placed bytes files hides first begins =
+    hides_same sum size s m line (least_place size first) base H
+    (hides first (subst (λ (f : ℤ → Option (List ℕ)). BeginsFrom sum f first) files begins)) t (less_same sum size t s placed) bytes
+
+-- and where a mark rises.
+pub from_higher : (sum : List ℕ → ℕ) (size base higher : ℕ) → base ≤ higher → (s : State) (m : Machine) (line : List SegmentView) (H : History)
+    → HidesFrom sum size base s m line H → HidesFrom sum size higher s m line H
+from_higher sum size base higher up s m line H hides first begins =
+    hides_higher sum size s m line (least_place size first) base H (hides first begins) higher up

@@ -59,6 +59,15 @@ module _ (sum : List ℕ → ℕ) (size : ℕ) where
     lie = has.lie;
   }
 
+  -- Headers count from a higher place.
+  pub numbers_from : (s : State) (m : Machine) (end base higher : ℕ) → base ≤ higher → HasNumbers sum size base s m end → HasNumbers sum size higher s m end
+  numbers_from s m end base higher up has = record {
+    to_come = has.to_come;
+    taken = has.taken;
+    headers = λ k place mark low own. has.headers k place mark (omega (arith, up, low)) own;
+    lie = has.lie;
+  }
+
   -- Slots are marked.
   module _ (m n : Machine) (same : SameSegments m.slots n.slots) where
     pub numbers_marked : {base : ℕ} (s : State) (end : ℕ) → HasNumbers sum size base s m end → HasNumbers sum size base s n end

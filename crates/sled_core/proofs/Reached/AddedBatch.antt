@@ -5,7 +5,7 @@ use Rattle.std.proofs.lemmas.List.Elements.{Contains-append_cases, Contains-appe
 use Rattle.sled_codec.specs.History.{AddsBatch, Batch, History, Message, of_page, page_state, table}
 use Rattle.sled_store.proofs.Segments.Elements.{in_first, only_in}
 use Rattle.sled_core.specs.inside.Recoverable.{NoBatchEnds, NoMessageBegins}
-use Rattle.sled_core.proofs.Reached.GrowsAt.{GrowsAt}
+use Rattle.sled_core.proofs.Reached.GrowsAt.{GrowsAbove, GrowsAt}
 
 module _ (H H' : History) (b : Batch) (adds : AddsBatch H b H') where
   in_new : (c : Batch) → Contains (H.batches ++ b ∷ []) c → Contains H'.batches c
@@ -52,4 +52,15 @@ module _ (H H' : History) (b : Batch) (adds : AddsBatch H b H') where
     message_was = λ x there. inl (message_was x there);
     batch_stays = batch_stays;
     batch_was = λ c there. ⊎_elim inl (λ own. inr (ap (λ (d : Batch). d.low) own)) (was_or_batch c there);
+  }
+
+  pub batch_above : (low : ℕ) → low ≤ b.low → GrowsAbove H H' low
+  batch_above low above = record {
+    at = b.low;
+    grows = batch_grows;
+    above = above;
+    ends = λ c there. elim (was_or_batch c there) [
+      | inl was ↦ inl was
+      | inr own ↦ inr (let pegged = adds.pegged in let same = ap (λ (d : Batch). d.peg) own in omega (arith, above, pegged, same))
+    ];
   }

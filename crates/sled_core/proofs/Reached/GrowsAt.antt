@@ -14,6 +14,13 @@ pub record GrowsAt (H H' : History) (at : ℕ) : Type 0 where
   pub batch_stays : (b : Batch) → Contains H.batches b → Contains H'.batches b
   pub batch_was : (b : Batch) → Contains H'.batches b → Contains H.batches b ⊎ (at ≡ b.low)
 
+-- That place isn't below another one, and so no batch that it has more ends below it.
+pub record GrowsAbove (H H' : History) (low : ℕ) : Type 0 where
+  pub at : ℕ
+  pub grows : GrowsAt H H' at
+  pub above : low ≤ at
+  pub ends : (b : Batch) → Contains H'.batches b → Contains H.batches b ⊎ (low ≤ b.peg)
+
 module _ (H H' : History) (at : ℕ) (grows : GrowsAt H H' at) where
   -- No message begins where none did, beside that place,
   pub no_message_grown : (low high : ℕ) → (at < low) ⊎ (high ≤ at) → NoMessageBegins H low high → NoMessageBegins H' low high

@@ -60,7 +60,7 @@ module _ (sum : List ℕ → ℕ) (size : ℕ) (log : List ℕ) (some : 256 ≤ 
   began_low : began / size * size ≤ tail_begins size least is.ordering
   began_low = let up = lower_multiple size some began is.from is.from_low in let tail = is.tail_from in omega (arith, up, tail)
 
-  mark_low : begins_from size mark ≤ tail_begins size least is.ordering
+  pub mark_low : begins_from size mark ≤ tail_begins size least is.ordering
   mark_low = elim stands [
     | inl low ↦ (let le = begins_lower size some mark (pos began) low in let tail = began_low in omega (arith, le, tail))
     | inr (s, found, up) ↦ (

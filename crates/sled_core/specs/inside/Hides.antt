@@ -90,9 +90,10 @@ pub record Hides (sum : List ℕ → ℕ) (size : ℕ) (s : State) (m : Machine)
   -- no two slots have headers of one segment
   pub alone : (j k place : ℕ) (mark other : ℤ) → least ≤ place → IsOwnHeader sum size s j place mark → IsOwnHeader sum size s k place other → j ≡ k
 
--- So it is from the snapshot on with which a log began. As yet no segment is gone: none ends at 0.
-abbrev pub HidesFrom : (List ℕ → ℕ) → ℕ → State → Machine → List SegmentView → History → Type 0
-HidesFrom sum size s m line H = (first : SnapshotModel) → BeginsFrom sum s.snapshots.file first → Hides sum size s m line (least_place size first) 0 H
+-- So it is from the snapshot on with which a log began.
+abbrev pub HidesFrom : (List ℕ → ℕ) → ℕ → ℕ → State → Machine → List SegmentView → History → Type 0
+HidesFrom sum size base s m line H =
+    (first : SnapshotModel) → BeginsFrom sum s.snapshots.file first → Hides sum size s m line (least_place size first) base H
 
 -- What is shown of a log file is read of bytes that count: a header that is shown is that of the segment that its slot has, and stands in the file, and so does
 -- each record that a reader of the segment reads.

@@ -17,6 +17,7 @@ use Rattle.sled_core.specs.inside.Cleared.{cleared}
 use Rattle.sled_core.specs.inside.Fits.{FitsBatches, LogParts, begun_segment, log_parts, parts_in, HoldsIn, written_to}
 use Rattle.sled_core.specs.inside.FreeSlots.{HasSlots}
 use Rattle.sled_core.specs.inside.Hides.{HidesFrom}
+use Rattle.sled_core.specs.LogSegments.{begins_from}
 use Rattle.sled_core.specs.Logged.{logged}
 use Rattle.sled_core.specs.inside.MarksFit.{MarksFitFrom}
 use Rattle.sled_core.specs.inside.Numbers.{HasNumbers, HaveSlotsFrom, NumbersStay}
@@ -118,7 +119,7 @@ pub record FitsWith (sum : List ℕ → ℕ) (marks : JoinedMarks) (noted : List
   pub own : fault ≡ None → NoHeaderOfZeros sum → HasPlacedFile sum size device line
   pub account : HasAccount sum marks size device.snapshots.file H U m
   -- nothing that is the log's own is of a number that is still to come, nor, in the slot of a segment, of a greater one
-  pub numbers : NoHeaderOfZeros sum → HasNumbers sum size 0 device m (line_end size line)
+  pub numbers : NoHeaderOfZeros sum → HasNumbers sum size (begins_from size marks.joined) device m (line_end size line)
   -- what a table may need from where what is held counts is in the slots
   pub in_slots : HaveSlotsFrom sum marks size device.snapshots.file H (stable_below reach H.batches) m
 
@@ -127,8 +128,8 @@ pub record FitsShown (sum : List ℕ → ℕ) (marks : JoinedMarks) (noted : Lis
     (pins : ℕ) (H : History) (A f : ℕ) (U : List Message) : Type 0 where
   pub shows : FitsWith sum marks noted size (shown size fault m line device) fault line m pins H A f U
   pub rests : RestsWhole fault device.log
-  -- and this is what the file has besides
-  pub hides : fault ≡ None → NoHeaderOfZeros sum → HidesFrom sum size device m line (logged H)
+  -- and this is what the file has besides: no segment that is gone ends behind where the mark's begins
+  pub hides : fault ≡ None → NoHeaderOfZeros sum → HidesFrom sum size (begins_from size marks.joined) device m line (logged H)
   -- the marks stand in the headers that are shown
   pub marked : fault ≡ None → NoHeaderOfZeros sum → MarksFitFrom sum size device.snapshots.file (cleared size m line device.log.bytes) marks
 

@@ -61,6 +61,7 @@ use Rattle.sled_core.proofs.Start.StartedNumbers.{start_numbers}
 use Rattle.sled_core.proofs.Holds.FitsBatches.{batches_begun}
 use Rattle.sled_core.proofs.Logged.Messages.{logged_twice}
 use Rattle.sled_core.proofs.Logged.Names.{ready_alike}
+use Rattle.sled_core.proofs.Numbers.Stay.{numbers_from}
 use Rattle.sled_core.proofs.OwnLog.Started.{started_own}
 use Rattle.sled_core.proofs.OwnLog.StartedDevice.{started_placed}
 use Rattle.sled_core.proofs.Start.BegunSlots.{begun_slots}
@@ -75,6 +76,7 @@ use Rattle.sled_store.proofs.Traces.ScriptLemmas.{later_performed}
 use Rattle.sled_core.specs.Buffers.{none_open}
 use Rattle.sled_core.specs.inside.Buffers.{records_end}
 use Rattle.sled_core.proofs.logger.Log.start.Goals as goal
+use Rattle.sled_core.specs.LogSegments.{begins_from}
 use Rattle.sled_core.specs.declared.logger.joined_marks.JoinedMarks.{JoinedMarks}
 use Rattle.std.proofs.lemmas.Int.{to_z_pos}
 
@@ -188,7 +190,7 @@ returns-in-Ok-clause-history g c = λ H ready.
     let marks : JoinedMarks = c.from_place.result in
     let at : BeginAt marks (stable_place s.stable) = (c.from_place.ensures.joined ∙ place, c.from_place.ensures.durable ∙ place) in
     let holds = begins_ready g.C.Checksum.sum_of size old now s R c.in-Ok.buffer.bytes.items c.args.config.config.least of_log c.in-Ok.ensures.answers.0 log_now names_now marks at c.in-Ok.beginning c.in-Ok.ensures.beginning first.header first.resumed in
-    holds_begun g.C.Checksum.sum_of _ (let same = ap (λ (x : Config). x.segment_size) c.begin.ensures.config in omega (arith, some, same))
+    holds_begun g.C.Checksum.sum_of _ (let same = ap (λ (x : Config). x.segment_size) c.begin.ensures.config in omega (arith, c.args.config.config.least, same))
     (g.D.Device.trace c.begin.new.config.device) _ _ _ marks R (record {
       holds = subst (λ (ss : List SegmentBuffer). HoldsLine g.C.Checksum.sum_of marks c.begin.new.config.config.segment_size now None (line_at (record { place = c.in-Ok.beginning.place; slot = c.in-Ok.beginning.slot }) c.in-Ok.buffer ss) R) (sym c.no_segments.ensures)
           (subst (λ (n : ℕ). HoldsIn g.C.Checksum.sum_of marks (log_parts n (record { place = c.in-Ok.beginning.place; slot = c.in-Ok.beginning.slot }) now None c.in-Ok.buffer.bytes.items c.in-Ok.buffer.written_len c.in-Ok.buffer.sealed.items c.in-Ok.buffer.reserved.items) [] R)
@@ -237,7 +239,7 @@ returns-in-Ok-clause-fits g c = λ H A f ready.
     (start_fits g.C.Checksum.sum_of size (state_of old) now s H A f c.args.config.config.least ready c.in-Ok.ensures.answers.0
     log_now (ap (λ (t : Trace). (state_of t).blobs) c.in-Ok.ensures.made ∙ started-blobs size some (state_of old).log.bytes s old) (ap (λ (t : Trace). (state_of t).snapshots) c.in-Ok.ensures.made ∙ started-snapshots size some (state_of old).log.bytes s old)
     marks at c.in-Ok.beginning c.in-Ok.ensures.beginning c.in-Ok.buffer.bytes.items c.in-Ok.buffer.written_len c.in-Ok.buffer.sealed.items c.in-Ok.buffer.reserved.items first.header first.resumed first.from first.sealed first.reserved)) in
-    fits_begun g.C.Checksum.sum_of _ (omega (arith, some, same)) (g.D.Device.trace c.begin.new.config.device) _ _ _ marks _ H A f [] durable (record {
+    fits_begun g.C.Checksum.sum_of _ (omega (arith, c.args.config.config.least, same)) (g.D.Device.trace c.begin.new.config.device) _ _ _ marks _ H A f [] durable (record {
       reach = c.in-Ok.beginning.place + c.in-Ok.beginning.offset;
       parts = parts;
       batches = started_batches c.begin.new.config.config.segment_size (view_at (record { place = c.in-Ok.beginning.place; slot = c.in-Ok.beginning.slot }) c.in-Ok.buffer) (map segment_view c.no_segments.result.items) (logged H) c.new-in-Ok.ensures.noted
@@ -259,10 +261,13 @@ returns-in-Ok-clause-fits g c = λ H A f ready.
           (started_own g.C.Checksum.sum_of size c.args.config.config.least zeros (state_of old) now s H A f ready c.in-Ok.ensures.answers.0 (ap (λ (l : LogState). l.bytes) log_now) behind (view_at site c.in-Ok.buffer)
           (ap (λ (x : Beginning). record { place = x.place; slot = x.slot }) c.in-Ok.ensures.beginning) (first.from ∙ offset) first.sealed)));
       account = start_account g.C.Checksum.sum_of size some (state_of old) s H A f ready c.in-Ok.ensures.answers.0 marks at.0 same now.snapshots.file names c.in-Ok.ensures.machine;
-      numbers = λ zeros. subst (λ (ss : List SegmentBuffer). HasNumbers g.C.Checksum.sum_of c.begin.new.config.config.segment_size 0 now (machine_of c.in-Ok.accountant)
+      numbers = λ zeros. numbers_from g.C.Checksum.sum_of c.begin.new.config.config.segment_size now (machine_of c.in-Ok.accountant)
+          (line_end c.begin.new.config.config.segment_size (line_at site c.in-Ok.buffer c.no_segments.result.items)) 0
+          (begins_from c.begin.new.config.config.segment_size marks.joined) (omega arith)
+          (subst (λ (ss : List SegmentBuffer). HasNumbers g.C.Checksum.sum_of c.begin.new.config.config.segment_size 0 now (machine_of c.in-Ok.accountant)
           (line_end c.begin.new.config.config.segment_size (line_at site c.in-Ok.buffer ss))) (sym c.no_segments.ensures)
           (start_numbers g.C.Checksum.sum_of size c.args.config.config.least zeros old (g.D.Device.trace c.begin.new.config.device) s H A f ready c.in-Ok.ensures.answers.0 c.begin.ensures.calls
-          log_now same c.in-Ok.ensures.machine (view_at site c.in-Ok.buffer) (ap (λ (x : Beginning). record { place = x.place; slot = x.slot }) c.in-Ok.ensures.beginning));
+          log_now same c.in-Ok.ensures.machine (view_at site c.in-Ok.buffer) (ap (λ (x : Beginning). record { place = x.place; slot = x.slot }) c.in-Ok.ensures.beginning)));
       in_slots = start_in_slots g.C.Checksum.sum_of size some (state_of old) s H A f ready c.in-Ok.ensures.answers.0 marks at.0 same now.snapshots.file names c.in-Ok.ensures.machine _
           (λ newest begins zeros. newest_stable g.C.Checksum.sum_of c.begin.new.config.config.segment_size marks now None refl (line_at site c.in-Ok.buffer c.no_segments.result.items) (c.in-Ok.beginning.place + c.in-Ok.beginning.offset) 0 H A f [] parts zeros newest begins);
     })
