@@ -61,8 +61,9 @@ abbrev pub IsOwnLeft : (List ℕ → ℕ) → ℕ → State → Left → Reply �
 IsOwnLeft sum size s chosen (reply.Crashed taken) = NoForeign sum size s (content_left (left_by chosen taken) s)
 IsOwnLeft sum size s chosen r = Unit {0}
 
--- So it is in what a recovery reads and in what a crash leaves.
+-- So it is in what a recovery reads and in what a crash leaves. An opening that is refused reads nothing.
 abbrev pub IsOwn : (List ℕ → ℕ) → ℕ → State → Command → Reply → Type 0
+IsOwn sum size s command.Open reply.Refused = Unit {0}
 IsOwn sum size s command.Open r = ReadsOnlyOwn sum size s
 IsOwn sum size s (command.Crash choice) r = IsOwnLeft sum size s (left_of choice) r
 IsOwn sum size s c r = Unit {0}

@@ -64,8 +64,10 @@ told true (reply.Failed (Io e)) = reply.Stopped
 told stopped r = r
 
 module _ (sum : List ℕ → ℕ) (size : ℕ) where
-  -- Only what the log itself wrote passes as its own, in what a recovery reads and in what a crash leaves.
+  -- Only what the log itself wrote passes as its own, in what a recovery reads and in what a crash leaves. An opening that is refused reads nothing,
+  -- and so nothing is asked of it: a stopped device may have any bytes where a write failed, and the crash that comes decides which of them are left.
   abbrev pub IsOwn : State → Command → Reply → Type 0
+  IsOwn s command.Open (reply.Refused w) = Unit {0}
   IsOwn s command.Open r = ReadsOnlyOwn sum size s
   IsOwn s (command.Crash choice) (reply.Crashed taken) = NoForeign sum size s (content_left (left_after choice taken) s)
   IsOwn s _ r = Unit {0}

@@ -18,6 +18,7 @@ use Rattle.sled_store.specs.Device.{state_of}
 use Rattle.sled_core.specs.Fits.{reserved_end}
 use Rattle.sled_core.specs.Manifests.{manifest_page}
 use Rattle.sled_core.specs.Positions.{Position}
+use Rattle.sled_core.specs.Recoverable.{ReadsOnlyOwn}
 use Rattle.sled_core.specs.Running.{end_below}
 use Rattle.sled_core.proofs.PublicLaws.{message_acknowledged}
 use Rattle.sled_log.specs.declared.session.Session.{Session}
@@ -31,13 +32,14 @@ use Rattle.sled_log.specs.declared.session.command.Reply.TheVariants as reply
 use Rattle.sled_log.specs.Headline.{Acknowledges, Comes, Moves, Recovers, Reserves, Restores, Stays}
 use Rattle.sled_log.specs.OpenSteps.{HasOpened, IsStartCause, OpenStep, log_opened}
 use Rattle.sled_log.specs.ReadSteps.{FailsAt, ReadStep, ReadsAll, read_around, read_at}
+use Rattle.sled_log.specs.Refusals.{reason_of}
 use Rattle.sled_log.specs.RunStates.{DeviceView, HasAll, LogView, RunState, body_in, length_of, made_ready, message_at, opens, page_now, places_without, rewriting_at, sealed_around, spans_without, start_around, start_below, target_in, tickets_in, tickets_of, with_log, stable_of}
 use Rattle.sled_log.specs.Runs.{CrashStep, HaltStep, IsOwn, IsStep, Runs, StepBy, StopStep, told}
 use Rattle.sled_log.specs.RunPhases.{IsAt, SomeStands, StandsAt, StandsAtPhase, Unstored, seen, stands, traces}
 use Rattle.sled_log.specs.WriteSteps.{FailsTo, FlushStep, HasWrittenTo, KeepsFailing, StableStep, WriteStep, view_flushed, left_from, stable_from, target_by}
 use Rattle.sled_log.specs.TicketSteps.{AbortStep, CompleteStep, EndStep, HasReserved, RefusedStep, ReserveStep, RewriteStep, batch_of, blank_manifest, giving_up, keeping, noting, spent}
 use Rattle.sled_log.proofs.Sessions.Reading.{sized}
-use Rattle.sled_log.proofs.Sessions.RunLemmas.{start_cause_of}
+use Rattle.sled_log.proofs.Sessions.RunLemmas.{own_read, start_cause_of}
 
 -- What is known of the messages of a run where a log is open: they end at or below what was reserved, and each has a size.
 pub record EndsIn (H : History) (l : LogView) : Type 0 where
@@ -103,7 +105,7 @@ module _ (sum : List ℕ → ℕ) (size : ℕ) (device : DeviceView) (H : Histor
   halt log _ new b step = absurd step
 
   -- An opening of a device on which only what the log itself wrote passes as its own.
-  module _ (own : IsOwn sum size (state_of device.trace) command.Open (reply.Failed error.OutOfMemory)) where
+  module _ (own : ReadsOnlyOwn sum size (state_of device.trace)) where
     restores : (r : Reply) (new : DeviceView) (b : RunState) (opened : HasOpened sum size (at_log None) r new b)
         → Restores sum size (at_log None) opened.opens.snapshot b
     restores r new b opened =
@@ -140,6 +142,11 @@ module _ (sum : List ℕ → ℕ) (size : ℕ) (device : DeviceView) (H : Histor
           now,
         )
     opening _ new b step = absurd step.opens.starts
+
+  -- It is none that is refused.
+  not_refused : (r : Reply) (new : DeviceView) (b : RunState) → OpenStep sum size (at_log None) r new b → reason_of r ≡ None
+  not_refused (reply.Refused w) new b step = absurd step.opens.starts
+  not_refused r new b step = refl
 
   module _ (l : LogView) where
     abbrev a : RunState
@@ -328,7 +335,9 @@ module _ (sum : List ℕ → ℕ) (size : ℕ) (device : DeviceView) (H : Histor
       → Moves sum size (at_log log) c r b × Led (at_log log) new b
   by_log log (command.Crash choice) r new b ends own step = crash log choice r new b step
   by_log log (command.Stop n) r new b ends own step = stop log n r new b step
-  by_log None command.Open r new b ends own step = let done = opening own r new b step in (done.0, inr done.1)
+  by_log None command.Open r new b ends own step =
+      let done = opening (own_read sum size (state_of device.trace) r (not_refused r new b step) own) r new b step in
+      (done.0, inr done.1)
   by_log (Some l) (command.Replace page item) r new b ends own step = reserve l does.Replace page (short_bytes item.items) r new b step.1
   by_log (Some l) (command.Link page item) r new b ends own step = reserve l does.Link page (short_bytes item.items) r new b step.1
   by_log (Some l) (command.Free page) r new b ends own step = reserve l does.Free page [] r new b step.1
@@ -344,7 +353,7 @@ module _ (sum : List ℕ → ℕ) (size : ℕ) (device : DeviceView) (H : Histor
   by_log (Some l) command.Halt r new b ends own step = halt (Some l) r new b step
   by_log log _ r new b ends own step = absurd step
 
-  led_by : (log : Option LogView) (r : Reply) (new : DeviceView) (b : RunState) → IsOwn sum size (state_of device.trace) command.Open r
+  led_by : (log : Option LogView) (r : Reply) (new : DeviceView) (b : RunState) → ReadsOnlyOwn sum size (state_of device.trace)
       → StepBy sum size (at_log log) log command.Open r new b → b.device ≡ new
   led_by None r new b own step = (opening own r new b step).1
   led_by (Some l) r new b own step = absurd step

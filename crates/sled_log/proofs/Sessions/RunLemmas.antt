@@ -10,13 +10,13 @@ use Rattle.sled_store.specs.declared.config.RunningConfig.{RunningConfig}
 use Rattle.sled_store.specs.Blobs.{ItemAnswers}
 use Rattle.sled_store.specs.StartCauses.{StartRefuses}
 use Rattle.sled_store.specs.Chosen.{MayBeChosen, MayBeLeft}
-use Rattle.sled_store.specs.Device.{Event, Left, Trace, Crashed, Settled, state_of, fresh, content_left, Leaves}
+use Rattle.sled_store.specs.Device.{Event, Left, State, Trace, Crashed, Settled, state_of, fresh, content_left, Leaves}
 use Rattle.sled_store.specs.Moments.{IsLater}
 use Rattle.sled_store.specs.Noted.{left_of}
 use Rattle.sled_store.specs.Stops.{KeepsToStop}
 use Rattle.sled_store.proofs.Crashes.SettledLemmas.{settled_left_too}
 use Rattle.sled_core.specs.Fits.{config_of, device_of, segment_size_of}
-use Rattle.sled_core.specs.Recoverable.{NoForeign, LeavesRecoverable}
+use Rattle.sled_core.specs.Recoverable.{NoForeign, LeavesRecoverable, ReadsOnlyOwn}
 use Rattle.sled_core.proofs.Start.FreshReady.{fresh_leaves}
 use Rattle.sled_core.proofs.Line.NumbersKept.{fits_leaves}
 use Rattle.sled_core.proofs.PublicLaws.{crash_recoverable as again}
@@ -95,6 +95,11 @@ module _ (sum : List ℕ → ℕ) (size : ℕ) where
 pub may_be_left : (old : Trace) (choice : Choice) (taken : Bool) → (IsTrue taken → MayBeChosen choice (state_of old)) → Leaves (state_of old) (content_left (if taken then left_of choice else Settled []) (state_of old))
 may_be_left old choice true may = (may refl).1
 may_be_left old choice false may = settled_left_too old
+
+-- An opening that isn't refused asks of what it reads that it is the log's own.
+pub own_read : (sum : List ℕ → ℕ) (size : ℕ) (s : State) (r : Reply) → reason_of r ≡ None → IsOwn sum size s command.Open r → ReadsOnlyOwn sum size s
+own_read sum size s (reply.Refused w) none own = cc
+own_read sum size s r none own = own
 
 -- Causes.
 

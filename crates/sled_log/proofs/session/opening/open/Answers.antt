@@ -36,7 +36,7 @@ use Rattle.sled_log.proofs.Ready.Convertible.{read_of}
 use Rattle.sled_log.proofs.Recovers.ShownActive.{shows_active}
 use Rattle.sled_log.proofs.Sessions.MadeHistories.{from_below, made_below}
 use Rattle.sled_log.proofs.Sessions.MadeTables.{table_below}
-use Rattle.sled_log.proofs.Sessions.RunLemmas.{cause_of, runs_on_both}
+use Rattle.sled_log.proofs.Sessions.RunLemmas.{cause_of, own_read, runs_on_both}
 use Rattle.sled_log.proofs.Sessions.RunLogs.{start_good}
 use Rattle.sled_log.proofs.Sessions.Within.{still_there}
 use Rattle.sled_log.proofs.WriteBack.RecoveryLater.{recovery_later}
@@ -126,8 +126,8 @@ returns-in-Ok-clause-step g c = λ k at free.
       next = l;
       step = opens sum size old new k.history k.acknowledged k.floor c.start.result.1 b not_refused
           (record { opens = record { snapshot = s; mid = mid; recovers = has; starts = starts }; good = λ own. (comes own).0 });
-      at = λ own. (comes own).1;
-      crash = λ own. (comes own).2;
+      at = λ own. (comes (own_read sum size (state_of old.trace) c.start.result.1 not_refused own)).1;
+      crash = λ own. (comes (own_read sum size (state_of old.trace) c.start.result.1 not_refused own)).2;
     }
 
 pub returns-in-Ok-clause-on : goal.returns-in-Ok-clause-on
