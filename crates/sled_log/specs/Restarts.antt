@@ -8,16 +8,17 @@ use Rattle.sled_codec.specs.History.{Message, History}
 use Rattle.sled_store.specs.Answers.{is_fault}
 use Rattle.sled_store.specs.Blobs.{ItemAnswers}
 use Rattle.sled_store.specs.Device.{Event, Trace, state_of}
+use Rattle.sled_store.specs.Moments.{LeavesOnly}
 use Rattle.sled_store.specs.Script.{Performs, after_all}
 use Rattle.sled_core.specs.declared.logger.Log.{Log}
 use Rattle.sled_core.specs.Fits.{device_of, fault_of, flushing, segment_size_of}
-use Rattle.sled_core.specs.Recoverable.{ReadsOnlyOwn}
+use Rattle.sled_core.specs.Recoverable.{ReadsOnlyOwn, RecoverableIfOwn}
 use Rattle.sled_core.specs.invariants.Running.{Fits}
 use Rattle.sled_log.specs.Orderly.{IsOrderly}
 use Rattle.sled_log.specs.Restores.{ComesOf}
 
--- A log fits an orderly history, and only what the log itself wrote passes as its own in what a recovery reads, behind all that the flush writes. (Behind the
--- end of what was written an item of an older segment may stand that looks like a record of the log's.)
+-- A log fits an orderly history, and only what the log itself wrote passes as its own in what a recovery reads, behind all that the flush writes. (Once slots
+-- come back, behind the end of what was written an item of an older segment may stand that looks like a record of the log's.)
 pub record CanRestart {D C : Type 0} (trace : D → Trace) (sum : List ℕ → ℕ) (log : Log D C) (H : History) (A f : ℕ) (U : List Message) : Type 0 where
   pub fits : Fits trace sum log H A f U
   pub orderly : IsOrderly H
@@ -32,6 +33,16 @@ FlushFails (Err OutOfMemory) used fault before after = (used → ⊥) × (fault 
 FlushFails (Err PlacesUsedUp) used fault before after = used × (fault ≡ None) × (after ≡ before)
 FlushFails (Err _) used fault before after = ⊥
 FlushFails (Ok _) used fault before after = ⊥
+
+-- Up to some moment within a restart the calls of the flush alone were made, all of them or up to one that failed, and then nothing comes behind that. Up to
+-- there a crash leaves what can be recovered for a log that fits, whatever its device has; and from there on where what is read is the log's own, too.
+pub record LeavesInTwo {D C : Type 0} (trace : D → Trace) (sum : List ℕ → ℕ) (log : Log D C) (old new : Trace) : Type 0 where
+  pub mid : Trace
+  pub performed : Performs (flushing sum log) old mid
+  pub is : (new ≡ mid) ⊎ (mid ≡ after_all (flushing sum log) old)
+  pub first : (H : History) (A f : ℕ) (U : List Message) → Fits trace sum log H A f U → LeavesOnly (RecoverableIfOwn sum (segment_size_of log) H A f) old mid
+  pub then : (H : History) (A f : ℕ) (U : List Message) → CanRestart trace sum log H A f U
+      → LeavesOnly (RecoverableIfOwn sum (segment_size_of log) H A f) mid new
 
 -- All was written, and what is answered came of a recovery of that.
 pub record HasRestarted (sum : List ℕ → ℕ) (size : ℕ) (flushed new : Trace) (result : Result Snapshot Error) (before after : ℕ) : Type 0 where

@@ -9,13 +9,11 @@ ghost use Rattle.sled_codec.specs.History.{History, Message};
 ghost use Rattle.sled_codec.specs.PageTables.{IsTable};
 ghost use Rattle.sled_codec.specs.Snapshots.{model_of, stable_place};
 ghost use Rattle.sled_store.specs.Device.{state_of};
-ghost use Rattle.sled_store.specs.Moments.{LeavesOnly};
 ghost use Rattle.sled_core.specs.Fits.{IsUsedUpBelow, NoneOpen, config_of, device_of, fault_of, flushing, reserved_end, segment_size_of};
 ghost use Rattle.sled_core.specs.Keeps.{ConfigKept};
-ghost use Rattle.sled_core.specs.Recoverable.{RecoverableIfOwn};
 ghost use Rattle.sled_core.specs.invariants.Running.{Ready};
 ghost use Rattle.sled_core.specs.Running.{end_below};
-ghost use Rattle.sled_log.specs.Restarts.{CanRestart, Restarts};
+ghost use Rattle.sled_log.specs.Restarts.{CanRestart, LeavesInTwo, Restarts};
 
 use crate::snapshot::{Snapshot, read_snapshot_or_default};
 use sled_codec::result::Result;
@@ -27,6 +25,9 @@ use sled_store::{Device, RunningConfig};
 /// recovered. Where all of this succeeds, for a log that fits an orderly history, and only what the log wrote is read as
 /// its own (`CanRestart`), the table is that of all completed messages, its place lies past each of them, and
 /// `Log::start` on the snapshot gives a log that holds them again. No reservation may be open.
+///
+/// A crash within it leaves what can be recovered: until all is flushed for a log that fits its history, and from there
+/// on where what the recovery reads is the log's own too (`LeavesInTwo`).
 ///
 /// # Errors
 ///
@@ -45,8 +46,7 @@ pub fn restart<D: Device, C: Checksum>(log: Log<D, C>) -> (RunningConfig<D, C>, 
     ensures did { let old = device_of log in let new = result.0.device in
         Restarts C.sum_of (segment_size_of log) (flushing C.sum_of log) (IsUsedUpBelow log (reserved_end log)) (fault_of log) result.1
         (D.trace old) (D.trace new) (D.faults old) (D.faults new) }
-    ensures crash { (H : History) (A f : ℕ) (U : List Message) → CanRestart D.trace C.sum_of log H A f U
-        → LeavesOnly (RecoverableIfOwn C.sum_of (segment_size_of log) H A f) (D.trace (device_of log)) (D.trace result.0.device) }
+    ensures crash { LeavesInTwo D.trace C.sum_of log (D.trace (device_of log)) (D.trace result.0.device) }
     ensures kept { ConfigKept (config_of log) result.0 }
 {
     let mut log = log;

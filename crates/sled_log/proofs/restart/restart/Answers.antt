@@ -1,15 +1,16 @@
-use Rattle.std.proofs.Common.{◌≡◌, ◌∙◌, ◌≤◌, ◌+◌, max, ℕ, sym, ap, subst, inl, inr, arith}
+use Rattle.std.proofs.Common.{◌≡◌, ◌∙◌, ◌≤◌, ◌+◌, max, ℕ, List, sym, ap, subst, refl, inl, inr, arith}
 use Rattle.std.specs.Prelude.{Err}
 use Rattle.std.specs.List.{All}
 use Rattle.sled_codec.specs.declared.serialization.snapshot.Snapshot.{Snapshot}
-use Rattle.sled_codec.specs.History.{Message}
+use Rattle.sled_codec.specs.History.{History, Message}
 use Rattle.sled_codec.specs.PageTables.{IsTable}
 use Rattle.sled_codec.specs.Snapshots.{model_of, stable_place}
 use Rattle.sled_store.specs.declared.config.RunningConfig.{RunningConfig}
 use Rattle.sled_store.specs.Device.{Trace, state_of, content_of}
 use Rattle.sled_store.specs.Moments.{LeavesOnly}
 use Rattle.sled_store.specs.Script.{Performs, after_all}
-use Rattle.sled_store.proofs.Traces.MomentLemmas.{joined}
+use Rattle.sled_store.proofs.Traces.MomentLemmas.{at_last, started}
+use Rattle.sled_store.proofs.Traces.ScriptLemmas.{performs_whole}
 use Rattle.sled_core.specs.Account.{account_of}
 use Rattle.sled_core.specs.Fits.{IsKept, IsUsedUpBelow, device_of, fault_of, flushing, holding_below, reserved_end, segment_size_of, synced_end}
 use Rattle.sled_core.proofs.Logged.Alike.{table_alike}
@@ -19,7 +20,7 @@ use Rattle.sled_core.specs.Logged.{logged}
 use Rattle.sled_core.specs.Recoverable.{LeavesRecoverable, RecoverableIfOwn}
 use Rattle.sled_core.specs.invariants.Recoverable.{Recoverable}
 use Rattle.sled_core.proofs.Blobs.FirmContent.{read_recoverable}
-use Rattle.sled_core.specs.invariants.Running.{Ready}
+use Rattle.sled_core.specs.invariants.Running.{Fits, Ready}
 use Rattle.sled_core.specs.Running.{end_below}
 use Rattle.sled_core.proofs.Holds.ReachLemmas.{fits_holds}
 use Rattle.sled_core.proofs.Read.ReadingLemmas.{if_ok}
@@ -110,9 +111,9 @@ returns-in-Ok-clause-did g c =
           (subst (λ n. HasRestarted sum n (trace config.device) (trace new.device) recovery.result (g.D.Device.faults config.device) (g.D.Device.faults new.device)) sizes restarted)),
     )
 
+-- What the flush leaves asks for nothing but that the log fits, and what the recovery leaves for what it reads too.
 pub returns-in-Ok-clause-crash : goal.returns-in-Ok-clause-crash
-returns-in-Ok-clause-crash g c = λ H A f U restarts.
-    let fits = restarts.fits in
+returns-in-Ok-clause-crash g c =
     let trace = g.D.Device.trace in
     let sum = g.C.Checksum.sum_of in
     let log = c.flush-flushed.new.self in
@@ -123,13 +124,18 @@ returns-in-Ok-clause-crash g c = λ H A f U restarts.
     let sizes : config.config.segment_size ≡ size = ap (λ (x : RunningConfig _ _). x.config.segment_size) is ∙ c.flush-flushed.ensures.keeps.position.size in
     let same : trace config.device ≡ trace (device_of log) = ap (λ (x : RunningConfig _ _). trace x.device) is in
     let keeps = c.flush-flushed.ensures.keeps.preserves in
-    let can : CanRecover sum size (state_of (trace config.device)) H A f =
-    can_recover trace sum c.args.log log config.device H A A f U c.flush-flushed.ensures.keeps.position.size same (same ∙ c.in-Ok.ensures.calls)
-    c.in-Ok.ensures.answers.2 restarts (keeps.fits H A f U fits) in
-    let later = c.read_snapshot_or_default-snapshot.ensures.recoverable H A f (subst (λ n. CanRecover sum n (state_of (trace config.device)) H A f) (sym sizes) can) in
-    joined (LeavesRecoverable sum size H A f) (trace (device_of c.args.log)) (trace config.device) (trace new.device)
-    (subst (λ (t : Trace). LeavesOnly (RecoverableIfOwn sum size H A f) (trace (device_of c.args.log)) t) (sym same) (keeps.goes_on.crash H A f U fits))
-    (subst (λ n. LeavesOnly (RecoverableIfOwn sum n H A f) (trace config.device) (trace new.device)) sizes later)
+    let came : trace config.device ≡ after_all (flushing sum c.args.log) (trace (device_of c.args.log)) = same ∙ c.in-Ok.ensures.calls in record {
+      mid = trace config.device;
+      performed = performs_whole (flushing sum c.args.log) (trace (device_of c.args.log)) (trace config.device) came;
+      is = inr came;
+      first = λ H A f U fits. subst (λ (t : Trace). LeavesOnly (RecoverableIfOwn sum size H A f) (trace (device_of c.args.log)) t) (sym same) (keeps.goes_on.crash H A f U fits);
+      then = λ H A f U restarts.
+          let can : CanRecover sum size (state_of (trace config.device)) H A f =
+          can_recover trace sum c.args.log log config.device H A A f U c.flush-flushed.ensures.keeps.position.size same came
+          c.in-Ok.ensures.answers.2 restarts (keeps.fits H A f U restarts.fits) in
+          subst (λ n. LeavesOnly (RecoverableIfOwn sum n H A f) (trace config.device) (trace new.device)) sizes
+          (c.read_snapshot_or_default-snapshot.ensures.recoverable H A f (subst (λ n. CanRecover sum n (state_of (trace config.device)) H A f) (sym sizes) can));
+    }
 
 pub returns-in-Ok-clause-kept : goal.returns-in-Ok-clause-kept
 returns-in-Ok-clause-kept g c =
@@ -157,9 +163,22 @@ returns-in-Err-clause-did g c =
     )
 
 pub returns-in-Err-clause-crash : goal.returns-in-Err-clause-crash
-returns-in-Err-clause-crash g c = λ H A f U restarts.
-    subst (λ (x : RunningConfig _ _). LeavesOnly (RecoverableIfOwn g.C.Checksum.sum_of (segment_size_of c.args.log) H A f) (g.D.Device.trace (device_of c.args.log)) (g.D.Device.trace x.device)) (sym c.halt-config.ensures.config)
-    (c.flush-flushed.ensures.keeps.preserves.goes_on.crash H A f U restarts.fits)
+returns-in-Err-clause-crash g c =
+    let trace = g.D.Device.trace in
+    let sum = g.C.Checksum.sum_of in
+    let log = c.args.log in
+    let size : ℕ = segment_size_of log in
+    let old : Trace = trace (device_of log) in
+    let new : Trace = trace c.halt-config.result.device in
+    let same : new ≡ trace (device_of c.flush-flushed.new.self) = ap (λ (x : RunningConfig _ _). trace x.device) c.halt-config.ensures.config in
+    let leaves : (H : History) (A f : ℕ) (U : List Message) → Fits trace sum log H A f U → LeavesOnly (RecoverableIfOwn sum size H A f) old new = λ H A f U fits.
+    subst (λ (t : Trace). LeavesOnly (RecoverableIfOwn sum size H A f) old t) (sym same) (c.flush-flushed.ensures.keeps.preserves.goes_on.crash H A f U fits) in record {
+      mid = new;
+      performed = subst (λ (t : Trace). Performs (flushing sum log) old t) (sym same) c.flush-flushed.ensures.at_most;
+      is = inl refl;
+      first = leaves;
+      then = λ H A f U restarts. started (LeavesRecoverable sum size H A f) new (at_last (LeavesRecoverable sum size H A f) old new (leaves H A f U restarts.fits));
+    }
 
 pub returns-in-Err-clause-kept : goal.returns-in-Err-clause-kept
 returns-in-Err-clause-kept g c =
