@@ -40,6 +40,7 @@ fn laws_of_running_logs() {
     core_laws::the_stable_end_never_falls::<MemDevice, PlaceSum>();
     core_laws::what_has_its_record_has_its_segment::<MemDevice, PlaceSum>();
     core_laws::an_iterator_only_reads_its_log::<MemDevice, PlaceSum>();
+    core_laws::one_reading_says_what_is_given();
     core_laws::less_may_be_claimed::<MemDevice, PlaceSum>();
     core_laws::a_reservation_comes_to_one_relation::<MemDevice, PlaceSum>();
     core_laws::a_call_fails_for_its_own_reasons::<u64, MemDevice, PlaceSum>();

@@ -1,11 +1,11 @@
 //! Laws of logs, each the contract of a function that does nothing. They are the interface for a client: what it may rely on besides the
 //! contracts of the calls. A proof cites a law by the lemma of `proofs/PublicLaws.antt` that says the same; what that file has besides, under
 //! "Helpers", promises nothing more.
-ghost use Rattle.std.specs.Prelude.{◌≡◌, ◌↔◌, ◌⊎◌, ◌≤◌, ◌<◌, ◌≤ℤ◌, ◌<ℤ◌, ◌+ℤ◌, ◌-ℤ◌, ◌+◌, ◌*◌, ◌/◌, ◌^◌, ◌∷◌, ◌++◌, ℕ, ℤ, pos, true, List, [], replicate, Option, None, Some, Result, IfErr, IfOk, OnOk, length, map, ◌-◌, Contains, if◌then◌else◌, int_lt, unsigned_abs, take};
+ghost use Rattle.std.specs.Prelude.{◌≡◌, ◌↔◌, ◌⊎◌, ◌≤◌, ◌<◌, ◌≤ℤ◌, ◌<ℤ◌, ◌+ℤ◌, ◌-ℤ◌, ◌+◌, ◌*◌, ◌/◌, ◌^◌, ◌∷◌, ◌++◌, ℕ, ℤ, pos, true, Bool, List, [], replicate, Option, None, Some, Result, IfErr, IfOk, OnOk, length, map, ◌-◌, Contains, if◌then◌else◌, int_lt, unsigned_abs, take};
 ghost use Rattle.std.specs.Borrow.{MutBor};
 ghost use Rattle.std.specs.declared.io.Error.{Error as IoError};
 ghost use Rattle.sled_codec.specs.declared.result.Error.{Error};
-ghost use Rattle.sled_core.specs.Iterates.{Item};
+ghost use Rattle.sled_core.specs.Iterates.{Damage, EndsAt, GivesBehind, GivesOf, IsIteration, IsMissing, Item};
 ghost use Rattle.sled_core.specs.Iterators.{BorrowsLog, IsLogOf, IsNext, IsOnlyRead, IsOverLog};
 ghost use Rattle.std.specs.Int.{w64, cast_signed, cast_unsigned};
 ghost use Rattle.std.specs.List.{All};
@@ -38,6 +38,9 @@ ghost use Rattle.sled_core.specs.Keeps.{GoesOn, KeepsSeen, Preserves};
 ghost use Rattle.sled_core.specs.Reasons.{ReserveFails, TellsOf, WriteFails};
 ghost use Rattle.sled_core.specs.Reading.{IsInline};
 ghost use Rattle.sled_core.specs.Ready.{IsReady};
+ghost use Rattle.sled_core.specs.declared.iterator.Segment.{Segment};
+ghost use Rattle.sled_core.specs.Replayed.{IsDamagedBefore, IsReplayed};
+ghost use Rattle.sled_core.specs.Tail.{Scanned};
 ghost use Rattle.sled_core.specs.Recoverable.{NoForeign, ReadsOnlyOwn, RecoverableIfOwn, LeavesRecoverable, NoHeaderOfZeros};
 ghost use Rattle.sled_core.specs.invariants.Recoverable.{Recoverable};
 ghost use Rattle.sled_core.specs.OnFile.{HasSegment};
@@ -406,4 +409,17 @@ pub fn an_iterator_only_reads_its_log<D: Device, C: Checksum>()
     ensures back { (entry : MutBor (Log D C)) (it : LogIter D C) (result : Option (MutBor (Log D C)))
         → IsOverLog D.trace C.sum_of entry it → IsLogOf it result
         → (r : MutBor (Log D C)) × (result ≡ Some r) × (r.ghost_name ≡ entry.ghost_name) × IsOnlyRead D.trace C.sum_of entry.now r.now }
+{}
+
+/// A segment is read in one way. So one reading of it says what an iterator gives of it and of those behind it: up to a batch that is
+/// open or to its end, or up to a damaged record. It must have its header where the iterator is strict.
+pub fn one_reading_says_what_is_given()
+    ensures replayed { (sum : List ℕ → ℕ) (size : ℕ) (log : List ℕ) (blobs : ℤ → Option (List ℕ)) (end : ℕ) (strict : Bool) (ss : List Segment)
+        (items : List Item) (damage : Damage) (x : Scanned) → (IsMissing strict sum log x.segment → ⊥) → IsReplayed sum size log end x
+        → GivesOf sum blobs end x.met (GivesBehind strict x.why (IsIteration sum size log blobs end strict ss)) items damage
+        → IsIteration sum size log blobs end strict (x.segment ∷ ss) items damage }
+    ensures damaged { (sum : List ℕ → ℕ) (size : ℕ) (log : List ℕ) (blobs : ℤ → Option (List ℕ)) (end : ℕ) (strict : Bool) (s : Segment) (ss : List Segment)
+        (items : List Item) (damage : Damage) → (IsMissing strict sum log s → ⊥) → (d : IsDamagedBefore sum size log end s)
+        → GivesOf sum blobs end d.met (EndsAt end (s.place + d.next)) items damage
+        → IsIteration sum size log blobs end strict (s ∷ ss) items damage }
 {}
