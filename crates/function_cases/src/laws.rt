@@ -48,6 +48,8 @@ fn laws_of_running_logs() {
     core_laws::the_first_buffer_waits_behind_what_is_synced::<MemDevice, PlaceSum>();
     core_laws::what_is_not_synced_has_its_record::<MemDevice, PlaceSum>();
     core_laws::a_mark_is_that_of_its_header();
+    core_laws::a_pin_defers_freeing::<MemDevice, PlaceSum>();
+    core_laws::marks_join_with_what_is_written();
 }
 
 // The laws of histories, devices and logs, each called at one type.

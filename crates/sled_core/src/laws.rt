@@ -18,7 +18,7 @@ ghost use Rattle.sled_store.specs.Device.{Trace, State, Left, Leaves, Crashed, s
 ghost use Rattle.sled_store.specs.Moments.{IsLater, LeavesOnly};
 ghost use Rattle.sled_store.specs.Script.{Performs};
 ghost use Rattle.sled_store.specs.Outdated.{IsNamedNow, NamesBlob};
-ghost use Rattle.sled_core.specs.Fits.{stable_end, KeepsAll, Awaits, FirstWaits, FitsInline, HasRecordOf, IsLeastOpen, IsUnchanged, IsUsedUpBelow, IsUsedUpFor, IsWritten, NoneOpen, blob_at, body_length, buffers_of, current_begin, device_of, fault_of, fillings_of, given_up_of, heads_of, held_len, holding_below, in_blob_of, is_moved, ledger_of, line_of, machine_at, message_for, message_rewriting, next_place, noted_in, open_of, open_places, pins_of, reserved_end, sealing_end, segment_size_of, start_behind, start_of, synced_end, target_of, waiting_behind, waiting_of, writing_below, writing_pending, writing_some};
+ghost use Rattle.sled_core.specs.Fits.{stable_end, KeepsAll, Awaits, FirstWaits, FitsInline, HasRecordOf, IsLeastOpen, IsUnchanged, IsUsedUpBelow, IsUsedUpFor, IsWritten, NoneOpen, blob_at, body_length, buffers_of, current_begin, device_of, fault_of, fillings_of, given_up_of, heads_of, held_len, holding_below, in_blob_of, is_moved, ledger_for, ledger_of, line_of, machine_at, message_for, message_rewriting, next_place, noted_in, open_of, open_places, pins_of, reserved_end, sealing_end, segment_size_of, start_behind, start_of, synced_end, target_of, waiting_behind, waiting_of, writing_below, writing_pending, writing_some};
 ghost use Rattle.sled_core.specs.invariants.Fits.{Holds};
 ghost use Rattle.sled_codec.specs.Snapshots.{SnapshotModel, empty_model, stable_place};
 ghost use Rattle.sled_store.specs.Begin.{offset_at, place_at};
@@ -28,8 +28,8 @@ ghost use Rattle.sled_core.specs.HeaderMark.{mark_at};
 ghost use Rattle.sled_core.specs.Account.{account_behind};
 ghost use Rattle.sled_core.specs.Freeing.{Ledger};
 ghost use Rattle.sled_core.specs.Fronts.{synced_writes, syncs};
-ghost use Rattle.sled_core.specs.Ledger.{ledger_behind};
-ghost use Rattle.sled_core.specs.ReadBuffer.{settling};
+ghost use Rattle.sled_core.specs.Ledger.{ledger_behind, writings};
+ghost use Rattle.sled_core.specs.ReadBuffer.{ledger_at, settling};
 ghost use Rattle.sled_core.specs.Waiting.{BufferAt, HasLength, spans, write_around, write_pending, writes_below};
 ghost use Rattle.sled_core.specs.WholeBuffers.{IsWholeBuffer};
 ghost use Rattle.sled_core.specs.Batches.{LiesInNoFilling};
@@ -196,7 +196,7 @@ pub fn a_call_fails_for_its_own_reasons<T, D: Device, C: Checksum>()
 {}
 
 /// While a pin is out no segment is freed: the calls that write buffers are one write and one sync for each, so that as many syncs were made as
-/// buffers were written, and the slots stay.
+/// buffers were written, and the slots stay. It is out at each ledger at which a call begins, whether the call seals the current buffer or not.
 pub fn a_pin_defers_freeing<D: Device, C: Checksum>()
     ensures below { (log : Log D C) (to : ℕ) → 0 < pins_of log → writing_below C.sum_of log to ≡ writes_below to (buffers_of C.sum_of log) }
     ensures some { (log : Log D C) (to count : ℕ) → 0 < pins_of log
@@ -204,9 +204,10 @@ pub fn a_pin_defers_freeing<D: Device, C: Checksum>()
     ensures pending { (log : Log D C) (i : ℕ) → 0 < pins_of log → writing_pending log i ≡ write_pending i (waiting_of log) }
     ensures around { (log : Log D C) (lsn : ℤ) → 0 < pins_of log → settling C.sum_of log lsn
         ≡ (if int_lt lsn (pos (synced_end log)) then [] else write_around (unsigned_abs lsn) (buffers_of C.sum_of log)) }
-    ensures slots { (log : Log D C) (bs : List BufferAt) → 0 < pins_of log
-        → (ledger_behind (segment_size_of log) bs (ledger_of log)).machine ≡ machine_at log }
-    ensures synced { (log : Log D C) (to count : ℕ) (old new : Trace) → 0 < pins_of log → Performs (writing_below C.sum_of log to) old new
+    ensures pinned { (log : Log D C) (at : ℕ) → 0 < pins_of log → ((ledger_of log).account.pinned ≡ true)
+        × ((ledger_for at log).account.pinned ≡ true) × ((ledger_at at log).account.pinned ≡ true) }
+    ensures slots { (size : ℕ) (bs : List BufferAt) (l : Ledger) → l.account.pinned ≡ true → (ledger_behind size bs l).machine ≡ l.machine }
+    ensures synced { (size count : ℕ) (bs : List BufferAt) (l : Ledger) (old new : Trace) → l.account.pinned ≡ true → Performs (writings size bs l) old new
         → synced_writes new ≡ count + synced_writes old → syncs new ≡ count + syncs old }
 {}
 
