@@ -40,6 +40,7 @@ fn laws_of_running_logs() {
     core_laws::the_stable_end_never_falls::<MemDevice, PlaceSum>();
     core_laws::what_has_its_record_has_its_segment::<MemDevice, PlaceSum>();
     core_laws::an_iterator_only_reads_its_log::<MemDevice, PlaceSum>();
+    core_laws::one_reading_says_what_is_given();
     core_laws::less_may_be_claimed::<MemDevice, PlaceSum>();
     core_laws::a_reservation_comes_to_one_relation::<MemDevice, PlaceSum>();
     core_laws::a_call_fails_for_its_own_reasons::<u64, MemDevice, PlaceSum>();
@@ -47,6 +48,8 @@ fn laws_of_running_logs() {
     core_laws::the_first_buffer_waits_behind_what_is_synced::<MemDevice, PlaceSum>();
     core_laws::what_is_not_synced_has_its_record::<MemDevice, PlaceSum>();
     core_laws::a_mark_is_that_of_its_header();
+    core_laws::a_pin_defers_freeing::<MemDevice, PlaceSum>();
+    core_laws::marks_join_with_what_is_written();
 }
 
 // The laws of histories, devices and logs, each called at one type.

@@ -60,13 +60,15 @@ pub use Rattle.sled_core.proofs.Line.Buffers.{first_waits}
 pub use Rattle.sled_core.proofs.Line.Fillings.{end_off}
 pub use Rattle.sled_core.proofs.Line.NoneLeft.{noted_pegs}
 -- While a pin is out no segment is freed.
-pub use Rattle.sled_core.proofs.Line.Pinned.{pinned_around, pinned_below, pinned_pending, pinned_slots, pinned_some, pinned_synced}
-pub use Rattle.sled_core.proofs.Line.PinnedWrites.{ledger_account}
+pub use Rattle.sled_core.proofs.Line.Pinned.{pinned_around, pinned_at, pinned_below, pinned_pending, pinned_some, pinned_synced}
+pub use Rattle.sled_core.proofs.Line.PinnedWrites.{ledger_account, machine_pinned}
 pub use Rattle.sled_core.proofs.Stable.OfLog.{stable_of_log}
 pub use Rattle.sled_core.proofs.Line.WholeBuffers.{buffers_whole}
 pub use Rattle.sled_core.proofs.Line.OpenSeen.{buffers_held, current_count, current_least, none_is_empty, ticket_places}
 -- A reservation: its clauses, put together.
 pub use Rattle.sled_core.proofs.Line.ReservedWhole.{reserves_as}
+-- What an iterator gives, by one reading of a segment.
+pub use Rattle.sled_core.proofs.Iterates.OneReplay.{iteration_damaged, iteration_replayed}
 -- An iterator of a log only reads it, and gives it back.
 pub use Rattle.sled_core.proofs.Iterates.OverLog.{over_back, over_begun, over_next}
 -- Intervals have one stable end, in none of whose batches it lies.

@@ -1,11 +1,11 @@
 //! Laws of logs, each the contract of a function that does nothing. They are the interface for a client: what it may rely on besides the
 //! contracts of the calls. A proof cites a law by the lemma of `proofs/PublicLaws.antt` that says the same; what that file has besides, under
 //! "Helpers", promises nothing more.
-ghost use Rattle.std.specs.Prelude.{◌≡◌, ◌↔◌, ◌⊎◌, ◌≤◌, ◌<◌, ◌≤ℤ◌, ◌<ℤ◌, ◌+ℤ◌, ◌-ℤ◌, ◌+◌, ◌*◌, ◌/◌, ◌^◌, ◌∷◌, ◌++◌, ℕ, ℤ, pos, true, List, [], replicate, Option, None, Some, Result, IfErr, IfOk, OnOk, length, map, ◌-◌, Contains, if◌then◌else◌, int_lt, unsigned_abs, take};
+ghost use Rattle.std.specs.Prelude.{◌≡◌, ◌↔◌, ◌⊎◌, ◌≤◌, ◌<◌, ◌≤ℤ◌, ◌<ℤ◌, ◌+ℤ◌, ◌-ℤ◌, ◌+◌, ◌*◌, ◌/◌, ◌^◌, ◌∷◌, ◌++◌, ℕ, ℤ, pos, true, Bool, List, [], replicate, Option, None, Some, Result, IfErr, IfOk, OnOk, length, map, ◌-◌, Contains, if◌then◌else◌, int_lt, unsigned_abs, take};
 ghost use Rattle.std.specs.Borrow.{MutBor};
 ghost use Rattle.std.specs.declared.io.Error.{Error as IoError};
 ghost use Rattle.sled_codec.specs.declared.result.Error.{Error};
-ghost use Rattle.sled_core.specs.Iterates.{Item};
+ghost use Rattle.sled_core.specs.Iterates.{Damage, EndsAt, GivesBehind, GivesOf, IsIteration, IsMissing, Item};
 ghost use Rattle.sled_core.specs.Iterators.{BorrowsLog, IsLogOf, IsNext, IsOnlyRead, IsOverLog};
 ghost use Rattle.std.specs.Int.{w64, cast_signed, cast_unsigned};
 ghost use Rattle.std.specs.List.{All};
@@ -18,7 +18,7 @@ ghost use Rattle.sled_store.specs.Device.{Trace, State, Left, Leaves, Crashed, s
 ghost use Rattle.sled_store.specs.Moments.{IsLater, LeavesOnly};
 ghost use Rattle.sled_store.specs.Script.{Performs};
 ghost use Rattle.sled_store.specs.Outdated.{IsNamedNow, NamesBlob};
-ghost use Rattle.sled_core.specs.Fits.{stable_end, KeepsAll, Awaits, FirstWaits, FitsInline, HasRecordOf, IsLeastOpen, IsUnchanged, IsUsedUpBelow, IsUsedUpFor, IsWritten, NoneOpen, blob_at, body_length, buffers_of, current_begin, device_of, fault_of, fillings_of, given_up_of, heads_of, held_len, holding_below, in_blob_of, is_moved, ledger_of, line_of, machine_at, message_for, message_rewriting, next_place, noted_in, open_of, open_places, pins_of, reserved_end, sealing_end, segment_size_of, start_behind, start_of, synced_end, target_of, waiting_behind, waiting_of, writing_below, writing_pending, writing_some};
+ghost use Rattle.sled_core.specs.Fits.{stable_end, KeepsAll, Awaits, FirstWaits, FitsInline, HasRecordOf, IsLeastOpen, IsUnchanged, IsUsedUpBelow, IsUsedUpFor, IsWritten, NoneOpen, blob_at, body_length, buffers_of, current_begin, device_of, fault_of, fillings_of, given_up_of, heads_of, held_len, holding_below, in_blob_of, is_moved, ledger_for, ledger_of, line_of, machine_at, message_for, message_rewriting, next_place, noted_in, open_of, open_places, pins_of, reserved_end, sealing_end, segment_size_of, start_behind, start_of, synced_end, target_of, waiting_behind, waiting_of, writing_below, writing_pending, writing_some};
 ghost use Rattle.sled_core.specs.invariants.Fits.{Holds};
 ghost use Rattle.sled_codec.specs.Snapshots.{SnapshotModel, empty_model, stable_place};
 ghost use Rattle.sled_store.specs.Begin.{offset_at, place_at};
@@ -28,8 +28,8 @@ ghost use Rattle.sled_core.specs.HeaderMark.{mark_at};
 ghost use Rattle.sled_core.specs.Account.{account_behind};
 ghost use Rattle.sled_core.specs.Freeing.{Ledger};
 ghost use Rattle.sled_core.specs.Fronts.{synced_writes, syncs};
-ghost use Rattle.sled_core.specs.Ledger.{ledger_behind};
-ghost use Rattle.sled_core.specs.ReadBuffer.{settling};
+ghost use Rattle.sled_core.specs.Ledger.{ledger_behind, writings};
+ghost use Rattle.sled_core.specs.ReadBuffer.{ledger_at, settling};
 ghost use Rattle.sled_core.specs.Waiting.{BufferAt, HasLength, spans, write_around, write_pending, writes_below};
 ghost use Rattle.sled_core.specs.WholeBuffers.{IsWholeBuffer};
 ghost use Rattle.sled_core.specs.Batches.{LiesInNoFilling};
@@ -38,6 +38,9 @@ ghost use Rattle.sled_core.specs.Keeps.{GoesOn, KeepsSeen, Preserves};
 ghost use Rattle.sled_core.specs.Reasons.{ReserveFails, TellsOf, WriteFails};
 ghost use Rattle.sled_core.specs.Reading.{IsInline};
 ghost use Rattle.sled_core.specs.Ready.{IsReady};
+ghost use Rattle.sled_core.specs.declared.iterator.Segment.{Segment};
+ghost use Rattle.sled_core.specs.Replayed.{IsDamagedBefore, IsReplayed};
+ghost use Rattle.sled_core.specs.Tail.{Scanned};
 ghost use Rattle.sled_core.specs.Recoverable.{NoForeign, ReadsOnlyOwn, RecoverableIfOwn, LeavesRecoverable, NoHeaderOfZeros};
 ghost use Rattle.sled_core.specs.invariants.Recoverable.{Recoverable};
 ghost use Rattle.sled_core.specs.OnFile.{HasSegment};
@@ -193,7 +196,7 @@ pub fn a_call_fails_for_its_own_reasons<T, D: Device, C: Checksum>()
 {}
 
 /// While a pin is out no segment is freed: the calls that write buffers are one write and one sync for each, so that as many syncs were made as
-/// buffers were written, and the slots stay.
+/// buffers were written, and the slots stay. It is out at each ledger at which a call begins, whether the call seals the current buffer or not.
 pub fn a_pin_defers_freeing<D: Device, C: Checksum>()
     ensures below { (log : Log D C) (to : ℕ) → 0 < pins_of log → writing_below C.sum_of log to ≡ writes_below to (buffers_of C.sum_of log) }
     ensures some { (log : Log D C) (to count : ℕ) → 0 < pins_of log
@@ -201,9 +204,10 @@ pub fn a_pin_defers_freeing<D: Device, C: Checksum>()
     ensures pending { (log : Log D C) (i : ℕ) → 0 < pins_of log → writing_pending log i ≡ write_pending i (waiting_of log) }
     ensures around { (log : Log D C) (lsn : ℤ) → 0 < pins_of log → settling C.sum_of log lsn
         ≡ (if int_lt lsn (pos (synced_end log)) then [] else write_around (unsigned_abs lsn) (buffers_of C.sum_of log)) }
-    ensures slots { (log : Log D C) (bs : List BufferAt) → 0 < pins_of log
-        → (ledger_behind (segment_size_of log) bs (ledger_of log)).machine ≡ machine_at log }
-    ensures synced { (log : Log D C) (to count : ℕ) (old new : Trace) → 0 < pins_of log → Performs (writing_below C.sum_of log to) old new
+    ensures pinned { (log : Log D C) (at : ℕ) → 0 < pins_of log → ((ledger_of log).account.pinned ≡ true)
+        × ((ledger_for at log).account.pinned ≡ true) × ((ledger_at at log).account.pinned ≡ true) }
+    ensures slots { (size : ℕ) (bs : List BufferAt) (l : Ledger) → l.account.pinned ≡ true → (ledger_behind size bs l).machine ≡ l.machine }
+    ensures synced { (size count : ℕ) (bs : List BufferAt) (l : Ledger) (old new : Trace) → l.account.pinned ≡ true → Performs (writings size bs l) old new
         → synced_writes new ≡ count + synced_writes old → syncs new ≡ count + syncs old }
 {}
 
@@ -406,4 +410,17 @@ pub fn an_iterator_only_reads_its_log<D: Device, C: Checksum>()
     ensures back { (entry : MutBor (Log D C)) (it : LogIter D C) (result : Option (MutBor (Log D C)))
         → IsOverLog D.trace C.sum_of entry it → IsLogOf it result
         → (r : MutBor (Log D C)) × (result ≡ Some r) × (r.ghost_name ≡ entry.ghost_name) × IsOnlyRead D.trace C.sum_of entry.now r.now }
+{}
+
+/// A segment is read in one way. So one reading of it says what an iterator gives of it and of those behind it: up to a batch that is
+/// open or to its end, or up to a damaged record. It must have its header where the iterator is strict.
+pub fn one_reading_says_what_is_given()
+    ensures replayed { (sum : List ℕ → ℕ) (size : ℕ) (log : List ℕ) (blobs : ℤ → Option (List ℕ)) (end : ℕ) (strict : Bool) (ss : List Segment)
+        (items : List Item) (damage : Damage) (x : Scanned) → (IsMissing strict sum log x.segment → ⊥) → IsReplayed sum size log end x
+        → GivesOf sum blobs end x.met (GivesBehind strict x.why (IsIteration sum size log blobs end strict ss)) items damage
+        → IsIteration sum size log blobs end strict (x.segment ∷ ss) items damage }
+    ensures damaged { (sum : List ℕ → ℕ) (size : ℕ) (log : List ℕ) (blobs : ℤ → Option (List ℕ)) (end : ℕ) (strict : Bool) (s : Segment) (ss : List Segment)
+        (items : List Item) (damage : Damage) → (IsMissing strict sum log s → ⊥) → (d : IsDamagedBefore sum size log end s)
+        → GivesOf sum blobs end d.met (EndsAt end (s.place + d.next)) items damage
+        → IsIteration sum size log blobs end strict (s ∷ ss) items damage }
 {}

@@ -26,7 +26,7 @@ use Rattle.sled_core.specs.Tail.{Scanned, open_at}
 use Rattle.sled_core.proofs.Iterated.Given.{AreGiven, GivesInline, met_inline, messages_given}
 use Rattle.sled_core.proofs.Iterated.Listed.{listed_of, listed_has, listed_rises}
 use Rattle.sled_core.proofs.Iterated.ReadHere.{IsReadHere}
-use Rattle.sled_core.proofs.Iterates.OneReplay.{IsNothing, damaged_further, gives_as, replayed_ends, replayed_further, replayed_gives, replayed_undamaged}
+use Rattle.sled_core.proofs.Iterates.OneReplay.{IsNothing, damaged_further, iteration_replayed, replayed_further}
 use Rattle.sled_core.proofs.Reached.ReachedEntries.{path_to}
 use Rattle.sled_core.proofs.Tail.Multiples.{put_down, apart, lower_multiple, one_multiple}
 use Rattle.sled_core.proofs.Tail.OneTail.{Rises}
@@ -62,11 +62,6 @@ apart_among ys lie (x ∷ xs) up there = (
 none_too : (o : Option ℕ) (P : Type 0) → P → IfNone o P
 none_too None P holds = holds
 none_too (Some at) P holds = tt
-
--- and what holds is put in another way
-none_as : {P Q : Type 0} (o : Option ℕ) → IfNone o P → (P → Q) → IfNone o Q
-none_as None holds so = so holds
-none_as (Some at) holds so = tt
 
 -- Behind a segment that leads on, or behind which nothing is given, that is given which is given of the others.
 behind_goes : (why : ScanEnd) (on : List Item → Damage → Type 0) (items : List Item) → (why ≢ Broken) ⊎ (items ≡ []) → on items None → GivesBehind true why on items None
@@ -197,19 +192,9 @@ module _ (sum : List ℕ → ℕ) (size : ℕ) (log : List ℕ) (some : 256 ≤ 
           let x : Scanned = record { segment = s; met = r.met; stop = r.stop; why = why } in
           let read : IsReplayed sum size log end x = (r.path, none_too (open_at end r.met) _ ends) in (
             own,
-            one_more On goes own given.1 (inr (
-              λ missing. missing first.header,
-              (
-                λ d. absurd (replayed_undamaged sum size log end x s refl read d),
-                λ y at again.
-                    gives_as sum size log end y.segment.slot y.segment.place blobs On
-                    (GivesBehind true y.why (IsIteration sum size log blobs end true ss)) y.met
-                    (none_as (open_at end y.met) (replayed_ends sum size log end y s at again x refl read)
-                    (λ same is d on. subst (λ (w : ScanEnd). GivesBehind true w (IsIteration sum size log blobs end true ss) is d) same on))
-                    (map item_of own ++ map item_of L) None
-                    (replayed_gives sum size log end y s at again blobs On x refl read (map item_of own ++ map item_of L) None given.1.gives),
-              ),
-            )),
+            one_more On goes own given.1
+                (iteration_replayed sum size log blobs end true s ss (λ missing. missing first.header) (map item_of own ++ map item_of L) None x refl read
+                given.1.gives),
           ))
       | inr far ↦ (
           let nothing : map item_of L ≡ [] = none_far far in

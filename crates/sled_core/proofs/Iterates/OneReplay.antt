@@ -1,5 +1,5 @@
 -- Up to a batch that is open, a segment is met in one way: what is given of it is so of each reading, and no reading has a damaged record before that. Where it
--- is read up to an iterator's end, so it is whatever stands behind that.
+-- is read up to an iterator's end, so it is whatever stands behind that. So one reading of a segment says what an iterator gives of it.
 use Rattle.std.proofs.Common.{◌≡◌, ◌⊎◌, ◌∙◌, ◌+◌, ◌/◌, ◌≤◌, ◌++◌, ◌||◌, nat_le, nat_lt, ℕ, ℤ, Bool, true, false, List, [], ◌∷◌, Option, Some, None, IfNone, if◌then◌else◌, refl, sym, ap, subst, arith, inl, inr}
 use Rattle.std.specs.Bool.{MatchBool}
 use Rattle.std.proofs.lemmas.Bool.Decides.{nat_tests}
@@ -10,7 +10,7 @@ use Rattle.sled_core.specs.Reading.{IsMalformed}
 use Rattle.sled_core.specs.Scan.{IsEnd, IsMet, IsPath, IsScan}
 use Rattle.sled_core.specs.Replayed.{IsReplayed, HasBadBlob, NamesBlobOf, with_blob, IsDamagedBefore}
 use Rattle.sled_core.specs.Tail.{Scanned, opens, open_at}
-use Rattle.sled_core.specs.Iterates.{Item, Damage, EndsAt, IsNamed, items_of, stops, GivesOf}
+use Rattle.sled_core.specs.Iterates.{Item, Damage, EndsAt, IsNamed, items_of, stops, GivesOf, GivesBehind, IsMissing, IsIteration}
 use Rattle.sled_core.proofs.Tail.OneReading.{one_met, met_formed, no_end_at, end_formed, one_scan, path_begins}
 
 -- what holds by a test, where another thing does in the second case
@@ -36,6 +36,11 @@ open_before end (m ∷ ms) rest none =
 if_none_so : {A : Type 0} (o : Option A) (P : Type 0) → (o ≡ None → P) → IfNone o P
 if_none_so None P so = so refl
 if_none_so (Some a) P so = tt
+
+-- and what holds is put in another way
+none_as : {P Q : Type 0} (o : Option ℕ) → IfNone o P → (P → Q) → IfNone o Q
+none_as None holds so = so holds
+none_as (Some at) holds so = tt
 
 -- a record that doesn't stop an iterator begins no batch that is open
 pub no_stop : (end : ℕ) (m : ScannedRecord) → stops end m ≡ false → opens end m.what ≡ false
@@ -121,6 +126,43 @@ module _ (sum : List ℕ → ℕ) (size : ℕ) (log : List ℕ) (end slot place 
       let parts = none_open end n ns none in
       undamaged (at + m.len) ms stop why ns next path.3 (shut end m ms (IsEnd sum size log slot place stop why) (ap (λ (y : ScannedRecord). opens end y.what) (sym same) ∙ parts.0) ends)
       (subst (λ k. Path k ns next) len other.3) parts.1 room bad
+
+  module _ (blobs : ℤ → Option (List ℕ)) where
+    -- what is given before one damaged record is given before another one
+    gives_of_damaged : (at : ℕ) (ms : List ScannedRecord) (next : ℕ) (ns : List ScannedRecord) (last : ℕ) → Path at ms next → Path at ns last
+        → IsMalformed sum size log (slot + next) (place / size) → IsMalformed sum size log (slot + last) (place / size)
+        → (items : List Item) (damage : Damage) → GivesOf sum blobs end ns (EndsAt end (place + last)) items damage
+        → GivesOf sum blobs end ms (EndsAt end (place + next)) items damage
+    gives_of_damaged at [] next [] last path other bad worse items damage gives =
+        subst (λ k. EndsAt end (place + k) items damage) (other ∙ sym path) gives
+    gives_of_damaged at [] next (n ∷ ns) last path other bad worse items damage gives =
+        absurd (met_formed sum size log (slot + at) (place / size) n other.2
+        (subst (λ k. IsMalformed sum size log (slot + k) (place / size)) path bad))
+    gives_of_damaged at (m ∷ ms) next [] last path other bad worse items damage gives =
+        absurd (met_formed sum size log (slot + at) (place / size) m path.2
+        (subst (λ k. IsMalformed sum size log (slot + k) (place / size)) other worse))
+    gives_of_damaged at (m ∷ ms) next (n ∷ ns) last path other bad worse items damage gives =
+        let same : n ≡ m = one_met sum size log (slot + at) (place / size) n other.2 m path.2 (other.1 ∙ sym path.1) in
+        let len : at + n.len ≡ at + m.len = ap (λ (y : ScannedRecord). at + y.len) same in
+        let from : List Item → Damage → Type 0 = EndsAt end (place + last) in
+        let to : List Item → Damage → Type 0 = EndsAt end (place + next) in
+        let Left : (List Item → Damage → Type 0) → List ScannedRecord → Type 0 = λ on ks.
+        (HasBadBlob sum blobs m.what × (items ≡ []) × IsNamed (NamesBlobOf sum blobs m.what) damage)
+        ⊎ ((HasBadBlob sum blobs m.what → ⊥)
+        × ((rest : List Item) × (items ≡ items_of m (with_blob blobs m.what) ++ rest) × GivesOf sum blobs end ks on rest damage)) in
+        second_case (stops end m) ((items ≡ []) × (damage ≡ None)) (Left from ns) (Left to ms)
+        (λ end_not left. elim left [
+          | inl it ↦ inl it
+          | inr on ↦ inr (
+            on.0,
+            (
+              on.1.0,
+              on.1.1,
+              gives_of_damaged (at + m.len) ms next ns last path.3 (subst (λ k. Path k ns last) len other.3) bad worse on.1.0 damage on.1.2,
+            ),
+          )
+        ])
+        (subst (λ (y : ScannedRecord). GivesOf sum blobs end (y ∷ ns) from items damage) same gives)
 
   -- What is given of a reading that comes up to the end is given of each one that goes on: what stands behind that is not given.
   module _ (blobs : ℤ → Option (List ℕ)) (others : List Item → Damage → Type 0) where
@@ -231,3 +273,37 @@ module _ (sum : List ℕ → ℕ) (size : ℕ) (log : List ℕ) (end : ℕ) (s :
             (subst (λ (o : Option ℕ). IfNone o (IsEnd sum size log s.slot s.place x.stop x.why)) none there.1),
         λ behind. nothing,
       ))) items damage gives
+
+-- What an iterator gives of segments, by one reading of the first: up to a batch that is open or to its end, or up to a damaged record.
+module _ (sum : List ℕ → ℕ) (size : ℕ) (log : List ℕ) (blobs : ℤ → Option (List ℕ)) (end : ℕ) (strict : Bool) (s : Segment) (ss : List Segment)
+    (there : IsMissing strict sum log s → ⊥) (items : List Item) (damage : Damage) where
+  abbrev Behind : ScanEnd → List Item → Damage → Type 0
+  Behind why = GivesBehind strict why (IsIteration sum size log blobs end strict ss)
+
+  pub iteration_replayed : (x : Scanned) → x.segment ≡ s → IsReplayed sum size log end x → GivesOf sum blobs end x.met (Behind x.why) items damage
+      → IsIteration sum size log blobs end strict (s ∷ ss) items damage
+  iteration_replayed x at read gives =
+      inr (
+        there,
+        (
+          λ d. absurd (replayed_undamaged sum size log end x s at read d),
+          λ y same again.
+              gives_as sum size log end y.segment.slot y.segment.place blobs (Behind x.why) (Behind y.why) y.met
+              (none_as (open_at end y.met) (replayed_ends sum size log end y s same again x at read)
+              (λ why is d on. subst (λ (w : ScanEnd). Behind w is d) why on))
+              items damage
+              (replayed_gives sum size log end y s same again blobs (Behind x.why) x at read items damage gives),
+        ),
+      )
+
+  pub iteration_damaged : (d : IsDamagedBefore sum size log end s) → GivesOf sum blobs end d.met (EndsAt end (s.place + d.next)) items damage
+      → IsIteration sum size log blobs end strict (s ∷ ss) items damage
+  iteration_damaged d gives =
+      inr (
+        there,
+        (
+          λ e.
+              gives_of_damaged sum size log end s.slot s.place blobs 20 e.met e.next d.met d.next e.path d.path e.damaged d.damaged items damage gives,
+          λ x at read. absurd (replayed_undamaged sum size log end x s at read d),
+        ),
+      )

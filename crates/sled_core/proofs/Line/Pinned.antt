@@ -6,13 +6,14 @@ use Rattle.sled_store.specs.Device.{Event, Synced, Trace, Wrote}
 use Rattle.sled_store.specs.Script.{Performs, Stops}
 use Rattle.sled_core.specs.Account.{account_of}
 use Rattle.sled_core.specs.declared.logger.Log.{Log}
-use Rattle.sled_core.specs.Fits.{buffers_of, current_begin, ledger_for, ledger_of, ledger_sealed, machine_at, pins_of, segment_size_of, synced_end, waiting_of, writing_below, writing_pending, writing_some}
+use Rattle.sled_core.specs.Fits.{buffers_of, current_begin, ledger_for, ledger_of, ledger_sealed, pins_of, segment_size_of, synced_end, waiting_of, writing_below, writing_pending, writing_some}
 use Rattle.sled_core.specs.Fronts.{synced_writes, syncs}
-use Rattle.sled_core.specs.Ledger.{ledger_behind}
+use Rattle.sled_core.specs.Freeing.{Ledger}
+use Rattle.sled_core.specs.Ledger.{writings}
 use Rattle.sled_core.specs.ReadBuffer.{ledger_at, settling}
 use Rattle.sled_core.specs.Waiting.{BufferAt, free_around, free_below, one_pending, write_around, write_pending, writes_below}
 use Rattle.sled_core.proofs.Line.CameFar.{torn_unsynced, torn_unwritten}
-use Rattle.sled_core.proofs.Line.PinnedWrites.{around_plainly, below_plainly, machine_pinned, pending_plainly, plainly, take_plainly, writings_pinned}
+use Rattle.sled_core.proofs.Line.PinnedWrites.{around_plainly, below_plainly, pending_plainly, plainly, take_plainly, writings_pinned}
 
 module _ {D C : Type 0} (log : Log D C) (out : 0 < pins_of log) where
   pinned : (account_of log).pinned ≡ true
@@ -44,8 +45,9 @@ module _ {D C : Type 0} (log : Log D C) (out : 0 < pins_of log) where
       ap (λ (es : List Event). if int_lt lsn (pos (synced_end log)) then [] else es)
       (writings_pinned (segment_size_of log) (free_around at bs) (ledger_at at log) (pinned_either (nat_le (current_begin log) at)) ∙ sym (around_plainly at bs))
 
-  pub pinned_slots : (bs : List BufferAt) → (ledger_behind (segment_size_of log) bs (ledger_of log)).machine ≡ machine_at log
-  pinned_slots bs = machine_pinned (segment_size_of log) bs (ledger_of log) pinned
+  -- It is out at each ledger at which a call that writes begins.
+  pub pinned_at : (at : ℕ) → ((ledger_of log).account.pinned ≡ true) × ((ledger_for at log).account.pinned ≡ true) × ((ledger_at at log).account.pinned ≡ true)
+  pinned_at at = (pinned, pinned_either (nat_lt (current_begin log) at), pinned_either (nat_le (current_begin log) at))
 
 -- What a call that failed left is no sync.
 stopped : (e : Event) (old new : Trace) → Stops e old new → (syncs new ≡ syncs old) × (synced_writes new ≡ synced_writes old)
@@ -61,9 +63,8 @@ plainly_synced (b ∷ bs) old new (inl stops) = let same = stopped (Wrote b.lid 
 plainly_synced (b ∷ bs) old new (inr (inl stops)) = let same = stopped Synced (Wrote b.lid b.bytes b.bytes ∷ old) new stops in omega (arith, same.0, same.1)
 plainly_synced (b ∷ bs) old new (inr (inr rest)) = let more = plainly_synced bs (Synced ∷ Wrote b.lid b.bytes b.bytes ∷ old) new rest in omega (arith, more)
 
-pub pinned_synced : {D C : Type 0} (log : Log D C) → 0 < pins_of log → (sum : List ℕ → ℕ) (to count : ℕ) (old new : Trace) → Performs (writing_below sum log to) old new
+pub pinned_synced : (size count : ℕ) (bs : List BufferAt) (l : Ledger) (old new : Trace) → l.account.pinned ≡ true → Performs (writings size bs l) old new
     → synced_writes new ≡ count + synced_writes old → syncs new ≡ count + syncs old
-pinned_synced log out sum to count old new made written =
-    let calls : writing_below sum log to ≡ plainly (free_below to (buffers_of sum log)) = pinned_below log out sum to ∙ below_plainly to (buffers_of sum log) in
-    let both = plainly_synced (free_below to (buffers_of sum log)) old new (subst (λ (es : List Event). Performs es old new) calls made) in
+pinned_synced size count bs l old new pinned made written =
+    let both = plainly_synced bs old new (subst (λ (es : List Event). Performs es old new) (writings_pinned size bs l pinned) made) in
     omega (arith, both, written)

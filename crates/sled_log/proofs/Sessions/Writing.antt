@@ -22,7 +22,7 @@ use Rattle.sled_core.proofs.Line.Among.{among_behind}
 use Rattle.sled_core.specs.Begun.{begin_of, segment_view}
 use Rattle.sled_core.specs.Causes.{Answers, HeldAnswers, IsHeld, OnDone}
 use Rattle.sled_core.specs.declared.logger.Log.{Log}
-use Rattle.sled_core.specs.Fits.{FirstWaits, IsUsedUp, IsUsedUpBelow, KeepsTickets, buffers_of, current_begin, current_of, device_of, fault_of, given_up_of, held_len, holding_below, noted_in, open_places, pending_of, pins_of, position_of, reserved_end, sealing_end, segment_size_of, stable_end, start_of, synced_end, waiting_of, writing_below, fillings_of, heads_of}
+use Rattle.sled_core.specs.Fits.{FirstWaits, IsUsedUp, IsUsedUpBelow, KeepsTickets, buffers_of, current_begin, current_of, device_of, fault_of, given_up_of, held_len, holding_below, ledger_for, noted_in, open_places, pending_of, pins_of, position_of, reserved_end, sealing_end, segment_size_of, stable_end, start_of, synced_end, waiting_of, writing_below, fillings_of, heads_of}
 use Rattle.sled_core.specs.Fronts.{CameTo, synced_writes, syncs}
 use Rattle.sled_core.specs.Among.{AreAmong}
 use Rattle.sled_core.specs.Keeps.{LeavesAbove, Preserves, SamePosition, sealed_for, start_for, start_sealed}
@@ -32,7 +32,7 @@ use Rattle.sled_core.specs.invariants.Running.{Fits}
 use Rattle.sled_core.specs.Running.{end_below}
 use Rattle.sled_core.specs.SealedBuffers.{writing}
 use Rattle.sled_core.specs.OpenBatches.{not_whole, stable_below}
-use Rattle.sled_core.specs.Waiting.{BufferAt, BufferStart, HasLength, Span, first_held, held_below, is_unheld, not_below, pending_in, spans, unless_held, without_pending, writes_below}
+use Rattle.sled_core.specs.Waiting.{BufferAt, BufferStart, HasLength, Span, first_held, free_below, held_below, is_unheld, not_below, pending_in, spans, unless_held, without_pending, writes_below}
 use Rattle.sled_core.specs.inside.Waiting.{begun_below}
 use Rattle.sled_core.specs.WholeBuffers.{AreRecordsAmong, IsWholeBuffer, RecordParts}
 use Rattle.sled_core.proofs.Line.Entered.{filled_last}
@@ -40,7 +40,7 @@ use Rattle.sled_core.proofs.Holds.Facts.{current_facts}
 use Rattle.sled_core.proofs.Line.Positions.{end_seen, next_seen}
 use Rattle.sled_core.proofs.Line.Settles.{stable_up}
 use Rattle.sled_core.proofs.Line.Shows.{buffers_add}
-use Rattle.sled_core.proofs.PublicLaws.{buffers_held, buffers_whole, first_waits, fits_holds, pinned_below, pinned_some, pinned_synced, shows_current, shows_empty, shows_long}
+use Rattle.sled_core.proofs.PublicLaws.{buffers_held, buffers_whole, first_waits, fits_holds, pinned_at, pinned_below, pinned_some, pinned_synced, shows_current, shows_empty, shows_long}
 use Rattle.sled_core.proofs.Reached.OpenBatch.{whole_not}
 use Rattle.sled_log.specs.declared.session.opened.Opened.{Opened}
 use Rattle.sled_log.specs.declared.session.command.Refusal.{Refusal}
@@ -456,7 +456,9 @@ module _ {D C : Type 0} (log : Log D C) (sum : List ℕ → ℕ) (begun : ℕ) (
                   buffers = its_buffers;
                   shown = shows_below records;
                   made = made;
-                  synced = pinned_synced log out sum to front.count device.trace now.trace (subst (λ (es : List Event). Performs es device.trace now.trace) (sym (writes_seen out)) made)
+                  synced = pinned_synced (segment_size_of log) front.count (free_below to (buffers_of sum log)) (ledger_for to log) device.trace now.trace
+                      (pinned_at log out to).1
+                      (subst (λ (es : List Event). Performs es device.trace now.trace) (sym (writes_seen out)) made)
                       (ap synced_writes is ∙ front.written ∙ ap (λ (t : Trace). front.count + synced_writes t) (sym was));
                   whole = λ sound. is ∙ front.whole sound
                       ∙ (λ i. after_all ((pinned_some log out sum to front.count ∙ ap (take (2 * front.count)) (below_writes to (buffers_of sum log))) i) (sym was i));

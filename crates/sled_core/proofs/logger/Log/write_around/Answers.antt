@@ -1,10 +1,12 @@
 -- The segment that has the place is looked at, and in it the first sealed buffer that ends behind it.
-use Rattle.std.proofs.Common.{rules, ◌≡◌, ◌∙◌, ◌≤◌, ◌+◌, None, ap, sym, refl, arith, w64, SFits, List, subst, length}
+use Rattle.std.proofs.Common.{rules, ◌≡◌, ◌∙◌, ◌≤◌, ◌+◌, ap, sym, refl, arith, w64, SFits, ℕ, pos, List, [], Some, subst, drop, length}
 use Rattle.std.proofs.lemmas.Int.{to_z-of_z}
 use Rattle.sled_store.specs.Device.{Event}
 use Rattle.sled_store.specs.Script.{Performs, after_all}
 use Rattle.sled_store.proofs.Traces.ScriptLemmas.{performs_nothing}
+use Rattle.sled_core.specs.Buffers.{first_open_in}
 use Rattle.sled_core.specs.Fits.{segment_size_of, start_of}
+use Rattle.sled_core.specs.ReadBuffer.{held_at, settling}
 use Rattle.sled_core.proofs.Line.KeptCalls.{writing_still}
 use Rattle.sled_core.specs.inside.Marked.{KeepsSegment}
 use Rattle.sled_core.proofs.Line.CameFar.{on_err_both}
@@ -12,33 +14,37 @@ use Rattle.sled_core.proofs.Line.HeaderMarks.{segment_same, segment_written}
 use Rattle.sled_core.proofs.Line.LogSpans.{same_buffers, written_starts}
 use Rattle.sled_core.proofs.Line.MarksJoin.{joins_same}
 use Rattle.sled_core.proofs.Line.Outcomes.{answers_free, done_free, either, on_ok}
-use Rattle.sled_core.proofs.Line.Settles.{found_early, found_gone, found_held, held_at_found, held_none, inside, is_ready_there, ledger_it, ledger_still, looks, nothing_waits, number_within, settling_found, settling_it, some_held, without_still, wrote_all, wrote_place, wrote_without, written_found}
+use Rattle.sled_core.proofs.Line.Settles.{CanWrite, IsStill, LooksAt, found_held, held_none, inside, is_ready_there, ledger_it, looks, number_within, settling_it, some_held, still_early, still_gone, wrote_all, wrote_place, wrote_without}
+use Rattle.sled_core.proofs.logger.Log.write_around.Given.{Over}
 use Rattle.sled_core.proofs.logger.Log.write_around.Goals as goal
 
 pub segment-requires : goal.segment-requires
 segment-requires g c =
     let log = c.args.self.now in
     let behind = c.requires.behind in
-    subst (λ k. k ≤ length log.segments.behind.items) (sym c.segment_of-n.ensures) (number_within log c.args.place (omega (arith, behind)) c.requires.sealed)
+    subst (λ k. k ≤ length log.segments.behind.items) (sym c.segment_of-n.ensures)
+    (number_within log c.args.place (omega (arith, behind)) c.requires.sealed)
 
 pub around-k-requires-clause-sealed : goal.around-k-requires-clause-sealed
 around-k-requires-clause-sealed g c =
-    let looked = looks c.args.self.now c.args.place c.segment_of-n.result c.segment.result.0 c.segment.result.1.now c.requires.behind c.requires.sealed c.segment_of-n.ensures c.segment.ensures.view c.segment.ensures.place in
+    let looked = looks c.args.self.now c.requires.behind c.requires.sealed c.segment_of-n.ensures c.segment.ensures.view c.segment.ensures.place in
     let low = looked.low in
-    let up = inside c.args.self.now c.args.place looked in
+    let up = inside looked in
     omega (arith, low, up)
 
 -- It lies in what was written without a gap.
 
+early : (g : Over) (c : goal.Then-at-buffer g) → IsStill c.args.self.now c.args.place
+early g c =
+    still_early (looks c.args.self.now c.requires.behind c.requires.sealed c.segment_of-n.ensures c.segment.ensures.view c.segment.ensures.place)
+    c.if-at-buffer.true
+
 pub returns-then-at-buffer-clause-written : goal.returns-then-at-buffer-clause-written
-returns-then-at-buffer-clause-written g c =
-    let looked = looks c.args.self.now c.args.place c.segment_of-n.result c.segment.result.0 c.segment.result.1.now c.requires.behind c.requires.sealed c.segment_of-n.ensures c.segment.ensures.view c.segment.ensures.place in
-    written_found c.args.self.now c.args.place looked (found_early c.args.self.now c.args.place looked c.if-at-buffer.true)
+returns-then-at-buffer-clause-written g c = (early g c).written
 
 pub returns-then-at-buffer-clause-calls : goal.returns-then-at-buffer-clause-calls
 returns-then-at-buffer-clause-calls g c =
-    let looked = looks c.args.self.now c.args.place c.segment_of-n.result c.segment.result.0 c.segment.result.1.now c.requires.behind c.requires.sealed c.segment_of-n.ensures c.segment.ensures.view c.segment.ensures.place in
-    sym (ap (λ (es : List Event). after_all es (g.D.Device.trace c.args.self.now.config.device)) (settling_found c.args.self.now c.args.place looked g.C.Checksum.sum_of None (found_early c.args.self.now c.args.place looked c.if-at-buffer.true)))
+    sym (ap (λ (es : List Event). after_all es (g.D.Device.trace c.args.self.now.config.device)) ((early g c).calls g.C.Checksum.sum_of))
 
 pub returns-then-at-buffer-clause-at_most : goal.returns-then-at-buffer-clause-at_most
 returns-then-at-buffer-clause-at_most g c = performs_nothing _ _ _ refl
@@ -47,31 +53,30 @@ pub returns-then-at-buffer-clause-keeps : goal.returns-then-at-buffer-clause-kee
 returns-then-at-buffer-clause-keeps g c = writing_still g.D.Device.trace g.C.Checksum.sum_of c.args.self.now
 
 pub returns-then-at-buffer-clause-answers : goal.returns-then-at-buffer-clause-answers
-returns-then-at-buffer-clause-answers g c =
-    let looked = looks c.args.self.now c.args.place c.segment_of-n.result c.segment.result.0 c.segment.result.1.now c.requires.behind c.requires.sealed c.segment_of-n.ensures c.segment.ensures.view c.segment.ensures.place in
-    (held_at_found c.args.self.now c.args.place looked g.C.Checksum.sum_of None (found_early c.args.self.now c.args.place looked c.if-at-buffer.true), (λ never. never), refl, c.requires.fault, refl)
+returns-then-at-buffer-clause-answers g c = ((early g c).held g.C.Checksum.sum_of, (λ never. never), refl, c.requires.fault, refl)
 
 pub returns-then-at-buffer-clause-one : goal.returns-then-at-buffer-clause-one
-returns-then-at-buffer-clause-one g c = λ all.
-    let looked = looks c.args.self.now c.args.place c.segment_of-n.result c.segment.result.0 c.segment.result.1.now c.requires.behind c.requires.sealed c.segment_of-n.ensures c.segment.ensures.view c.segment.ensures.place in
-    nothing_waits c.args.self.now c.args.place looked (found_early c.args.self.now c.args.place looked c.if-at-buffer.true) all
+returns-then-at-buffer-clause-one g c = (early g c).alone
 
 pub returns-then-at-buffer-clause-without : goal.returns-then-at-buffer-clause-without
-returns-then-at-buffer-clause-without g c =
-    let looked = looks c.args.self.now c.args.place c.segment_of-n.result c.segment.result.0 c.segment.result.1.now c.requires.behind c.requires.sealed c.segment_of-n.ensures c.segment.ensures.view c.segment.ensures.place in
-    without_still c.args.self.now c.args.place looked (found_early c.args.self.now c.args.place looked c.if-at-buffer.true)
+returns-then-at-buffer-clause-without g c = (early g c).without
+
+pub returns-then-at-buffer-clause-ledger : goal.returns-then-at-buffer-clause-ledger
+returns-then-at-buffer-clause-ledger g c = (early g c).ledger
 
 -- That buffer is written.
 
+gone : (g : Over) (c : goal.Then-b g) → IsStill c.args.self.now c.args.place
+gone g c =
+    still_gone (looks c.args.self.now c.requires.behind c.requires.sealed c.segment_of-n.ensures c.segment.ensures.view c.segment.ensures.place)
+    (record { above = c.if-at-buffer.false; there = c.around-k.ensures.there; point = c.around-k.ensures.point }) c.if-b.true
+
 pub returns-then-b-clause-written : goal.returns-then-b-clause-written
-returns-then-b-clause-written g c =
-    let looked = looks c.args.self.now c.args.place c.segment_of-n.result c.segment.result.0 c.segment.result.1.now c.requires.behind c.requires.sealed c.segment_of-n.ensures c.segment.ensures.view c.segment.ensures.place in
-    written_found c.args.self.now c.args.place looked (found_gone c.args.self.now c.args.place looked c.around-k.result.0 c.around-k.result.1 c.if-at-buffer.false c.around-k.ensures.there c.around-k.ensures.point c.if-b.true)
+returns-then-b-clause-written g c = (gone g c).written
 
 pub returns-then-b-clause-calls : goal.returns-then-b-clause-calls
 returns-then-b-clause-calls g c =
-    let looked = looks c.args.self.now c.args.place c.segment_of-n.result c.segment.result.0 c.segment.result.1.now c.requires.behind c.requires.sealed c.segment_of-n.ensures c.segment.ensures.view c.segment.ensures.place in
-    sym (ap (λ (es : List Event). after_all es (g.D.Device.trace c.args.self.now.config.device)) (settling_found c.args.self.now c.args.place looked g.C.Checksum.sum_of None (found_gone c.args.self.now c.args.place looked c.around-k.result.0 c.around-k.result.1 c.if-at-buffer.false c.around-k.ensures.there c.around-k.ensures.point c.if-b.true)))
+    sym (ap (λ (es : List Event). after_all es (g.D.Device.trace c.args.self.now.config.device)) ((gone g c).calls g.C.Checksum.sum_of))
 
 pub returns-then-b-clause-at_most : goal.returns-then-b-clause-at_most
 returns-then-b-clause-at_most g c = performs_nothing _ _ _ refl
@@ -80,32 +85,37 @@ pub returns-then-b-clause-keeps : goal.returns-then-b-clause-keeps
 returns-then-b-clause-keeps g c = writing_still g.D.Device.trace g.C.Checksum.sum_of c.args.self.now
 
 pub returns-then-b-clause-answers : goal.returns-then-b-clause-answers
-returns-then-b-clause-answers g c =
-    let looked = looks c.args.self.now c.args.place c.segment_of-n.result c.segment.result.0 c.segment.result.1.now c.requires.behind c.requires.sealed c.segment_of-n.ensures c.segment.ensures.view c.segment.ensures.place in
-    (held_at_found c.args.self.now c.args.place looked g.C.Checksum.sum_of None (found_gone c.args.self.now c.args.place looked c.around-k.result.0 c.around-k.result.1 c.if-at-buffer.false c.around-k.ensures.there c.around-k.ensures.point c.if-b.true), (λ never. never), refl, c.requires.fault, refl)
+returns-then-b-clause-answers g c = ((gone g c).held g.C.Checksum.sum_of, (λ never. never), refl, c.requires.fault, refl)
 
 pub returns-then-b-clause-one : goal.returns-then-b-clause-one
-returns-then-b-clause-one g c = λ all.
-    let looked = looks c.args.self.now c.args.place c.segment_of-n.result c.segment.result.0 c.segment.result.1.now c.requires.behind c.requires.sealed c.segment_of-n.ensures c.segment.ensures.view c.segment.ensures.place in
-    nothing_waits c.args.self.now c.args.place looked (found_gone c.args.self.now c.args.place looked c.around-k.result.0 c.around-k.result.1 c.if-at-buffer.false c.around-k.ensures.there c.around-k.ensures.point c.if-b.true) all
+returns-then-b-clause-one g c = (gone g c).alone
 
 pub returns-then-b-clause-without : goal.returns-then-b-clause-without
-returns-then-b-clause-without g c =
-    let looked = looks c.args.self.now c.args.place c.segment_of-n.result c.segment.result.0 c.segment.result.1.now c.requires.behind c.requires.sealed c.segment_of-n.ensures c.segment.ensures.view c.segment.ensures.place in
-    without_still c.args.self.now c.args.place looked (found_gone c.args.self.now c.args.place looked c.around-k.result.0 c.around-k.result.1 c.if-at-buffer.false c.around-k.ensures.there c.around-k.ensures.point c.if-b.true)
+returns-then-b-clause-without g c = (gone g c).without
+
+pub returns-then-b-clause-ledger : goal.returns-then-b-clause-ledger
+returns-then-b-clause-ledger g c = (gone g c).ledger
 
 -- It has an open reservation.
 
 pub least_open-requires-clause-some : goal.least_open-requires-clause-some
 least_open-requires-clause-some g c =
-    let looked = looks c.args.self.now c.args.place c.segment_of-n.result c.segment.result.0 c.segment.result.1.now c.requires.behind c.requires.sealed c.segment_of-n.ensures c.segment.ensures.view c.segment.ensures.place in
-    some_held c.args.self.now c.args.place looked c.around-k.result.0 c.around-k.result.1 c.if-at-buffer.false c.around-k.ensures.there c.around-k.ensures.point (let some = c.if-b-gt0.true in omega (arith, some)) c.first_of-first.result c.first_of-first.ensures
+    some_held (looks c.args.self.now c.requires.behind c.requires.sealed c.segment_of-n.ensures c.segment.ensures.view c.segment.ensures.place)
+    (record { above = c.if-at-buffer.false; there = c.around-k.ensures.there; point = c.around-k.ensures.point })
+    (let some = c.if-b-gt0.true in omega (arith, some)) c.first_of-first.result c.first_of-first.ensures
+
+held_up : (g : Over) (c : goal.After-least_open g) → (from : ℕ)
+    × (first_open_in (drop c.first_of-first.result c.segment.result.1.now.reserved.items) ≡ Some from)
+    × (held_at g.C.Checksum.sum_of c.args.self.now (pos c.args.place) ≡ Some (c.segment.result.0.place + from))
+    × (settling g.C.Checksum.sum_of c.args.self.now (pos c.args.place) ≡ [])
+held_up g c =
+    found_held (looks c.args.self.now c.requires.behind c.requires.sealed c.segment_of-n.ensures c.segment.ensures.view c.segment.ensures.place)
+    (record { above = c.if-at-buffer.false; there = c.around-k.ensures.there; point = c.around-k.ensures.point })
+    c.if-b.false (let some = c.if-b-gt0.true in omega (arith, some)) g.C.Checksum.sum_of c.first_of-first.result c.first_of-first.ensures
 
 pub returns-then-b-gt0-clause-calls : goal.returns-then-b-gt0-clause-calls
 returns-then-b-gt0-clause-calls g c =
-    let looked = looks c.args.self.now c.args.place c.segment_of-n.result c.segment.result.0 c.segment.result.1.now c.requires.behind c.requires.sealed c.segment_of-n.ensures c.segment.ensures.view c.segment.ensures.place in
-    let held = found_held c.args.self.now c.args.place looked c.around-k.result.0 c.around-k.result.1 c.if-at-buffer.false c.around-k.ensures.there c.around-k.ensures.point c.if-b.false (let some = c.if-b-gt0.true in omega (arith, some)) g.C.Checksum.sum_of c.first_of-first.result c.first_of-first.ensures in
-    sym (ap (λ (es : List Event). after_all es (g.D.Device.trace c.args.self.now.config.device)) held.3)
+    sym (ap (λ (es : List Event). after_all es (g.D.Device.trace c.args.self.now.config.device)) (held_up g c).3)
 
 pub returns-then-b-gt0-clause-at_most : goal.returns-then-b-gt0-clause-at_most
 returns-then-b-gt0-clause-at_most g c = performs_nothing _ _ _ refl
@@ -115,90 +125,91 @@ returns-then-b-gt0-clause-keeps g c = writing_still g.D.Device.trace g.C.Checksu
 
 pub returns-then-b-gt0-clause-answers : goal.returns-then-b-gt0-clause-answers
 returns-then-b-gt0-clause-answers g c =
-    let looked = looks c.args.self.now c.args.place c.segment_of-n.result c.segment.result.0 c.segment.result.1.now c.requires.behind c.requires.sealed c.segment_of-n.ensures c.segment.ensures.view c.segment.ensures.place in
-    let held = found_held c.args.self.now c.args.place looked c.around-k.result.0 c.around-k.result.1 c.if-at-buffer.false c.around-k.ensures.there c.around-k.ensures.point c.if-b.false (let some = c.if-b-gt0.true in omega (arith, some)) g.C.Checksum.sum_of c.first_of-first.result c.first_of-first.ensures in
     let fits : SFits w64 c.least_open.result = search rules in
-    ((c.segment.result.0.place + held.0, held.2, to_z-of_z w64 c.least_open.result fits ∙ c.least_open.ensures held.0 held.1), (λ never. never), refl, c.requires.fault, refl)
+    let held = held_up g c in
+    let named = to_z-of_z w64 c.least_open.result fits ∙ c.least_open.ensures held.0 held.1 in
+    ((c.segment.result.0.place + held.0, held.2, named), (λ never. never), refl, c.requires.fault, refl)
+
+pub returns-then-b-gt0-clause-same : goal.returns-then-b-gt0-clause-same
+returns-then-b-gt0-clause-same g c = (refl, record { synced = refl; written = refl; still = λ sound. refl; account = refl }, refl)
 
 -- It is written.
 
+abbrev looked : (g : Over) (c : goal.After-write_buffer-arg-1 g) → LooksAt c.args.self.now c.args.place
+looked g c =
+    looks c.args.self.now c.requires.behind c.requires.sealed c.segment_of-n.ensures c.segment.ensures.view c.segment.ensures.place
+
+abbrev can : (g : Over) (c : goal.After-write_buffer-arg-1 g) → CanWrite (looked g c) c.around-k.result.0
+can g c = record {
+  buffer = c.around-k.result.1;
+  around = record { above = c.if-at-buffer.false; there = c.around-k.ensures.there; point = c.around-k.ensures.point };
+  fresh = c.if-b.false;
+  closed = (let none = c.if-b-gt0.false in omega (arith, none));
+}
+
 pub write_buffer-requires-clause-ready : goal.write_buffer-requires-clause-ready
-write_buffer-requires-clause-ready g c =
-    let looked = looks c.args.self.now c.args.place c.segment_of-n.result c.segment.result.0 c.segment.result.1.now c.requires.behind c.requires.sealed c.segment_of-n.ensures c.segment.ensures.view c.segment.ensures.place in
-    is_ready_there c.args.self.now c.args.place looked c.around-k.result.0 c.around-k.result.1 c.if-at-buffer.false c.around-k.ensures.there c.around-k.ensures.point c.if-b.false (let none = c.if-b-gt0.false in omega (arith, none))
+write_buffer-requires-clause-ready g c = is_ready_there (looked g c) (can g c)
 
 pub returns-clause-written : goal.returns-clause-written
 returns-clause-written g c =
-    let looked = looks c.args.self.now c.args.place c.segment_of-n.result c.segment.result.0 c.segment.result.1.now c.requires.behind c.requires.sealed c.segment_of-n.ensures c.segment.ensures.view c.segment.ensures.place in
-    on_ok c.write_buffer.result _ _ (λ wrote. wrote_place c.args.self.now c.args.place looked c.around-k.result.0 c.around-k.result.1 c.if-at-buffer.false c.around-k.ensures.there c.around-k.ensures.point c.if-b.false (let none = c.if-b-gt0.false in omega (arith, none)) c.write_buffer.new.self wrote) (c.write_buffer.ensures.line looked.segment looked.among)
+    let looked = looked g c.before in
+    on_ok c.write_buffer.result _ _ (wrote_place looked (can g c.before) c.write_buffer.new.self) (c.write_buffer.ensures.line looked.segment looked.among)
 
 pub returns-clause-calls : goal.returns-clause-calls
 returns-clause-calls g c =
-    let looked = looks c.args.self.now c.args.place c.segment_of-n.result c.segment.result.0 c.segment.result.1.now c.requires.behind c.requires.sealed c.segment_of-n.ensures c.segment.ensures.view c.segment.ensures.place in
-    done_free c.write_buffer.result _ _ _ _ _ (λ made. made ∙ ap (λ (es : List Event). after_all es (g.D.Device.trace c.args.self.now.config.device)) (settling_it c.args.self.now c.args.place looked c.around-k.result.0 c.around-k.result.1 c.if-at-buffer.false c.around-k.ensures.there c.around-k.ensures.point c.if-b.false (let none = c.if-b-gt0.false in omega (arith, none)) g.C.Checksum.sum_of))
+    let same = settling_it (looked g c.before) (can g c.before) g.C.Checksum.sum_of in
+    done_free c.write_buffer.result _ _ _ _ _
+    (λ made. made ∙ ap (λ (es : List Event). after_all es (g.D.Device.trace c.args.self.now.config.device)) same)
     c.write_buffer.ensures.answers c.write_buffer.ensures.calls
 
 pub returns-clause-at_most : goal.returns-clause-at_most
 returns-clause-at_most g c =
-    let looked = looks c.args.self.now c.args.place c.segment_of-n.result c.segment.result.0 c.segment.result.1.now c.requires.behind c.requires.sealed c.segment_of-n.ensures c.segment.ensures.view c.segment.ensures.place in
     subst (λ (es : List Event). Performs es (g.D.Device.trace c.args.self.now.config.device) (g.D.Device.trace c.write_buffer.new.self.config.device))
-    (settling_it c.args.self.now c.args.place looked c.around-k.result.0 c.around-k.result.1 c.if-at-buffer.false c.around-k.ensures.there c.around-k.ensures.point c.if-b.false (let none = c.if-b-gt0.false in omega (arith, none)) g.C.Checksum.sum_of) c.write_buffer.ensures.at_most
+    (settling_it (looked g c.before) (can g c.before) g.C.Checksum.sum_of) c.write_buffer.ensures.at_most
 
 pub returns-clause-answers : goal.returns-clause-answers
 returns-clause-answers g c =
-    let looked = looks c.args.self.now c.args.place c.segment_of-n.result c.segment.result.0 c.segment.result.1.now c.requires.behind c.requires.sealed c.segment_of-n.ensures c.segment.ensures.view c.segment.ensures.place in
-    answers_free c.write_buffer.result _ _ _ _ (held_none c.args.self.now c.args.place looked c.around-k.result.0 c.around-k.result.1 c.if-at-buffer.false c.around-k.ensures.there c.around-k.ensures.point c.if-b.false (let none = c.if-b-gt0.false in omega (arith, none)) g.C.Checksum.sum_of) c.write_buffer.ensures.answers
+    answers_free c.write_buffer.result _ _ _ _ (held_none (looked g c.before) (can g c.before) g.C.Checksum.sum_of) c.write_buffer.ensures.answers
 
 pub returns-clause-segment : goal.returns-clause-segment
 returns-clause-segment g c =
     let old = c.args.self.now in
     let new = c.write_buffer.new.self in
-    let looked = looks c.args.self.now c.args.place c.segment_of-n.result c.segment.result.0 c.segment.result.1.now c.requires.behind c.requires.sealed c.segment_of-n.ensures c.segment.ensures.view c.segment.ensures.place in
-    either c.write_buffer.result _ _ (KeepsSegment old new) (λ wrote. segment_written old new (segment_size_of old) c.segment_of-n.result c.around-k.result.0 looked.segment looked.among wrote)
+    let looked = looked g c.before in
+    either c.write_buffer.result _ _ (KeepsSegment old new)
+    (λ wrote. segment_written old new (segment_size_of old) c.segment_of-n.result c.around-k.result.0 looked.segment looked.among wrote)
     (λ same. segment_same old new same) (c.write_buffer.ensures.line looked.segment looked.among) c.write_buffer.ensures.same
 
 pub returns-clause-start : goal.returns-clause-start
 returns-clause-start g c =
     let old = c.args.self.now in
     let new = c.write_buffer.new.self in
-    let looked = looks c.args.self.now c.args.place c.segment_of-n.result c.segment.result.0 c.segment.result.1.now c.requires.behind c.requires.sealed c.segment_of-n.ensures c.segment.ensures.view c.segment.ensures.place in
-    either c.write_buffer.result _ _ (start_of new ≡ start_of old) (λ wrote. written_starts old new (segment_size_of old) c.segment_of-n.result looked.segment c.around-k.result.0 looked.among wrote)
+    let looked = looked g c.before in
+    either c.write_buffer.result _ _ (start_of new ≡ start_of old)
+    (λ wrote. written_starts old new (segment_size_of old) c.segment_of-n.result looked.segment c.around-k.result.0 looked.among wrote)
     (λ same. (same_buffers old new same).1) (c.write_buffer.ensures.line looked.segment looked.among) c.write_buffer.ensures.same
 
 pub returns-clause-without : goal.returns-clause-without
 returns-clause-without g c =
-    let looked = looks c.args.self.now c.args.place c.segment_of-n.result c.segment.result.0 c.segment.result.1.now c.requires.behind c.requires.sealed c.segment_of-n.ensures c.segment.ensures.view c.segment.ensures.place in
-    on_ok c.write_buffer.result _ _ (λ wrote. wrote_without c.args.self.now c.args.place looked c.around-k.result.0 c.around-k.result.1 c.if-at-buffer.false c.around-k.ensures.there c.around-k.ensures.point c.if-b.false (let none = c.if-b-gt0.false in omega (arith, none)) c.write_buffer.new.self wrote) (c.write_buffer.ensures.line looked.segment looked.among)
+    let looked = looked g c.before in
+    on_ok c.write_buffer.result _ _ (wrote_without looked (can g c.before) c.write_buffer.new.self) (c.write_buffer.ensures.line looked.segment looked.among)
 
 pub returns-clause-same : goal.returns-clause-same
-returns-clause-same g c = on_err_both c.write_buffer.result _ _ _ (λ same none. ((same_buffers c.args.self.now c.write_buffer.new.self same).0, none.0, none.1)) c.write_buffer.ensures.same c.write_buffer.ensures.unwritten
+returns-clause-same g c =
+    on_err_both c.write_buffer.result _ _ _ (λ same none. ((same_buffers c.args.self.now c.write_buffer.new.self same).0, none.0, none.1))
+    c.write_buffer.ensures.same c.write_buffer.ensures.unwritten
 
 pub returns-clause-one : goal.returns-clause-one
 returns-clause-one g c = λ all.
-    let looked = looks c.args.self.now c.args.place c.segment_of-n.result c.segment.result.0 c.segment.result.1.now c.requires.behind c.requires.sealed c.segment_of-n.ensures c.segment.ensures.view c.segment.ensures.place in
-    on_ok c.write_buffer.result _ _ (λ wrote. wrote_all c.args.self.now c.args.place looked c.around-k.result.0 c.around-k.result.1 c.if-at-buffer.false c.around-k.ensures.there c.around-k.ensures.point c.if-b.false (let none = c.if-b-gt0.false in omega (arith, none)) c.write_buffer.new.self wrote all) (c.write_buffer.ensures.line looked.segment looked.among)
-
-pub returns-then-b-gt0-clause-same : goal.returns-then-b-gt0-clause-same
-returns-then-b-gt0-clause-same g c = (refl, record { synced = refl; written = refl; still = λ sound. refl; account = refl }, refl)
+    let looked = looked g c.before in
+    on_ok c.write_buffer.result _ _ (λ wrote. wrote_all looked (can g c.before) c.write_buffer.new.self wrote all)
+    (c.write_buffer.ensures.line looked.segment looked.among)
 
 -- The slots and the marks are those behind what was written.
-
-pub returns-then-at-buffer-clause-ledger : goal.returns-then-at-buffer-clause-ledger
-returns-then-at-buffer-clause-ledger g c =
-    let looked = looks c.args.self.now c.args.place c.segment_of-n.result c.segment.result.0 c.segment.result.1.now c.requires.behind c.requires.sealed c.segment_of-n.ensures c.segment.ensures.view c.segment.ensures.place in
-    ledger_still c.args.self.now c.args.place looked (found_early c.args.self.now c.args.place looked c.if-at-buffer.true)
-
-pub returns-then-b-clause-ledger : goal.returns-then-b-clause-ledger
-returns-then-b-clause-ledger g c =
-    let looked = looks c.args.self.now c.args.place c.segment_of-n.result c.segment.result.0 c.segment.result.1.now c.requires.behind c.requires.sealed c.segment_of-n.ensures c.segment.ensures.view c.segment.ensures.place in
-    ledger_still c.args.self.now c.args.place looked (found_gone c.args.self.now c.args.place looked c.around-k.result.0 c.around-k.result.1 c.if-at-buffer.false c.around-k.ensures.there c.around-k.ensures.point c.if-b.true)
-
 pub returns-clause-ledger : goal.returns-clause-ledger
 returns-clause-ledger g c =
-    let looked = looks c.args.self.now c.args.place c.segment_of-n.result c.segment.result.0 c.segment.result.1.now c.requires.behind c.requires.sealed c.segment_of-n.ensures c.segment.ensures.view c.segment.ensures.place in
-    on_ok c.write_buffer.result _ _
-    (λ is. is ∙ sym (ledger_it c.args.self.now c.args.place looked c.around-k.result.0 c.around-k.result.1 c.if-at-buffer.false c.around-k.ensures.there c.around-k.ensures.point c.if-b.false (let none = c.if-b-gt0.false in omega (arith, none))))
-    (c.write_buffer.ensures.ledger looked.segment looked.among)
+    let looked = looked g c.before in
+    on_ok c.write_buffer.result _ _ (λ is. is ∙ sym (ledger_it looked (can g c.before))) (c.write_buffer.ensures.ledger looked.segment looked.among)
 
 -- The mark that joins isn't above what was synced.
 

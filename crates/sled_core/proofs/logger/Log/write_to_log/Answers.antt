@@ -10,7 +10,7 @@ use Rattle.sled_core.specs.Heads.{heads_along}
 use Rattle.sled_core.specs.Among.{AreAmong}
 use Rattle.sled_core.specs.Fits.{ledger_of, line_of, segment_size_of, start_of, fillings_of, heads_of, writing_pending}
 use Rattle.sled_core.specs.Ledger.{ledger_behind, written_ledger}
-use Rattle.sled_core.specs.inside.Turned.{writing_in, written_now}
+use Rattle.sled_core.specs.inside.Turned.{promoted, writing_in, written_now}
 use Rattle.sled_core.specs.Waiting.{BufferAt, unwritten}
 use Rattle.sled_core.proofs.Line.KeptCalls.{writing_still}
 use Rattle.sled_core.proofs.Line.Buffers.{calls_pending, unwritten_promoted}
@@ -38,35 +38,41 @@ returns-clause-written g c =
     (λ is. ap unwritten is ∙ unwritten_promoted (segment_size_of old) old.segments.first.site.place (set (line_of old) n (written_now k r.segment)) (segments_written old n k r) ∙ c.ready_at-n.ensures.left r.segment r.among)
     (c.write_buffer.ensures.line r.segment r.among)
 
+-- The segments are those of before with that buffer written, or they are the same.
+by_segments : (g : given.Over) (c : goal.After-write_buffer g) (P : Type 0)
+    → (line_of c.write_buffer.new.self ≡ promoted (segment_size_of c.args.self.now)
+    (set (line_of c.args.self.now) c.ready_at-n.result.0 (written_now c.ready_at-n.result.1 c.ready_at-n.ensures.ready.segment)) → P)
+    → (line_of c.write_buffer.new.self ≡ line_of c.args.self.now → P) → P
+by_segments g c P wrote same =
+    let r = c.ready_at-n.ensures.ready in
+    either c.write_buffer.result _ _ P wrote same (c.write_buffer.ensures.line r.segment r.among) c.write_buffer.ensures.same
+
 pub returns-clause-start : goal.returns-clause-start
 returns-clause-start g c =
     let old = c.args.self.now in
     let new = c.write_buffer.new.self in
     let r = c.ready_at-n.ensures.ready in
-    either c.write_buffer.result _ _ (start_of new ≡ start_of old)
-    (λ is. written_starts old new (segment_size_of old) c.ready_at-n.result.0 r.segment c.ready_at-n.result.1 r.among is)
+    by_segments g c (start_of new ≡ start_of old)
+    (written_starts old new (segment_size_of old) c.ready_at-n.result.0 r.segment c.ready_at-n.result.1 r.among)
     (λ same. (same_buffers old new same).1)
-    (c.write_buffer.ensures.line r.segment r.among) c.write_buffer.ensures.same
 
 pub returns-clause-heads : goal.returns-clause-heads
 returns-clause-heads g c =
     let old = c.args.self.now in
     let new = c.write_buffer.new.self in
     let r = c.ready_at-n.ensures.ready in
-    either c.write_buffer.result _ _ (AreAmong (heads_of new) (heads_of old))
-    (λ is. heads_of_written old new (segment_size_of old) c.ready_at-n.result.0 c.ready_at-n.result.1 r.segment r.among is)
+    by_segments g c (AreAmong (heads_of new) (heads_of old))
+    (heads_of_written old new (segment_size_of old) c.ready_at-n.result.0 c.ready_at-n.result.1 r.segment r.among)
     (λ same. among_same (heads_of new) (heads_of old) (ap heads_along same))
-    (c.write_buffer.ensures.line r.segment r.among) c.write_buffer.ensures.same
 
 pub returns-clause-fillings : goal.returns-clause-fillings
 returns-clause-fillings g c =
     let old = c.args.self.now in
     let new = c.write_buffer.new.self in
     let r = c.ready_at-n.ensures.ready in
-    either c.write_buffer.result _ _ (AreAmong (fillings_of new) (fillings_of old))
-    (λ is. fillings_of_written old new (segment_size_of old) c.ready_at-n.result.0 c.ready_at-n.result.1 r.segment r.among is)
+    by_segments g c (AreAmong (fillings_of new) (fillings_of old))
+    (fillings_of_written old new (segment_size_of old) c.ready_at-n.result.0 c.ready_at-n.result.1 r.segment r.among)
     (λ same. among_same (fillings_of new) (fillings_of old) (ap fillings_along same))
-    (c.write_buffer.ensures.line r.segment r.among) c.write_buffer.ensures.same
 
 pub returns-in-Some-clause-heads : goal.returns-in-Some-clause-heads
 returns-in-Some-clause-heads g c = λ h there. there
