@@ -7,6 +7,7 @@ use Rattle.sled_codec.specs.History.{Message}
 use Rattle.sled_codec.specs.Record.{short_header, short_record}
 use Rattle.sled_core.specs.Canceled.{IsBodyOf}
 use Rattle.sled_core.specs.Fillings.{FillingAt}
+use Rattle.sled_core.specs.HeaderMark.{mark_at}
 use Rattle.sled_core.specs.Heads.{HeadAt}
 use Rattle.sled_core.specs.invariants.Caps.{segment_rest}
 use Rattle.sled_core.specs.Manifests.{manifest_page}
@@ -69,6 +70,8 @@ pub record IsWholeText (sum : List ℕ → ℕ) (size : ℕ) (given_up : List Me
   pub filled : IsFilling sum size fillings number (place + length head + length (records_text sum number records))
       (from + length head + length (records_text sum number records)) rest
 
--- So are those of a buffer of a log with segments of a size, where these were given up, and these headers and this filling aren't on the device.
+-- So are those of a buffer of a log with segments of a size, where these were given up, and these headers and this filling aren't on the device. The buffer has
+-- the mark of the header that its bytes begin with, or none.
 abbrev pub IsWholeBuffer : (List ℕ → ℕ) → ℕ → List Message → List HeadAt → List FillingAt → BufferAt → Type 0
-IsWholeBuffer sum size given_up heads fillings b = IsWholeText sum size given_up heads fillings (b.place / size) b.place (b.place % size) b.bytes
+IsWholeBuffer sum size given_up heads fillings b =
+    IsWholeText sum size given_up heads fillings (b.place / size) b.place (b.place % size) b.bytes × (b.mark ≡ mark_at (b.place % size) b.bytes)

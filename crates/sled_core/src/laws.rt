@@ -116,7 +116,7 @@ pub fn written_messages_are_stable<D: Device, C: Checksum>()
 /// segment; each has as many bytes as places, and unless it is held up it is whole records, each with its sum and of a kind
 /// that a reader knows, and those of messages that were given up with the bodies of these; none but what fills the segment
 /// ends it, from where the log has it, or the current one from where what was reserved ends; one that begins its segment
-/// has the header that the log has for that.
+/// has the header that the log has for that, and the mark of that header, and another one has no mark.
 pub fn a_log_shows_its_buffers<D: Device, C: Checksum>()
     ensures current { (log : Log D C) → 0 < held_len log
         → spans (buffers_of C.sum_of log)

@@ -1,3 +1,4 @@
+pub mod Accounts
 pub mod BegunHeads
 pub mod Carried
 pub mod DeviceLemmas

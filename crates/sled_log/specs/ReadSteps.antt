@@ -6,8 +6,9 @@ use Rattle.sled_codec.specs.declared.result.Error.TheVariants.{OutOfMemory}
 use Rattle.sled_codec.specs.declared.serialization.message.LogKind.TheVariants as does
 use Rattle.sled_codec.specs.History.{Message}
 use Rattle.sled_store.specs.Device.{Event}
+use Rattle.sled_core.specs.Account.{account_behind}
 use Rattle.sled_core.specs.ReadPointer.{place_read}
-use Rattle.sled_core.specs.Waiting.{BufferAt, Span, write_around}
+use Rattle.sled_core.specs.Waiting.{BufferAt, Span, one_around, write_around}
 use Rattle.sled_log.specs.declared.session.command.Reply.{Reply}
 use Rattle.sled_log.specs.declared.session.command.Reply.TheVariants as reply
 use Rattle.sled_log.specs.RunStates.{DeviceView, EndsInReach, LogView, RunState, held, is_present, opens, sealed_around, spans_place, spans_without}
@@ -18,9 +19,12 @@ use Rattle.sled_log.specs.WriteSteps.{Fails, IfHeld, KeepsFailing, LeavesLog, Wr
 abbrev pub read_at : Message → ℕ
 read_at m = unsigned_abs (place_read (pos m.place) m.pointer)
 
--- the log once the buffer of a place is on the device, where the place wasn't stable; the calls that bring it there; and what holds that buffer up
-abbrev pub read_around : LogView → ℕ → LogView
-read_around l at = if nat_lt at l.synced then l else view_flushed l (spans_without at (sealed_around at l)) (start_around at l) l.fault
+-- the log once the buffer of a place, which is one of these, is on the device, where the place wasn't stable; the calls that bring it there; and what holds
+-- that buffer up
+abbrev pub read_around : LogView → ℕ → List BufferAt → LogView
+read_around l at bs =
+    if nat_lt at l.synced then l
+    else view_flushed l (spans_without at (sealed_around at l)) (start_around at l) l.fault (account_behind (one_around at bs) l.account)
 
 abbrev pub reading_around : LogView → ℕ → List BufferAt → List Event
 reading_around l at bs = if nat_lt at l.synced then [] else write_around at bs
@@ -42,7 +46,7 @@ pub record ReadsAt (sum : List ℕ → ℕ) (size : ℕ) (l : LogView) (at : ℕ
 abbrev pub ReadsAll : (List ℕ → ℕ) → ℕ → LogView → List Message → DeviceView → DeviceView → LogView → Type 0
 ReadsAll sum size l [] old new end = (new.trace ≡ old.trace) × (new.failures ≡ old.failures) × (end ≡ l)
 ReadsAll sum size l (m ∷ ms) old new end =
-    (mid : DeviceView) × ReadsAt sum size l (read_at m) old mid × ReadsAll sum size (read_around l (read_at m)) ms mid new end
+    (mid : DeviceView) × (reads : ReadsAt sum size l (read_at m) old mid) × ReadsAll sum size (read_around l (read_at m) reads.writes.buffers) ms mid new end
 
 -- A read of a place failed: the buffer that has it is sealed, or isn't and the read wasn't held up, and it isn't written: where it is the current one that
 -- isn't sealed, the device didn't fail. Or nothing held it up and it is written, and what it has wasn't read.
@@ -50,10 +54,10 @@ abbrev pub FailsAt : (List ℕ → ℕ) → ℕ → RunState → LogView → ℕ
 FailsAt sum size a l at e old new b =
     Fails l e (holding_read l at) ((l.start.place ≤ at) × (EndsInReach size l.position → ⊥)) old new (λ fault.
     (WritesSome sum size l (sealed_around at l) (reading_around l at) 0 e fault old new
-    × ((IfHeld e ⊥ × LeavesLog a l new b l.waiting l.start fault × (l.start.place ≤ at → fault ≡ None))
-    ⊎ LeavesLog a l new b (sealed_around at l) (start_around at l) fault))
-    ⊎ ((holding_read l at ≡ None) × Writes sum size l (sealed_around at l) (reading_around l at) old new
-    × LeavesLog a l new b (spans_without at (sealed_around at l)) (start_around at l) fault))
+    × ((IfHeld e ⊥ × LeavesLog a l new b l.waiting l.start fault l.account × (l.start.place ≤ at → fault ≡ None))
+    ⊎ LeavesLog a l new b (sealed_around at l) (start_around at l) fault l.account))
+    ⊎ ((holding_read l at ≡ None) × (writes : Writes sum size l (sealed_around at l) (reading_around l at) old new)
+    × LeavesLog a l new b (spans_without at (sealed_around at l)) (start_around at l) fault (account_behind (one_around at writes.buffers) l.account)))
 
 -- Some messages of a page were read, and the next one was not.
 pub record ReadStops (sum : List ℕ → ℕ) (size : ℕ) (a : RunState) (l : LogView) (ms : List Message) (e : Error) (new : DeviceView) (b : RunState) : Type 0 where

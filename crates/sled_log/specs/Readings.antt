@@ -23,14 +23,14 @@ use Rattle.sled_log.specs.RunPhases.{HasHeads, Unstored, seen_log, traces}
 use Rattle.sled_log.specs.RunStates.{DeviceView, LogView, RunState, is_present, top, with_log, MarkAt, heads_at}
 use Rattle.sled_log.specs.ReadSteps.{FailsAt, ReadStep, ReadsAt, read_around, read_at}
 
--- A log fits what a session keeps in mind, with a pin out, what it counts as given up was, its headers and fillings that aren't on the device are those that
--- were begun, and zeros pass as no header.
+-- A log fits what a session keeps in mind, with its pin out and no other, what it counts as given up was, its headers and fillings that aren't on the device
+-- are those that were begun, and zeros pass as no header.
 pub record IsRead {D C : Type 0} (trace : D → Trace) (sum : List ℕ → ℕ) (log : Log D C) (k : Unstored) : Type 0 where
   pub made : IsMade k.history
   pub zeros : NoHeaderOfZeros sum
   pub unmarked : List Message
   pub fits : Fits trace sum log k.history k.acknowledged k.floor unmarked
-  pub pinned : 0 < pins_of log
+  pub pinned : pins_of log ≡ 1
   pub given_up : AreAmong (given_up_of log) k.given_up
   pub heads : HasHeads sum log k.heads
 
@@ -54,8 +54,8 @@ pub record KeepsOpen {D C : Type 0} (trace : D → Trace) (sum : List ℕ → �
 abbrev pub IsItem : {D C : Type 0} → (D → DeviceView) → (List ℕ → ℕ) → Log D C → LogView → Message → Log D C → LogView
     → Result (Vec ℕ Global) Error → Type 0
 IsItem view sum old l m new l' (Ok item) =
-    (item.items ≡ m.bytes) × (l.fault ≡ None) × ReadsAt sum (segment_size_of old) l (read_at m) (view (device_of old)) (view (device_of new))
-    × (l' ≡ read_around l (read_at m))
+    (item.items ≡ m.bytes) × (l.fault ≡ None) × (reads : ReadsAt sum (segment_size_of old) l (read_at m) (view (device_of old)) (view (device_of new)))
+    × (l' ≡ read_around l (read_at m) reads.writes.buffers)
 IsItem view sum old l m new l' (Err e) =
     l.fault ≡ None → (a : RunState)
     → FailsAt sum (segment_size_of old) a l (read_at m) e (view (device_of old)) (view (device_of new)) (with_log a (view (device_of new)) (Some l'))

@@ -9,6 +9,7 @@ use Rattle.sled_store.specs.Device.{Trace, state_of}
 use Rattle.sled_store.specs.Moments.{IsLater}
 use Rattle.sled_store.specs.declared.config.RunningConfig.{RunningConfig}
 use Rattle.sled_log.specs.WriteSteps.{filled_by, headed}
+use Rattle.sled_core.specs.Account.{account_of}
 use Rattle.sled_core.specs.declared.logger.Log.{Log}
 use Rattle.sled_core.specs.Fits.{Awaits, config_of, fault_of, fillings_of, given_up_of, heads_of, noted_in, open_places, pins_of, position_of, reserved_end}
 use Rattle.sled_core.specs.Fits.{start_of, synced_end, waiting_of}
@@ -61,6 +62,8 @@ seen_log log begun tickets given_up heads =
       tickets = tickets;
       given_up = given_up;
       heads = heads;
+      pins = pins_of log;
+      account = account_of log;
     }
 
 -- the same of one that is open in a session
@@ -165,14 +168,14 @@ pub record HasHeads {D C : Type 0} (sum : List ℕ → ℕ) (log : Log D C) (hea
   pub marked : AreAmong (heads_of log) (map (headed sum) heads)
   pub filled : AreAmong (fillings_of log) (map filled_by heads)
 
--- A log is open that fits the history, with a pin out, and with the table of it; what it counts as given up was, and its headers and fillings that aren't on
--- the device are those that were begun. Zeros pass as no header, as where its recovery read nothing foreign.
+-- A log is open that fits the history, with the session's pin out and no other, and with the table of it; what it counts as given up was, and its headers and
+-- fillings that aren't on the device are those that were begun. Zeros pass as no header, as where its recovery read nothing foreign.
 pub record IsOpenAt {D C : Type 0} (trace : D → Trace) (sum : List ℕ → ℕ) (opened : Opened D C) (k : Unstored) : Type 0 where
   pub made : IsMade k.history
   pub unmarked : List Message
   pub fits : Fits trace sum opened.log k.history k.acknowledged k.floor unmarked
   pub zeros : NoHeaderOfZeros sum
-  pub pinned : 0 < pins_of opened.log
+  pub pinned : pins_of opened.log ≡ 1
   pub table : IsTable (map page_of opened.pages.items) k.history top
   pub tickets : HasTickets trace sum opened k.history k.tickets
   pub given_up : AreAmong (given_up_of opened.log) k.given_up

@@ -9,6 +9,7 @@ use Rattle.sled_codec.specs.declared.serialization.message.LogKind.TheVariants.{
 use Rattle.sled_codec.specs.Snapshots.{SnapshotModel, stable_place}
 use Rattle.sled_codec.specs.History.{Batch, Message, History, no_history, below, is_replace, table}
 use Rattle.sled_store.specs.Device.{Trace, state_of}
+use Rattle.sled_core.specs.Account.{Account}
 use Rattle.sled_core.specs.Buffers.{pointer_as}
 use Rattle.sled_core.specs.Fits.{blob_at, in_blob}
 use Rattle.sled_core.specs.Manifests.{manifest_page}
@@ -64,6 +65,10 @@ pub record LogView : Type 0 where
   pub given_up : List Message
   -- where a buffer was begun since the log was started, the last one first
   pub heads : List MarkAt
+  -- how many pins are out
+  pub pins : ℕ
+  -- which marks of its segments count
+  pub account : Account
 
 -- the place behind the stable end, which lies in front of a batch that goes on behind what is on the device
 abbrev pub stable_of : LogView → ℕ
@@ -102,7 +107,7 @@ abbrev pub heads_on : ℕ → ℕ → SnapshotModel → List MarkAt
 heads_on size len s =
     record { place = (start_from size len s).place; mark = pos (stable_place s.stable) -ℤ pos 1; end = stable_place s.stable } ∷ []
 
--- a log that was started on a snapshot, where its log file had this length
+-- a log that was started on a snapshot, where its log file had this length, with the one pin that a session takes: its marks begin as the snapshot's place
 abbrev pub started_on : ℕ → ℕ → SnapshotModel → LogView
 started_on size len s = record {
   position = position_from size len s;
@@ -117,6 +122,8 @@ started_on size len s = record {
   tickets = [];
   given_up = [];
   heads = heads_on size len s;
+  pins = 1;
+  account = record { mark = pos (stable_place s.stable); durable = pos (stable_place s.stable); pinned = true };
 }
 
 -- how long the body of the record of an item of n bytes is: it is the item, or the place of its blob

@@ -1,5 +1,5 @@
 -- What the commands come to that write: a flush, a write up to a place, and that of one buffer; and why a log fails.
-use Rattle.std.specs.Prelude.{◌≡◌, ◌⊎◌, ◌+◌, ◌≤◌, ◌≤ℤ◌, ◌<ℤ◌, ◌<◌, ◌%◌, ◌^◌, ◌∷◌, ℕ, ℤ, pos, max, IsTrue, List, [], drop, map, Option, None, Some}
+use Rattle.std.specs.Prelude.{◌≡◌, ◌⊎◌, ◌+◌, ◌≤◌, ◌≤ℤ◌, ◌<ℤ◌, ◌<◌, ◌%◌, ◌^◌, ◌∷◌, ℕ, ℤ, pos, max, IsTrue, List, [], drop, map, take, Option, None, Some}
 use Rattle.std.specs.List.{All}
 use Rattle.std.specs.declared.io.Error.{Error as IoError}
 use Rattle.sled_codec.specs.declared.result.Error.{Error}
@@ -8,6 +8,7 @@ use Rattle.sled_store.specs.Device.{Event, state_of}
 use Rattle.sled_store.specs.Answers.{is_fault}
 use Rattle.sled_store.specs.Script.{Performs, after_all}
 use Rattle.sled_codec.specs.Record.{short_header}
+use Rattle.sled_core.specs.Account.{Account, account_behind}
 use Rattle.sled_core.specs.Fillings.{FillingAt}
 use Rattle.sled_core.specs.Heads.{HeadAt}
 use Rattle.sled_core.specs.declared.iobuf.SegmentPosition.{SegmentPosition}
@@ -17,7 +18,7 @@ use Rattle.sled_core.specs.Logged.{logged}
 use Rattle.sled_core.specs.OpenBatches.{behind_batch, not_whole, stable_below}
 use Rattle.sled_core.specs.SealedBuffers.{writing}
 use Rattle.sled_core.specs.Stable.{behind_place}
-use Rattle.sled_core.specs.Waiting.{BufferAt, BufferStart, HasLength, Span, spans, unless_held, write_pending}
+use Rattle.sled_core.specs.Waiting.{BufferAt, BufferStart, HasLength, Span, one_pending, spans, unless_held, write_pending}
 use Rattle.sled_core.specs.WholeBuffers.{IsWholeBuffer}
 use Rattle.sled_core.specs.Running.{end_below}
 use Rattle.sled_log.specs.declared.session.command.Reply.{Reply}
@@ -70,8 +71,8 @@ fillings_seen l = record { next = (current_span l l.position).end; from = l.end 
 -- These buffers of a log are seen so: each as a whole, and which of its open reservations holds it up. What isn't held up is whole records,
 -- each with its sum and of a kind that a reader knows; of these one that every reader passes over is of one of the messages that were given up; none ends its
 -- segment but in what fills it, which is one text, from where what was reserved ended; and where it begins its segment, the segment's header is in front of
--- them, with the mark that it was begun with. So all of them are met by who reads the segment, and but for what is of the history there is no choice in what is
--- written.
+-- them, with the mark that it was begun with, which is the buffer's. So all of them are met by who reads the segment, and but for what is of the history there
+-- is no choice in what is written.
 pub record ShowsBuffers (sum : List ℕ → ℕ) (size : ℕ) (l : LogView) (ss : List Span) (bs : List BufferAt) : Type 0 where
   pub are : spans bs ≡ ss
   pub long : All HasLength bs
@@ -95,9 +96,9 @@ pub record WritesSome (sum : List ℕ → ℕ) (size : ℕ) (l : LogView) (ss : 
   pub whole : fault ≡ None → WritesWhole count (calls buffers) old.trace new.trace
   pub held : IfHeld e (new.trace ≡ after_all (calls buffers) old.trace)
 
--- the log with these buffers left, the current one from there on, and this failure kept: all before the first of them is on the device
-abbrev pub view_flushed : LogView → List Span → BufferStart → Option IoError → LogView
-view_flushed l waiting start fault =
+-- the log with these buffers left, the current one from there on, this failure kept, and these marks: all before the first of them is on the device
+abbrev pub view_flushed : LogView → List Span → BufferStart → Option IoError → Account → LogView
+view_flushed l waiting start fault account =
     record l {
       synced = first_waiting waiting start;
       noted = not_whole (first_waiting waiting start) l.noted;
@@ -105,11 +106,12 @@ view_flushed l waiting start fault =
       start = start;
       fault = fault;
       heads = heads_at l start;
+      account = account;
     }
 
 -- the run goes on with that log
-abbrev pub LeavesLog : RunState → LogView → DeviceView → RunState → List Span → BufferStart → Option IoError → Type 0
-LeavesLog a l new b waiting start fault = b ≡ with_log a new (Some (view_flushed l waiting start fault))
+abbrev pub LeavesLog : RunState → LogView → DeviceView → RunState → List Span → BufferStart → Option IoError → Account → Type 0
+LeavesLog a l new b waiting start fault account = b ≡ with_log a new (Some (view_flushed l waiting start fault account))
 
 -- the calls that write buffers, one write and one sync for each, up to the first that is held up
 abbrev pub writes_free : List BufferAt → List Event
@@ -147,7 +149,7 @@ pub record HasWrittenTo (sum : List ℕ → ℕ) (size : ℕ) (a : RunState) (l 
   pub leads : b ≡ record a {
     device = new;
     acknowledged = max a.acknowledged (end_below (stable_from to l) a.history);
-    log = Some (view_flushed l (left_from to l) (start_below to l) None);
+    log = Some (view_flushed l (left_from to l) (start_below to l) None (account_behind writes.buffers l.account));
   }
 
 -- That failed: those that begin below the place are sealed, and so many at the front are written, but not all; or it wasn't held up, and none was sealed, nor
@@ -155,10 +157,10 @@ pub record HasWrittenTo (sum : List ℕ → ℕ) (size : ℕ) (a : RunState) (l 
 abbrev pub FailsTo : (List ℕ → ℕ) → ℕ → RunState → LogView → ℕ → Error → DeviceView → RunState → Type 0
 FailsTo sum size a l to e new b =
     Fails l e (holding to l) ((l.start.place < to) × (EndsInReach size l.position → ⊥)) a.device new (λ fault.
-    (count : ℕ) × WritesSome sum size l (written_below to l) writes_free count e fault a.device new
-    × ((LeavesLog a l new b (drop count (sealed_below to l)) (start_below to l) fault
+    (count : ℕ) × (some : WritesSome sum size l (written_below to l) writes_free count e fault a.device new)
+    × ((LeavesLog a l new b (drop count (sealed_below to l)) (start_below to l) fault (account_behind (take count some.buffers) l.account)
     × (first_waiting (drop count (sealed_below to l)) (start_below to l) < to))
-    ⊎ ((count ≡ 0) × (l.start.place < to) × IfHeld e ⊥ × LeavesLog a l new b l.waiting l.start fault × (fault ≡ None))))
+    ⊎ ((count ≡ 0) × (l.start.place < to) × IfHeld e ⊥ × LeavesLog a l new b l.waiting l.start fault l.account × (fault ≡ None))))
 
 -- All that was reserved is written, so all completed messages are on the device: their records are, as the log has them, without the items that blobs have.
 pub record HasFlushed (sum : List ℕ → ℕ) (size : ℕ) (a : RunState) (l : LogView) (n : ℕ) (new : DeviceView) (b : RunState) : Type 0 where
@@ -198,10 +200,10 @@ StableStep sum size a l place _ new b = ⊥
 -- One sealed buffer is written, the i-th of those that nothing holds up.
 abbrev pub WriteStep : (List ℕ → ℕ) → ℕ → RunState → LogView → ℕ → Reply → DeviceView → RunState → Type 0
 WriteStep sum size a l i reply.Written new b =
-    (l.fault ≡ None) × Writes sum size l l.waiting (write_pending i) a.device new × (new.failures ≡ a.device.failures)
-    × LeavesLog a l new b (without_unheld (opens l) i l.waiting) l.start None
+    (l.fault ≡ None) × (writes : Writes sum size l l.waiting (write_pending i) a.device new) × (new.failures ≡ a.device.failures)
+    × LeavesLog a l new b (without_unheld (opens l) i l.waiting) l.start None (account_behind (one_pending i writes.buffers) l.account)
 WriteStep sum size a l i (reply.Failed e) new b =
     KeepsFailing a l e new b
     ⊎ Fails l e None ⊥ a.device new (λ fault. WritesSome sum size l l.waiting (write_pending i) 0 e fault a.device new
-    × LeavesLog a l new b l.waiting l.start fault)
+    × LeavesLog a l new b l.waiting l.start fault l.account)
 WriteStep sum size a l i _ new b = ⊥

@@ -15,6 +15,7 @@ use Rattle.sled_store.specs.Device.{State, Trace}
 use Rattle.sled_core.proofs.Line.Heads.{head_there}
 use Rattle.sled_core.specs.Fillings.{FillingAt, filling_of, fillings_along, fillings_in}
 use Rattle.sled_core.specs.inside.Shown.{shown_of}
+use Rattle.sled_core.specs.HeaderMark.{mark_at}
 use Rattle.sled_core.specs.Heads.{HeadAt}
 use Rattle.sled_core.specs.Begun.{SegmentView, segment_view}
 use Rattle.sled_core.specs.inside.Buffers.{IsChain, SpellsBlob, Stands, StandsBy, text_as, text_in}
@@ -235,12 +236,15 @@ module _ (sum : List ℕ → ℕ) (size : ℕ) (messages : List Message) (heads 
     one_whole : (from end : ℕ) (own : List Reserved) → from < size → max 20 from ≤ end → BeginsBuffer site bytes from → Records (max 20 from) end
         → IsWholeBuffer sum size messages heads fillings (buffer_at site bytes from end own)
     one_whole from end own low up begins has =
-        subst (λ n. IsWholeText sum size messages heads fillings n (site.place + from) ((site.place + from) % size) (bytes_between bytes from end)) (sym (aligned_number site.place from size aligned low))
-        (subst (λ n. IsWholeText sum size messages heads fillings number (site.place + from) n (bytes_between bytes from end)) (sym (aligned_offset site.place from size aligned low))
-        (elim begins [
-          | inl behind ↦ text_behind from end behind has
-          | inr first ↦ text_headed from end first.2 first.0 first.1 first.3 first.4 (omega (arith, up)) has
-        ]))
+        let offset : (site.place + from) % size ≡ from = aligned_offset site.place from size aligned low in (
+          subst (λ n. IsWholeText sum size messages heads fillings n (site.place + from) ((site.place + from) % size) (bytes_between bytes from end)) (sym (aligned_number site.place from size aligned low))
+              (subst (λ n. IsWholeText sum size messages heads fillings number (site.place + from) n (bytes_between bytes from end)) (sym offset)
+              (elim begins [
+                | inl behind ↦ text_behind from end behind has
+                | inr first ↦ text_headed from end first.2 first.0 first.1 first.3 first.4 (omega (arith, up)) has
+              ])),
+          ap (λ n. mark_at n (bytes_between bytes from end)) (sym offset),
+        )
 
     -- All of them.
     all_whole : (from end : ℕ) (bs : List Sealed) (rs : List Reserved) → AreSealed from rs bs → IsChain (max 20 from) rs end → end ≤ size → end ≤ length bytes → All (Stands sum size number bytes) rs

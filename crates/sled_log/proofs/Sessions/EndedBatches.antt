@@ -132,6 +132,8 @@ module _ {D C : Type 0} (view : D → DeviceView) (sum : List ℕ → ℕ) (old 
       tickets = set k.tickets n None;
       given_up = k.given_up;
       heads = k.heads;
+      pins = notes.pins i;
+      account = notes.account i;
     }
 
     step_from : (H' : History) → EndsBatch k.history ticket.reservation peg H' → Step k.history (Batched (batch_of l m)) H'

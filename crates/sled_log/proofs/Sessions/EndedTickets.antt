@@ -218,7 +218,7 @@ module _ {D C : Type 0} (view : D → DeviceView) (sum : List ℕ → ℕ) (old 
             unmarked = at.unmarked;
             fits = fits;
             zeros = at.zeros;
-            pinned = subst (λ p. 0 < p) (sym position.pins) at.pinned;
+            pinned = position.pins ∙ at.pinned;
             table = subst (λ (ps : List Page). IsTable ps k.history top) (sym pages_are) at.table;
             tickets = spent_tickets (traces view) sum old now k.history k.history k.tickets n m there at.tickets takes.tickets busy batch position.reserved
                 (λ t x awaits apart. kept.awaits t.reservation x awaits) (λ j x apart open_yet none. absurd (failed none)) (λ x ne may. may)
@@ -286,6 +286,8 @@ module _ {D C : Type 0} (view : D → DeviceView) (sum : List ℕ → ℕ) (old 
                     tickets = set k.tickets n None;
                     given_up = k.given_up;
                     heads = k.heads;
+                    pins = did.seen.pins i;
+                    account = did.seen.account i;
                   });
                 };
               },
@@ -322,7 +324,7 @@ module _ {D C : Type 0} (view : D → DeviceView) (sum : List ℕ → ℕ) (old 
           unmarked = U;
           fits = fits;
           zeros = at.zeros;
-          pinned = subst (λ p. 0 < p) (sym pins) at.pinned;
+          pinned = pins ∙ at.pinned;
           table = table;
           tickets = spent_tickets (traces view) sum old now k.history H' k.tickets n m there at.tickets takes.tickets busy batch position.reserved
               (λ t x awaits apart. others t.reservation x awaits (other_place t.reservation x awaits apart)) safe joins begun
@@ -352,6 +354,8 @@ module _ {D C : Type 0} (view : D → DeviceView) (sum : List ℕ → ℕ) (old 
           tickets = set k.tickets n None;
           given_up = given;
           heads = k.heads;
+          pins = same.pins i;
+          account = same.account i;
         }
 
         -- Its message is given up.
@@ -453,7 +457,7 @@ module _ {D C : Type 0} (view : D → DeviceView) (sum : List ℕ → ℕ) (old 
     unmarked = at.unmarked;
     fits = subst (λ (x : Log D C). Fits (traces view) sum x k.history k.acknowledged k.floor at.unmarked) (sym kept.log) at.fits;
     zeros = at.zeros;
-    pinned = subst (λ (x : Log D C). 0 < pins_of x) (sym kept.log) at.pinned;
+    pinned = ap pins_of kept.log ∙ at.pinned;
     table = subst (λ (ps : List Page). IsTable ps k.history top) (sym kept.pages) at.table;
     tickets = kept_tickets at.tickets;
     given_up = subst (λ (x : Log D C). AreAmong (given_up_of x) k.given_up) (sym kept.log) at.given_up;

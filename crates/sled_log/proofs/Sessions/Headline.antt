@@ -15,11 +15,13 @@ use Rattle.sled_codec.specs.Spelling.{short_bytes}
 use Rattle.sled_codec.specs.History.{Batched, Completed, History, HistoryEvent, Message, Step}
 use Rattle.sled_store.specs.declared.device.choice.Choice.{Choice}
 use Rattle.sled_store.specs.Device.{state_of}
+use Rattle.sled_core.specs.Account.{account_behind}
 use Rattle.sled_core.specs.Fits.{reserved_end}
 use Rattle.sled_core.specs.Manifests.{manifest_page}
 use Rattle.sled_core.specs.Positions.{Position}
 use Rattle.sled_core.specs.Recoverable.{ReadsOnlyOwn}
 use Rattle.sled_core.specs.Running.{end_below}
+use Rattle.sled_core.specs.Waiting.{BufferAt, one_around}
 use Rattle.sled_core.proofs.PublicLaws.{message_acknowledged}
 use Rattle.sled_log.specs.declared.session.Session.{Session}
 use Rattle.sled_log.specs.declared.session.Phase.{Phase}
@@ -257,7 +259,7 @@ module _ (sum : List ℕ → ℕ) (size : ℕ) (device : DeviceView) (H : Histor
     written Meant to n new b low has =
         let end : ℕ = end_below (stable_from to l) H in
         let here : Acknowledges a Meant
-        (record a { device = new; acknowledged = max A end; log = Some (view_flushed l (left_from to l) (start_below to l) None) }) = (
+        (record a { device = new; acknowledged = max A end; log = Some (view_flushed l (left_from to l) (start_below to l) None (account_behind has.writes.buffers l.account)) }) = (
           omega arith,
           λ m there meant. (let le = message_acknowledged (stable_from to l) H m there (low m there meant) in omega (arith, le)),
           refl,
@@ -302,15 +304,15 @@ module _ (sum : List ℕ → ℕ) (size : ℕ) (device : DeviceView) (H : Histor
 
     -- Reading.
 
-    around : (o : LogView) (at : ℕ) → (read_around o at).tickets ≡ o.tickets
-    around o at = by (nat_lt at o.synced) where
-      by : (x : Bool) → (if x then o else view_flushed o (spans_without at (sealed_around at o)) (start_around at o) o.fault).tickets ≡ o.tickets
+    around : (o : LogView) (at : ℕ) (bs : List BufferAt) → (read_around o at bs).tickets ≡ o.tickets
+    around o at bs = by (nat_lt at o.synced) where
+      by : (x : Bool) → (if x then o else view_flushed o (spans_without at (sealed_around at o)) (start_around at o) o.fault (account_behind (one_around at bs) o.account)).tickets ≡ o.tickets
       by true = refl
       by false = refl
 
     reads : (o : LogView) (ms : List Message) (old new : DeviceView) (end : LogView) → ReadsAll sum size o ms old new end → end.tickets ≡ o.tickets
     reads o [] old new end all = ap (λ (x : LogView). x.tickets) all.2
-    reads o (m ∷ ms) old new end all = reads (read_around o (read_at m)) ms all.0 new end all.2 ∙ around o (read_at m)
+    reads o (m ∷ ms) old new end all = reads (read_around o (read_at m) all.1.writes.buffers) ms all.0 new end all.2 ∙ around o (read_at m) all.1.writes.buffers
 
     fails_at : (o : LogView) → o.tickets ≡ l.tickets → (at : ℕ) (e : Error) (old new : DeviceView) (b : RunState) → FailsAt sum size a o at e old new b
         → Stays a b × Led a new b

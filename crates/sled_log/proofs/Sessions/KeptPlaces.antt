@@ -223,7 +223,7 @@ module _ {D C : Type 0} (view : D → DeviceView) (sum : List ℕ → ℕ) (old 
           unmarked = at.unmarked;
           fits = kept.keeps.fits k.history k.acknowledged k.floor at.unmarked at.fits;
           zeros = at.zeros;
-          pinned = subst (λ p. 0 < p) (sym kept.seen.pins) at.pinned;
+          pinned = kept.seen.pins ∙ at.pinned;
           table = subst (λ p. IsTable (map page_of p.items) k.history top) (sym pages) at.table;
           tickets = has_tickets;
           given_up = λ m given. at.given_up m (kept.behind.given_up m given);
@@ -264,6 +264,8 @@ module _ {D C : Type 0} (view : D → DeviceView) (sum : List ℕ → ℕ) (old 
               tickets = k.tickets ++ Some its ∷ [];
               given_up = k.given_up;
               heads = heads_at (seen old k.tickets k.given_up k.heads) (start i);
+              pins = kept.seen.pins i;
+              account = kept.seen.account i;
             });
           };
         }

@@ -24,6 +24,7 @@ use Rattle.sled_store.specs.Device.{Event, Trace}
 use Rattle.sled_store.specs.Script.{Performs, after_all}
 use Rattle.sled_store.proofs.Segments.TableEntries.{from_table}
 use Rattle.sled_log.proofs.Sessions.BegunHeads.{heads_kept, heads_still, begun_with, only_begun}
+use Rattle.sled_core.specs.Account.{Account, account_behind, account_of}
 use Rattle.sled_core.specs.Causes.{IsFault, IsFaultAt, IsHeld, OnDone}
 use Rattle.sled_core.specs.Reading.{GivesMessage, IsInline}
 use Rattle.sled_core.specs.ReadPointer.{GivesBlobOrWaits, IsKeptBlob, place_read}
@@ -38,7 +39,7 @@ use Rattle.sled_core.specs.OpenPlaces.{first_between}
 use Rattle.sled_core.specs.Fronts.{CameAround, syncs}
 use Rattle.sled_core.specs.ReadBuffer.{IsUsedUpAt, LeavesSealed, ReadAnswers, Settles, WritesAround, held_at, sealed_at, settling, start_at}
 use Rattle.sled_core.specs.SealedBuffers.{writing}
-use Rattle.sled_core.specs.Waiting.{BufferAt, BufferStart, HasLength, Span, has_place, held_around, span_of, spans, unless_held, without_around, write_around}
+use Rattle.sled_core.specs.Waiting.{BufferAt, BufferStart, HasLength, Span, has_place, held_around, one_around, span_of, spans, unless_held, without_around, write_around}
 use Rattle.sled_core.proofs.Holds.BufferEnds.{written_behind}
 use Rattle.sled_core.proofs.Line.KeptCalls.{kept_further, kept_still, place_further, place_pinned, place_still, tickets_further}
 use Rattle.sled_core.proofs.Line.Entered.{filled_last}
@@ -52,6 +53,7 @@ use Rattle.sled_log.proofs.Sessions.MadePages.{page_present}
 use Rattle.sled_log.specs.Made.{HasBlobIn, IsMade}
 use Rattle.sled_log.specs.declared.session.Phase.TheVariants.{Open}
 use Rattle.sled_log.specs.declared.session.opened.Opened.{Opened}
+use Rattle.sled_log.proofs.Sessions.Accounts.{account_around, account_sealed, account_unsealed, is_out}
 use Rattle.sled_log.proofs.Sessions.Writing.{AreWhole, IsHeldBy, StaysPut, all_held, first_seen, flush_in, flush_out, if_held, next_start_seen, over, sealed_too, span_seen, kept_with, still_with, whole_seen}
 use Rattle.sled_log.specs.Readings.{IsOfPage, IsRead, KeepsOpen, ReadsEntries, ReadsItem, page_told}
 use Rattle.sled_log.specs.RunPhases.{IsOpenAt, Unstored, seen, seen_log, stands, traces, HasHeads}
@@ -225,8 +227,9 @@ module _ {D C : Type 0} (view : D → DeviceView) (sum : List ℕ → ℕ) (old 
   new_view = view (device_of new)
 
   -- these buffers are left
-  leaves : (waiting : List Span) (start : BufferStart) (fault : Option IoError) → spans (waiting_of new) ≡ waiting → start_of new ≡ start → fault_of new ≡ fault → after ≡ view_flushed before waiting start fault
-  leaves waiting start fault left first kept = λ i. record {
+  leaves : (waiting : List Span) (start : BufferStart) (fault : Option IoError) (account : Account) → spans (waiting_of new) ≡ waiting → start_of new ≡ start → fault_of new ≡ fault → account_of new ≡ account
+      → after ≡ view_flushed before waiting start fault account
+  leaves waiting start fault account left first kept marks = λ i. record {
     position = position.position i;
     synced = (first_seen new ∙ λ j. first_waiting (left j) (first j)) i;
     noted = (position.noted ∙ ap (λ n. not_whole n (noted_in old)) (first_seen new ∙ λ j. first_waiting (left j) (first j))) i;
@@ -239,6 +242,8 @@ module _ {D C : Type 0} (view : D → DeviceView) (sum : List ℕ → ℕ) (old 
     tickets = k.tickets;
     given_up = k.given_up;
     heads = heads_at before (first i);
+    pins = position.pins i;
+    account = marks i;
   }
 
   -- the calls that bring its place to the device
@@ -294,8 +299,8 @@ module _ {D C : Type 0} (view : D → DeviceView) (sum : List ℕ → ℕ) (old 
         held = if_held LogRead e _ _ (λ all. all ∙ ap (λ (es : List Event). after_all es old_view.trace) settling_seen) done;
       } in
       let over_it : LogView → RunState = λ x. with_log a new_view (Some x) in
-      let leaves_sealed : LeavesSealed sum at old new → with_log a new_view (Some after) ≡ with_log a new_view (Some (view_flushed before (sealed_around at before) (start_around at before) (fault_of new))) =
-      λ sealed. ap over_it (leaves (sealed_around at before) (start_around at before) (fault_of new) (ap spans sealed.0 ∙ seen_so.are) (sealed.1 ∙ start_seen old sum at begun k of.read_below) refl) in
+      let leaves_sealed : LeavesSealed sum at old new → with_log a new_view (Some after) ≡ with_log a new_view (Some (view_flushed before (sealed_around at before) (start_around at before) (fault_of new) (account_of old))) =
+      λ sealed. ap over_it (leaves (sealed_around at before) (start_around at before) (fault_of new) (account_of old) (ap spans sealed.0 ∙ seen_so.are) (sealed.1 ∙ start_seen old sum at begun k of.read_below) refl (account_sealed old new sum at sealed)) in
       record {
         sound = none;
         fault = fault_of new;
@@ -304,7 +309,7 @@ module _ {D C : Type 0} (view : D → DeviceView) (sum : List ℕ → ℕ) (old 
           | inl same ↦ inl (
             some (ap syncs same.1) (λ sound. same.1),
             elim (was_sealed e held) [
-              | inl free ↦ inl (free, ap over_it (leaves (spans (waiting_of old)) (start_of old) (fault_of new) (ap spans same.0.0) same.0.1 refl), λ above. same.2 (omega (arith, ints, above)) ∙ none)
+              | inl free ↦ inl (free, ap over_it (leaves (spans (waiting_of old)) (start_of old) (fault_of new) (account_of old) (ap spans same.0.0) same.0.1 refl (account_unsealed old new sum at same.0)), λ above. same.2 (omega (arith, ints, above)) ∙ none)
               | inr sealed ↦ inr (leaves_sealed sealed)
             ],
           )
@@ -315,8 +320,8 @@ module _ {D C : Type 0} (view : D → DeviceView) (sum : List ℕ → ℕ) (old 
           | inr (inr written) ↦ inr (
             sym (holding_seen old sum at begun k of.read_below) ∙ written.2,
             record { buffers = sealed_at sum at old; shown = seen_so; made = written.1 ∙ ap (λ (es : List Event). after_all es old_view.trace) (calls_seen old sum at begun k of.read_below out) },
-            (ap over_it (leaves (spans_without at (sealed_around at before)) (start_around at before) (fault_of new)
-                (ap spans written.0.0 ∙ without_around_seen old sum at begun k of.read_below) (written.0.1 ∙ start_seen old sum at begun k of.read_below) refl)),
+            (ap over_it (leaves (spans_without at (sealed_around at before)) (start_around at before) (fault_of new) (account_behind (one_around at (sealed_at sum at old)) (account_of old))
+                (ap spans written.0.0 ∙ without_around_seen old sum at begun k of.read_below) (written.0.1 ∙ start_seen old sum at begun k of.read_below) refl (account_around old new sum at written.0))),
           )
         ];
       }
@@ -344,19 +349,19 @@ module _ {D C : Type 0} (view : D → DeviceView) (sum : List ℕ → ℕ) (old 
 
   -- It was read.
 
-  around : {T : Type 0} (r : T) → WritesAround sum (Ok r) (pos at) old new → fault_of new ≡ fault_of old → after ≡ read_around before at
+  around : {T : Type 0} (r : T) → WritesAround sum (Ok r) (pos at) old new → fault_of new ≡ fault_of old → after ≡ read_around before at (sealed_at sum at old)
   around r writes kept = by (nat_lt at (synced_end old)) refl where
-    by : (o : Bool) → nat_lt at (synced_end old) ≡ o → after ≡ (if o then before else view_flushed before (spans_without at (sealed_around at before)) (start_around at before) (fault_of old))
+    by : (o : Bool) → nat_lt at (synced_end old) ≡ o → after ≡ (if o then before else view_flushed before (spans_without at (sealed_around at before)) (start_around at before) (fault_of old) (account_behind (one_around at (sealed_at sum at old)) (account_of old)))
     by true below =
         let low = writes.still (grind (arith, ints, nat_tests, below)) in
-        leaves (spans (waiting_of old)) (start_of old) (fault_of old) (ap spans low.0) low.1 kept
-        ∙ (λ i. record { position = before.position; synced = sym (first_seen old) i; noted = sym (noted_still old ∙ ap (λ n. not_whole n (noted_in old)) (first_seen old)) i; end = before.end; waiting = before.waiting; start = before.start; begun = begun; fault = before.fault; outstanding = before.outstanding; tickets = k.tickets; given_up = k.given_up; heads = heads_still before i })
+        leaves (spans (waiting_of old)) (start_of old) (fault_of old) (account_of old) (ap spans low.0) low.1 kept (account_unsealed old new sum at low)
+        ∙ (λ i. record { position = before.position; synced = sym (first_seen old) i; noted = sym (noted_still old ∙ ap (λ n. not_whole n (noted_in old)) (first_seen old)) i; end = before.end; waiting = before.waiting; start = before.start; begun = begun; fault = before.fault; outstanding = before.outstanding; tickets = k.tickets; given_up = k.given_up; heads = heads_still before i; pins = before.pins; account = before.account })
     by false beyond =
         let high = writes.written (grind (arith, ints, nat_tests, beyond)) in
-        leaves (spans_without at (sealed_around at before)) (start_around at before) (fault_of old)
-        (ap spans high.0 ∙ without_around_seen old sum at begun k of.read_below) (high.1 ∙ start_seen old sum at begun k of.read_below) kept
+        leaves (spans_without at (sealed_around at before)) (start_around at before) (fault_of old) (account_behind (one_around at (sealed_at sum at old)) (account_of old))
+        (ap spans high.0 ∙ without_around_seen old sum at begun k of.read_below) (high.1 ∙ start_seen old sum at begun k of.read_below) kept (account_around old new sum at high)
 
-  pub was_read : (blobs : ℤ → Option (List ℕ)) (r : LogRead) (z : ℤ) (p : DiskPtr) → pos m.place ≡ z → m.pointer ≡ p → Told blobs (Ok r) z p → (before.fault ≡ None) × ReadsAt sum (segment_size_of old) before at old_view new_view × (after ≡ read_around before at)
+  pub was_read : (blobs : ℤ → Option (List ℕ)) (r : LogRead) (z : ℤ) (p : DiskPtr) → pos m.place ≡ z → m.pointer ≡ p → Told blobs (Ok r) z p → (before.fault ≡ None) × (reads : ReadsAt sum (segment_size_of old) before at old_view new_view) × (after ≡ read_around before at reads.writes.buffers)
   was_read blobs r z p here points told =
       let own = told_own blobs (Ok r) z p here points told in
       let answers = own.1.1 in (
@@ -376,7 +381,7 @@ module _ {D C : Type 0} (view : D → DeviceView) (sum : List ℕ → ℕ) (old 
 -- Several messages are read, one behind another.
 
 -- one more
-reads_more : (sum : List ℕ → ℕ) (size : ℕ) (done : List Message) (m : Message) (l end : LogView) (old mid new : DeviceView) → ReadsAll sum size l done old mid end → ReadsAt sum size end (read_at m) mid new → ReadsAll sum size l (done ++ m ∷ []) old new (read_around end (read_at m))
+reads_more : (sum : List ℕ → ℕ) (size : ℕ) (done : List Message) (m : Message) (l end : LogView) (old mid new : DeviceView) → ReadsAll sum size l done old mid end → (more : ReadsAt sum size end (read_at m) mid new) → ReadsAll sum size l (done ++ m ∷ []) old new (read_around end (read_at m) more.writes.buffers)
 reads_more sum size [] m l end old mid new is more = (
   new,
   record {
@@ -388,9 +393,13 @@ reads_more sum size [] m l end old mid new is more = (
     };
     failures = more.failures ∙ is.1;
   },
-  (refl, refl, ap (λ (x : LogView). read_around x (read_at m)) is.2),
+  (refl, refl, ap (λ (x : LogView). read_around x (read_at m) more.writes.buffers) is.2),
 )
-reads_more sum size (n ∷ done) m l end old mid new is more = (is.0, is.1, reads_more sum size done m (read_around l (read_at n)) end is.0 mid new is.2 more)
+reads_more sum size (n ∷ done) m l end old mid new is more = (is.0, is.1, reads_more sum size done m (read_around l (read_at n) is.1.writes.buffers) end is.0 mid new is.2 more)
+
+-- It comes to the same of segments of the same size.
+of_size : (sum : List ℕ → ℕ) (n size : ℕ) → n ≡ size → (l : LogView) (at : ℕ) (old new : DeviceView) (reads : ReadsAt sum n l at old new) → (same : ReadsAt sum size l at old new) × (same.writes.buffers ≡ reads.writes.buffers)
+of_size sum n size is l at old new reads = subst (λ x. (same : ReadsAt sum x l at old new) × (same.writes.buffers ≡ reads.writes.buffers)) is (reads, refl)
 
 -- what all have this one has
 all_at : (P : Message → Type 0) (done : List Message) (m : Message) (rest : List Message) → All P (done ++ m ∷ rest) → P m
@@ -421,9 +430,9 @@ first_there [] present = cc
 first_there (m ∷ ms) present = (m, ms, refl)
 
 -- a read keeps what failure is kept
-fault_around : (l : LogView) (at : ℕ) → (read_around l at).fault ≡ l.fault
-fault_around l at = by (nat_lt at l.synced) where
-  by : (o : Bool) → (if o then l else view_flushed l (spans_without at (sealed_around at l)) (start_around at l) l.fault).fault ≡ l.fault
+fault_around : (l : LogView) (at : ℕ) (bs : List BufferAt) → (read_around l at bs).fault ≡ l.fault
+fault_around l at bs = by (nat_lt at l.synced) where
+  by : (o : Bool) → (if o then l else view_flushed l (spans_without at (sealed_around at l)) (start_around at l) l.fault (account_behind (one_around at bs) l.account)).fault ≡ l.fault
   by true = refl
   by false = refl
 
@@ -469,7 +478,7 @@ module _ {D C : Type 0} (view : D → DeviceView) (sum : List ℕ → ℕ) (old 
       zeros = is.zeros;
       unmarked = is.unmarked;
       fits = only.keeps.fits k.history k.acknowledged k.floor is.unmarked is.fits;
-      pinned = subst (λ n. 0 < n) (sym only.position.pins) is.pinned;
+      pinned = only.position.pins ∙ is.pinned;
       given_up = λ m given. is.given_up m (only.tickets.given_up m given);
       heads = among;
     }
@@ -513,7 +522,8 @@ module _ {D C : Type 0} (view : D → DeviceView) (sum : List ℕ → ℕ) (old 
           let one = next k.history ms came.done came.left e rest came.split came.entries some.only.position all in
           let l : LogView = seen_log old begun k.tickets k.given_up k.heads in
           let now : LogView = seen_log mid begun k.tickets k.given_up heads in
-          let got = reads.item (begun_with k heads) one.message begun (is_read k heads so.1 some.only is) one.of one.place one.pointer in (
+          let got = reads.item (begun_with k heads) one.message begun (is_read k heads so.1 some.only is) one.of one.place one.pointer in
+          let so_read = of_size sum (segment_size_of mid) (segment_size_of old) some.only.position.size now (read_at one.message) (view (device_of mid)) (view (device_of new)) got.2 in (
             heads_at now (start_of new),
             heads_kept sum mid new begun k.tickets k.given_up heads (only_begun sum mid new reads.marked) so.1,
             record {
@@ -521,11 +531,10 @@ module _ {D C : Type 0} (view : D → DeviceView) (sum : List ℕ → ℕ) (old 
               left = one.later;
               split = one.split ∙ sym (append_assoc came.done (one.message ∷ []) one.later);
               entries = one.others;
-              reads = subst (λ (x : LogView). ReadsAll sum (segment_size_of old) l (came.done ++ one.message ∷ []) (view (device_of old)) (view (device_of new)) x) (sym got.3)
-                  (reads_more sum (segment_size_of old) came.done one.message l now (view (device_of old)) (view (device_of mid)) (view (device_of new)) came.reads
-                  (subst (λ n. ReadsAt sum n now (read_at one.message) (view (device_of mid)) (view (device_of new))) some.only.position.size got.2));
+              reads = subst (λ (x : LogView). ReadsAll sum (segment_size_of old) l (came.done ++ one.message ∷ []) (view (device_of old)) (view (device_of new)) x) (sym (got.3 ∙ ap (read_around now (read_at one.message)) (sym so_read.1)))
+                  (reads_more sum (segment_size_of old) came.done one.message l now (view (device_of old)) (view (device_of mid)) (view (device_of new)) came.reads so_read.0);
               items_are = map-append (λ (v : Vec ℕ Global). v.items) items (item ∷ []) ∙ (λ i. came.items_are i ++ got.0 i ∷ []) ∙ sym (map-append (λ (m : Message). m.bytes) came.done (one.message ∷ []));
-              sound = ap (λ (x : LogView). x.fault) got.3 ∙ fault_around now (read_at one.message) ∙ came.sound;
+              sound = ap (λ (x : LogView). x.fault) got.3 ∙ fault_around now (read_at one.message) got.2.writes.buffers ∙ came.sound;
             },
           );
     }
@@ -639,4 +648,4 @@ module _ {D C : Type 0} (view : D → DeviceView) (sum : List ℕ → ℕ) (open
       (all_of_page k.history (reserved_end opened.log) page at.made at.ends) (sym present.entries) present.present refl refl
 
   pub open_still : IsOpenAt (traces view) sum (over opened new) (read_with page_read.0)
-  open_still = still_with (traces view) sum opened new k k.acknowledged page_read.0 page_read.1 at reads.only.tickets (place_pinned opened.log new at.pinned reads.only.position) reads.only.free reads.only.keeps (reads.only.keeps.fits k.history k.acknowledged k.floor at.unmarked at.fits)
+  open_still = still_with (traces view) sum opened new k k.acknowledged page_read.0 page_read.1 at reads.only.tickets (place_pinned opened.log new (is_out opened.log at.pinned) reads.only.position) reads.only.free reads.only.keeps (reads.only.keeps.fits k.history k.acknowledged k.floor at.unmarked at.fits)

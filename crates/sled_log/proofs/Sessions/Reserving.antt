@@ -264,7 +264,7 @@ still_at trace sum old new k heads among still pages tickets busy batch at =
       unmarked = at.unmarked;
       fits = still.fits k.history k.acknowledged k.floor at.unmarked at.fits;
       zeros = at.zeros;
-      pinned = subst (λ p. 0 < p) (sym still.pins) at.pinned;
+      pinned = still.pins ∙ at.pinned;
       table = subst (λ p. IsTable (map page_of p.items) k.history top) (sym pages) at.table;
       tickets = record {
         as_many = ap length tickets ∙ at.tickets.as_many;
@@ -349,6 +349,8 @@ unchanged_stands view old log k unchanged kept = λ i. record {
     tickets = k.tickets;
     given_up = k.given_up;
     heads = k.heads;
+    pins = kept.pins i;
+    account = kept.account i;
   });
 }
 
@@ -434,6 +436,8 @@ module _ {D C : Type 0} (view : D → DeviceView) (sum : List ℕ → ℕ) (old 
                 tickets = k.tickets;
                 given_up = k.given_up;
                 heads = heads_at l (start i);
+                pins = made.seen.pins i;
+                account = made.seen.account i;
               });
             };
           },

@@ -15,7 +15,9 @@ use Rattle.sled_store.specs.Accounts.{machine_of}
 use Rattle.sled_store.specs.Blobs.{UnlessFault}
 use Rattle.sled_store.specs.Device.{Event, Trace}
 use Rattle.sled_store.specs.Script.{Performs, after_all}
+use Rattle.sled_log.proofs.Sessions.Accounts.{account_above, account_front}
 use Rattle.sled_log.proofs.Sessions.BegunHeads.{HasOnlyBegun, heads_kept, heads_still}
+use Rattle.sled_core.specs.Account.{Account, account_behind, account_of}
 use Rattle.sled_core.specs.Fillings.{FillingAt}
 use Rattle.sled_core.specs.Heads.{HeadAt}
 use Rattle.sled_core.proofs.Line.Among.{among_behind}
@@ -23,6 +25,7 @@ use Rattle.sled_core.specs.Begun.{begin_of, segment_view}
 use Rattle.sled_core.specs.Causes.{Answers, HeldAnswers, IsHeld, OnDone}
 use Rattle.sled_core.specs.declared.logger.Log.{Log}
 use Rattle.sled_core.specs.Fits.{FirstWaits, IsUsedUp, IsUsedUpBelow, KeepsTickets, buffers_of, current_begin, current_of, device_of, fault_of, given_up_of, held_len, holding_below, ledger_for, noted_in, open_places, pending_of, pins_of, position_of, reserved_end, sealing_end, segment_size_of, stable_end, start_of, synced_end, waiting_of, writing_below, fillings_of, heads_of}
+use Rattle.sled_core.specs.Freeing.{Ledger}
 use Rattle.sled_core.specs.Fronts.{CameTo, synced_writes, syncs}
 use Rattle.sled_core.specs.Among.{AreAmong}
 use Rattle.sled_core.specs.Keeps.{LeavesAbove, Preserves, SamePosition, sealed_for, start_for, start_sealed}
@@ -50,16 +53,17 @@ use Rattle.sled_log.specs.WriteSteps.{FailsTo, HasWrittenTo, IfHeld, IsWhy, Keep
 use Rattle.sled_log.proofs.Sessions.SafeItems.{safe_on}
 use Rattle.sled_log.specs.RunStates.{DeviceView, EndsInReach, LogView, RunState, count_unheld, current_span, first_waiting, held, held_among, next_start, opens, pending_in_view, sealed_below, spans_below, spans_from, start_below, with_log, without_unheld, MarkAt, heads_at}
 
--- The next record of a log begins where it did, what was reserved ends there, and the same reservations are open.
+-- The next record of a log begins where it did, what was reserved ends there, the same reservations are open, and as many pins are out.
 pub record StaysPut {D C : Type 0} (old new : Log D C) : Type 0 where
   pub position : position_of new ≡ position_of old
   pub reserved : reserved_end new ≡ reserved_end old
   pub opens : open_places new ≡ open_places old
   -- of the batches those are left that aren't wholly on the device
   pub noted : noted_in new ≡ not_whole (synced_end new) (noted_in old)
+  pub pins : pins_of new ≡ pins_of old
 
 pub stays_put : {D C : Type 0} (trace : D → Trace) (sum : List ℕ → ℕ) (old new : Log D C) → KeepsTickets old new → SamePosition old new → Preserves trace sum old new → StaysPut old new
-stays_put trace sum old new tickets position keeps = record { position = position.position; reserved = position.reserved; opens = tickets.opens; noted = keeps.noted }
+stays_put trace sum old new tickets position keeps = record { position = position.position; reserved = position.reserved; opens = tickets.opens; noted = keeps.noted; pins = position.pins }
 
 -- a log that keeps no failure kept none, where one that does is left as it was
 pub was_free : {D C : Type 0} (old new : Log D C) → ((e : IoError) → fault_of old ≡ Some e → new ≡ old) → fault_of new ≡ None → fault_of old ≡ None
@@ -77,18 +81,22 @@ more_records sum number these all among place (r ∷ rs) are = (
 )
 
 more_given : (sum : List ℕ → ℕ) (size : ℕ) (these all : List Message) (fewer heads : List HeadAt) (few fillings : List FillingAt) (b : BufferAt) → AreAmong these all → AreAmong fewer heads → AreAmong few fillings → IsWholeBuffer sum size these fewer few b → IsWholeBuffer sum size all heads fillings b
-more_given sum size these all fewer heads few fillings b among further fills whole = record {
-  head = whole.head;
-  records = whole.records;
-  rest = whole.rest;
-  is = whole.is;
-  headed = elim whole.headed [
-    | inl first ↦ inl (first.0, further (record { place = b.place; bytes = whole.head }) first.1, first.2, first.3, first.4)
-    | inr behind ↦ inr behind
-  ];
-  each = more_records sum (b.place / size) these all among (b.place + length whole.head) whole.records whole.each;
-  filled = elim whole.filled [ inl none ↦ inl none | inr some ↦ inr (some.0, some.1, fills _ some.2) ];
-}
+more_given sum size these all fewer heads few fillings b among further fills is =
+    let whole = is.0 in (
+      record {
+        head = whole.head;
+        records = whole.records;
+        rest = whole.rest;
+        is = whole.is;
+        headed = elim whole.headed [
+          | inl first ↦ inl (first.0, further (record { place = b.place; bytes = whole.head }) first.1, first.2, first.3, first.4)
+          | inr behind ↦ inr behind
+        ];
+        each = more_records sum (b.place / size) these all among (b.place + length whole.head) whole.records whole.each;
+        filled = elim whole.filled [ inl none ↦ inl none | inr some ↦ inr (some.0, some.1, fills _ some.2) ];
+      },
+      is.1,
+    )
 
 -- what fills the segments of a log, with the current one as it would be sealed, where these buffers were begun
 abbrev pub fillings_with : {D C : Type 0} → Log D C → List MarkAt → List FillingAt
@@ -316,9 +324,9 @@ module _ {D C : Type 0} (log : Log D C) (sum : List ℕ → ℕ) (begun : ℕ) (
     abbrev pub after : ℕ → RunState
     after reached = record { device = now; history = H; acknowledged = reached; floor = f; log = Some (seen_log new begun tickets given_up (heads_at l (start_of new))) }
 
-    pub leaves : (waiting : List Span) (start : BufferStart) (fault : Option IoError) → spans (waiting_of new) ≡ waiting → start_of new ≡ start → fault_of new ≡ fault
-        → after A ≡ with_log before now (Some (view_flushed l waiting start fault))
-    leaves waiting start fault left from kept =
+    pub leaves : (waiting : List Span) (start : BufferStart) (fault : Option IoError) (account : Account) → spans (waiting_of new) ≡ waiting → start_of new ≡ start → fault_of new ≡ fault → account_of new ≡ account
+        → after A ≡ with_log before now (Some (view_flushed l waiting start fault account))
+    leaves waiting start fault account left from kept marks =
         let synced : synced_end new ≡ first_waiting waiting start = first_seen new ∙ (λ i. first_waiting (left i) (from i)) in
         let noted : noted_in new ≡ not_whole (first_waiting waiting start) (noted_in log) = position.noted ∙ ap (λ n. not_whole n (noted_in log)) synced in
         λ i. record {
@@ -326,7 +334,7 @@ module _ {D C : Type 0} (log : Log D C) (sum : List ℕ → ℕ) (begun : ℕ) (
           history = H;
           acknowledged = A;
           floor = f;
-          log = Some (record { position = position.position i; synced = synced i; noted = noted i; end = position.reserved i; waiting = left i; start = from i; begun = begun; fault = kept i; outstanding = position.opens i; tickets = tickets; given_up = given_up; heads = heads_at l (from i) });
+          log = Some (record { position = position.position i; synced = synced i; noted = noted i; end = position.reserved i; waiting = left i; start = from i; begun = begun; fault = kept i; outstanding = position.opens i; tickets = tickets; given_up = given_up; heads = heads_at l (from i); pins = position.pins i; account = marks i });
         }
 
   -- Once what begins below a place is sealed.
@@ -409,6 +417,7 @@ module _ {D C : Type 0} (log : Log D C) (sum : List ℕ → ℕ) (begun : ℕ) (
               let stable = stable_seen above in
               let waiting = left_seen above in
               let first : start_of new ≡ start_below to l = above.start ∙ start_seen in
+              let marks = account_above log sum to new above in
               record {
                 sound = none;
                 in_reach = λ less. flush_in (λ used. unused (less, used));
@@ -423,7 +432,7 @@ module _ {D C : Type 0} (log : Log D C) (sum : List ℕ → ℕ) (begun : ℕ) (
                   history = H;
                   acknowledged = max A (end_below (stable i) H);
                   floor = f;
-                  log = Some (record { position = position.position i; synced = ends i; noted = noted i; end = position.reserved i; waiting = waiting i; start = first i; begun = begun; fault = still i; outstanding = position.opens i; tickets = tickets; given_up = given_up; heads = heads_at l (first i) });
+                  log = Some (record { position = position.position i; synced = ends i; noted = noted i; end = position.reserved i; waiting = waiting i; start = first i; begun = begun; fault = still i; outstanding = position.opens i; tickets = tickets; given_up = given_up; heads = heads_at l (first i); pins = position.pins i; account = marks i });
                 };
               }
 
@@ -448,7 +457,7 @@ module _ {D C : Type 0} (log : Log D C) (sum : List ℕ → ℕ) (begun : ℕ) (
                       whole = λ sound. still;
                       held = held;
                     },
-                    (let below : current_begin log < to = same.due none in inr (refl, below, not_held e (current_begin log) (current_begin new) to below (ap (λ (x : BufferStart). x.place) same.start) sealed, leaves new device now H A f position (spans (waiting_of log)) (start_of log) (fault_of new) (ap spans same.waiting) same.start refl, same.fault ∙ none)),
+                    (let below : current_begin log < to = same.due none in inr (refl, below, not_held e (current_begin log) (current_begin new) to below (ap (λ (x : BufferStart). x.place) same.start) sealed, leaves new device now H A f position (spans (waiting_of log)) (start_of log) (fault_of new) (account_of log) (ap spans same.waiting) same.start refl (ap (λ (x : Ledger). x.account) same.ledger), same.fault ∙ none)),
                   ))
               | inr front ↦ (
                 front.count,
@@ -467,7 +476,8 @@ module _ {D C : Type 0} (log : Log D C) (sum : List ℕ → ℕ) (begun : ℕ) (
                 inl (
                     let left = ap spans front.left ∙ drop_seen front.count (sealed_for sum to log) ∙ ap (λ (ss : List Span). drop front.count ss) sealed_seen in
                     let start = front.start ∙ start_seen in (
-                      leaves new device now H A f position (drop front.count (sealed_below to l)) (start_below to l) (fault_of new) left start refl,
+                      leaves new device now H A f position (drop front.count (sealed_below to l)) (start_below to l) (fault_of new) (account_behind (take front.count its_buffers) (account_of log)) left start refl
+                          (account_front log sum to new trace some front),
                       subst (λ n. n < to) (first_seen new ∙ (λ i. first_waiting (left i) (start i))) front.short,
                     )),
               )
@@ -573,7 +583,7 @@ module _ {D C : Type 0} (trace : D → Trace) (sum : List ℕ → ℕ) (opened :
     unmarked = at.unmarked;
     fits = fits;
     zeros = at.zeros;
-    pinned = subst (λ n. 0 < n) (sym position.pins) at.pinned;
+    pinned = position.pins ∙ at.pinned;
     table = at.table;
     tickets = record {
       as_many = at.tickets.as_many;

@@ -12,6 +12,7 @@ use Rattle.sled_core.proofs.PublicLaws.{awaited, awaited_small, fits_holds, plac
 use Rattle.sled_codec.specs.declared.result.DiskPtr.{DiskPtr}
 use Rattle.sled_log.specs.Endings.{HasRoomFor, HasRoomToApply, TakesTicket, applied_to}
 use Rattle.sled_log.specs.RunPhases.{IsSafe, view_by}
+use Rattle.sled_log.proofs.Sessions.Accounts.{is_out}
 use Rattle.sled_log.proofs.Sessions.EndedTickets.{complete_fails, completes, awaits_it, is_message, message_open, room_does, room_fails, room_open, takes_it}
 use Rattle.sled_log.proofs.Sessions.OpenApart.{joins_named, none_there}
 use Rattle.sled_log.proofs.Sessions.RunLemmas.{on_failure, on_success}
@@ -90,7 +91,7 @@ returns-in-Ok-clause-step g c = λ k at asked.
     let says = awaited old.log ticket m awaits in
     let done = c.in-Ok.ensures in
     let small = awaited_small old.log ticket m awaits in
-    let pinned : 0 < pins_of mid.log = subst (λ x. 0 < pins_of x) (sym takes.log) roomy.pinned in
+    let pinned : 0 < pins_of mid.log = subst (λ x. 0 < pins_of x) (sym takes.log) (is_out old.log roomy.pinned) in
     let safe : IsSafe trace sum mid.log m = subst (λ x. IsSafe trace sum x m) (sym takes.log) (roomy.tickets.each c.args.number m its.1).stored in
     let stored = safe done.answers in
     let joins = (roomy.tickets.each c.args.number m its.1).joins its.2 in

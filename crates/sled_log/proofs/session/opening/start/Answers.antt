@@ -1,5 +1,5 @@
 -- A log that is started goes on where the recovered table ends, and a start that fails leaves what can be recovered.
-use Rattle.std.proofs.Common.{◌≡◌, ◌≤◌, ◌<◌, ◌+◌, ◌∙◌, ℕ, List, [], None, Some, length, refl, sym, ap, subst, arith, rules, ◌∷◌, ◌-ℤ◌, pos}
+use Rattle.std.proofs.Common.{◌≡◌, ◌≤◌, ◌<◌, ◌+◌, ◌∙◌, ℕ, List, [], None, Some, length, nat_lt, true, ℤ, refl, sym, ap, subst, arith, rules, ◌∷◌, ◌-ℤ◌, pos}
 use Rattle.std.proofs.lemmas.List.{length-map}
 use Rattle.sled_codec.specs.Snapshots.{SnapshotModel, model_of, stable_place}
 use Rattle.sled_store.specs.Device.{Trace, state_of}
@@ -8,6 +8,7 @@ use Rattle.sled_codec.specs.Record.{short_header}
 use Rattle.sled_log.specs.RunStates.{MarkAt, heads_on}
 use Rattle.sled_log.specs.WriteSteps.{headed}
 use Rattle.sled_store.proofs.Segments.Elements.{in_first, in_nothing}
+use Rattle.sled_core.specs.Account.{account_of}
 use Rattle.sled_core.specs.OpenBatches.{stable_below}
 use Rattle.sled_core.specs.Starts.{start_from}
 use Rattle.sled_core.specs.Heads.{HeadAt}
@@ -63,14 +64,17 @@ returns-in-Ok-clause-starts g c = λ H A f at.
     let bare : noted_in c.in-Ok.log ≡ [] = begins.noted in
     let stable : stable_end c.in-Ok.log ≡ stable_place s.stable = (λ i. stable_below (ends i) (bare i)) in
     let pinned : pins_of new ≡ 1 = ap pins_of taken ∙ ap (λ n. n + 1) begins.pins in
+    let joined : ℤ = pos (stable_place s.stable) in
+    let account : account_of new ≡ record { mark = joined; durable = joined; pinned = true } =
+    ap account_of taken ∙ (λ i. record { mark = (begins.account i).mark; durable = (begins.account i).durable; pinned = nat_lt 0 (begins.pins i + 1) }) in
     record {
-      log = λ i. Some (record { position = position i; synced = synced i; noted = noted i; end = end i; waiting = waiting i; start = first i; begun = pages i; fault = fault i; outstanding = empty i; tickets = []; given_up = []; heads = heads_on size len s });
+      log = λ i. Some (record { position = position i; synced = synced i; noted = noted i; end = end i; waiting = waiting i; start = first i; begun = pages i; fault = fault i; outstanding = empty i; tickets = []; given_up = []; heads = heads_on size len s; pins = pinned i; account = account i });
       at = record {
         made = at.closed.made;
         unmarked = [];
         fits = c.pin-guard.ensures.keeps.fits H A f [] (c.in-Ok.ensures.fits H A f at.ready);
         zeros = at.zeros;
-        pinned = omega (arith, pinned);
+        pinned = pinned;
         table = at.table;
         tickets = record {
           as_many = search rules;

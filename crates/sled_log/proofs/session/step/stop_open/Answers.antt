@@ -39,6 +39,8 @@ returns-clause-step g c = λ k at free.
             tickets = k.tickets;
             given_up = k.given_up;
             heads = k.heads;
+            pins = did.rest.pins i;
+            account = did.rest.account i;
           });
         }),
       );

@@ -12,6 +12,7 @@ use Rattle.sled_core.proofs.PublicLaws.{place_pinned, written_past}
 use Rattle.sled_log.specs.RunPhases.{seen, view_by}
 use Rattle.sled_log.specs.RunStates.{LogView}
 use Rattle.sled_log.specs.WriteSteps.{stable_from}
+use Rattle.sled_log.proofs.Sessions.Accounts.{is_out}
 use Rattle.sled_log.proofs.Sessions.Writing.{fails_to, flush_in, flush_out, has_written, holding_seen, if_held, keeps_failing, kept_or_none, some_reserved, stable_seen, stays_put, still_open, was_free, whole_of, why_of, writes_seen, kept}
 use Rattle.sled_log.proofs.Sessions.Within.{going_on}
 use Rattle.sled_log.proofs.session.writing.flush.Goals as goal
@@ -34,7 +35,7 @@ returns-in-Ok-clause-step g c = λ k at free.
     let past = fits_stable trace sum old H k.acknowledged k.floor at.unmarked at.fits in
     let above = c.in-Ok.ensures.buffers.0.above in
     let answers = c.in-Ok.ensures.answers in
-    let position = place_pinned old new at.pinned c.flush.ensures.keeps.position in
+    let position = place_pinned old new (is_out old at.pinned) c.flush.ensures.keeps.position in
     let put = stays_put trace sum old new c.flush.ensures.keeps.tickets position c.flush.ensures.keeps.preserves in
     let ends : synced_end new ≡ stable_from to l = sym c.in-Ok.ensures.synced.stable ∙ stable_seen old sum begun k.tickets k.given_up k.heads to some new (view old.config.device) (view new.config.device) H k.acknowledged k.floor put above in
     let settled : IsKept sum (account_of new).mark (account_of new).durable (segment_size_of old) new.segments.first.site new.segments.first.buffer.written_len (state_of (trace (device_of new))) (logged H) =
@@ -45,7 +46,7 @@ returns-in-Ok-clause-step g c = λ k at free.
       next = kept trace sum opened new k reached;
       step = record {
         written = has_written old sum begun k.tickets k.given_up k.heads to some new (view old.config.device) (view new.config.device) H k.acknowledged k.floor put (whole_of trace sum old k.given_up k.heads H k.acknowledged k.floor at.unmarked at.given_up at.heads at.fits answers.2) c.in-Ok.grown answers.2 answers.3 answers.1 answers.0
-            (c.in-Ok.ensures.calls ∙ ap (λ (es : List Event). after_all es (trace (device_of old))) (writes_seen old sum begun k.tickets k.given_up k.heads to some at.pinned)) answers.4 c.in-Ok.ensures.answer c.in-Ok.ensures.synced.whole past above;
+            (c.in-Ok.ensures.calls ∙ ap (λ (es : List Event). after_all es (trace (device_of old))) (writes_seen old sum begun k.tickets k.given_up k.heads to some (is_out old at.pinned))) answers.4 c.in-Ok.ensures.answer c.in-Ok.ensures.synced.whole past above;
         all = λ i d lt. let low = written_past trace sum new H (c.in-Ok.ensures.records H holds) i d lt in omega (arith, low, ends);
         site = new.segments.first.site;
         from = new.segments.first.buffer.written_len;
@@ -73,7 +74,7 @@ returns-in-Err-clause-step g c = λ k at free.
     let H = k.history in
     let to = reserved_end old in
     let some : current_begin old < to → 0 < held_len old = some_reserved old sum begun k.tickets k.given_up k.heads to (omega arith) in
-    let position = place_pinned old new at.pinned c.flush.ensures.keeps.position in
+    let position = place_pinned old new (is_out old at.pinned) c.flush.ensures.keeps.position in
     let device = view old.config.device in
     let now = view new.config.device in
     let held = holding_below sum old to in
@@ -85,10 +86,10 @@ returns-in-Err-clause-step g c = λ k at free.
         | inl kept ↦ (
             let same = c.flush.ensures.spares.faulty kept.0 kept.2 in
             inl (keeps_failing old new begun k.tickets k.given_up k.heads device now H k.acknowledged k.floor c.in-Err.e kept.0 kept.1 kept.2 same (ap (λ x. view x.config.device) same)))
-        | inr none ↦ inr (fails_to old sum begun k.tickets k.given_up k.heads to some new device now H k.acknowledged k.floor (stays_put trace sum old new c.flush.ensures.keeps.tickets position c.flush.ensures.keeps.preserves) at.pinned (whole_of trace sum old k.given_up k.heads H k.acknowledged k.floor at.unmarked at.given_up at.heads at.fits none) trace c.in-Err.e refl refl none
+        | inr none ↦ inr (fails_to old sum begun k.tickets k.given_up k.heads to some new device now H k.acknowledged k.floor (stays_put trace sum old new c.flush.ensures.keeps.tickets position c.flush.ensures.keeps.preserves) (is_out old at.pinned) (whole_of trace sum old k.given_up k.heads H k.acknowledged k.floor at.unmarked at.given_up at.heads at.fits none) trace c.in-Err.e refl refl none
             (why_of ℕ c.in-Err.e held _ used _ (fault_of old) (fault_of new) device.failures now.failures none (holding_seen old sum begun k.tickets k.given_up k.heads to some) (λ used. (used.0, flush_out old sum begun k.tickets k.given_up k.heads used.1)) (λ free needs. needs.1 (flush_in old sum begun k.tickets k.given_up k.heads (λ used. free (needs.0, used)))) c.in-Err.ensures.answers)
-            (subst (λ (es : List Event). Performs es (trace (device_of old)) (trace (device_of new))) (writes_seen old sum begun k.tickets k.given_up k.heads to some at.pinned) c.flush.ensures.at_most)
-            (if_held ℕ c.in-Err.e _ _ (λ done. done ∙ ap (λ (es : List Event). after_all es (trace (device_of old))) (writes_seen old sum begun k.tickets k.given_up k.heads to some at.pinned)) c.in-Err.ensures.calls) c.in-Err.ensures.buffers.0.seals.held c.in-Err.ensures.buffers.1)
+            (subst (λ (es : List Event). Performs es (trace (device_of old)) (trace (device_of new))) (writes_seen old sum begun k.tickets k.given_up k.heads to some (is_out old at.pinned)) c.flush.ensures.at_most)
+            (if_held ℕ c.in-Err.e _ _ (λ done. done ∙ ap (λ (es : List Event). after_all es (trace (device_of old))) (writes_seen old sum begun k.tickets k.given_up k.heads to some (is_out old at.pinned))) c.in-Err.ensures.calls) c.in-Err.ensures.buffers.0.seals.held c.in-Err.ensures.buffers.1)
       ];
       at = λ own. still_open trace sum opened new k k.acknowledged at c.flush.ensures.keeps.tickets (only_begun sum opened.log new c.flush.ensures.buffers.0.marked) position (was_free old new c.flush.ensures.spares.faulty) c.flush.ensures.keeps.preserves (c.flush.ensures.keeps.preserves.fits H k.acknowledged k.floor at.unmarked at.fits);
       crash = λ own. going_on trace sum opened k at new c.flush.ensures.keeps.preserves.goes_on;

@@ -9,6 +9,7 @@ use Rattle.sled_core.specs.Running.{end_below}
 use Rattle.sled_core.specs.Stable.{target_for}
 use Rattle.sled_core.proofs.Holds.ReachLemmas.{fits_stable}
 use Rattle.sled_log.specs.RunPhases.{Does, view_by}
+use Rattle.sled_log.proofs.Sessions.Accounts.{is_out}
 use Rattle.sled_log.proofs.Sessions.NotedSeen.{target_written}
 use Rattle.sled_log.proofs.Sessions.Writing.{has_written, holding_seen, over, stable_seen, stays_put, still_open, was_free, whole_of, kept}
 use Rattle.sled_log.proofs.Sessions.MadeStable.{held_seen, some_known, stabilizing_seen, stable_failed}
@@ -37,7 +38,7 @@ returns-in-Ok-clause-step g c = λ k at free.
     let fits = c.in-Ok.ensures.acknowledges H k.acknowledged k.floor at.unmarked at.fits in
     let some : current_begin old < to → 0 < held_len old = some_known old sum begun k.tickets k.given_up k.heads place answers.0 in
     let past = fits_stable trace sum old H k.acknowledged k.floor at.unmarked at.fits in
-    let position = place_pinned old new at.pinned c.make_stable.ensures.keeps.position in
+    let position = place_pinned old new (is_out old at.pinned) c.make_stable.ensures.keeps.position in
     let put = stays_put trace sum old new c.make_stable.ensures.keeps.tickets position c.make_stable.ensures.keeps.preserves in
     let reached : ℕ = max k.acknowledged (end_below (stable_end new) H) in
     let unheld = holding_seen old sum begun k.tickets k.given_up k.heads to some ∙ sym (held_seen old sum begun k.tickets k.given_up k.heads place answers.0) ∙ answers.1.0 in
@@ -48,7 +49,7 @@ returns-in-Ok-clause-step g c = λ k at free.
       step = (
         answers.0,
         has_written old sum begun k.tickets k.given_up k.heads to some new (view old.config.device) (view new.config.device) H k.acknowledged k.floor put (whole_of trace sum old k.given_up k.heads H k.acknowledged k.floor at.unmarked at.given_up at.heads at.fits answers.1.2) c.in-Ok.more answers.1.2 answers.1.3 answers.1.1 unheld
-            (c.in-Ok.ensures.made ∙ ap (λ (es : List Event). after_all es (trace (device_of old))) (stabilizing_seen old sum begun k.tickets k.given_up k.heads place at.pinned)) answers.1.4 c.in-Ok.ensures.answer
+            (c.in-Ok.ensures.made ∙ ap (λ (es : List Event). after_all es (trace (device_of old))) (stabilizing_seen old sum begun k.tickets k.given_up k.heads place (is_out old at.pinned))) answers.1.4 c.in-Ok.ensures.answer
             (target_written old new place c.make_stable.ensures.keeps.preserves.noted c.in-Ok.ensures.target) past above,
         subst (λ n. place <ℤ pos n) (stable_seen old sum begun k.tickets k.given_up k.heads to some new (view old.config.device) (view new.config.device) H k.acknowledged k.floor put above) c.in-Ok.ensures.target,
       );
@@ -66,9 +67,9 @@ returns-in-Err-clause-step g c = λ k at free.
     let opened = c.args.opened.now in
     let old = opened.log in
     let new = c.make_stable.new.self in
-    let position = place_pinned old new at.pinned c.make_stable.ensures.keeps.position in
+    let position = place_pinned old new (is_out old at.pinned) c.make_stable.ensures.keeps.position in
     let place : ℤ = to_z w64 (of_z w64 c.args.place) in
-    let fails = stable_failed view sum old new (length opened.pages.items) k.tickets k.given_up k.heads place k.history k.acknowledged k.floor (stays_put trace sum old new c.make_stable.ensures.keeps.tickets position c.make_stable.ensures.keeps.preserves) (whole_of trace sum old k.given_up k.heads k.history k.acknowledged k.floor at.unmarked at.given_up at.heads at.fits) at.pinned c.in-Err.e c.in-Err.ensures.answers c.in-Err.ensures.made c.make_stable.ensures.at_most
+    let fails = stable_failed view sum old new (length opened.pages.items) k.tickets k.given_up k.heads place k.history k.acknowledged k.floor (stays_put trace sum old new c.make_stable.ensures.keeps.tickets position c.make_stable.ensures.keeps.preserves) (whole_of trace sum old k.given_up k.heads k.history k.acknowledged k.floor at.unmarked at.given_up at.heads at.fits) (is_out old at.pinned) c.in-Err.e c.in-Err.ensures.answers c.in-Err.ensures.made c.make_stable.ensures.at_most
     c.make_stable.ensures.spares.faulty c.in-Err.ensures.refused c.in-Err.ensures.buffers.0.seals.held c.in-Err.ensures.buffers.1 in
     let done : Does view sum (phase.Open opened) (told.Stable place) (phase.Open (over opened new), reply.Failed c.in-Err.e) k =
     record {

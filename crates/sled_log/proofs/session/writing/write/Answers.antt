@@ -3,12 +3,15 @@ use Rattle.std.proofs.Common.{◌≡◌, ◌∙◌, ◌≤◌, ◌&&◌, inl, in
 use Rattle.std.proofs.lemmas.Bool.Decides.{nat_tests}
 use Rattle.sled_store.specs.Device.{Event}
 use Rattle.sled_store.specs.Script.{Performs, after_all}
-use Rattle.sled_core.specs.Fits.{device_of, fault_of, waiting_of}
-use Rattle.sled_core.proofs.PublicLaws.{pinned_pending, place_pinned}
-use Rattle.sled_core.specs.Waiting.{spans}
+use Rattle.sled_core.specs.Fits.{device_of, fault_of, ledger_of, segment_size_of, waiting_of}
+use Rattle.sled_core.specs.Account.{account_behind, account_of}
+use Rattle.sled_core.specs.Freeing.{Ledger}
+use Rattle.sled_core.proofs.PublicLaws.{ledger_account, pinned_pending, place_pinned}
+use Rattle.sled_core.specs.Waiting.{one_pending, spans}
 use Rattle.sled_log.specs.RunPhases.{seen, view_by}
 use Rattle.sled_log.specs.RunStates.{LogView, opens, pending_in_view, without_unheld}
 use Rattle.sled_log.specs.declared.session.command.Refusal.TheVariants as why
+use Rattle.sled_log.proofs.Sessions.Accounts.{is_out}
 use Rattle.sled_log.proofs.Sessions.Writing.{held_none, index_fits, keeps_failing, kept_or_none, leaves, never_held, pending_seen, shows_waiting, spared, stays_put, still_open, waiting_held, was_free, whole_of, why_of, without_seen, kept}
 use Rattle.sled_log.proofs.Sessions.Within.{going_on}
 use Rattle.sled_log.proofs.session.writing.write.Goals as goal
@@ -35,16 +38,17 @@ returns-in-Ok-clause-step g c = λ k at free.
     let l : LogView = seen opened k.tickets k.given_up k.heads in
     let answers = c.in-Ok.ensures.answers in
     let left : spans (waiting_of new) ≡ without_unheld (opens l) c.args.i l.waiting = ap spans c.in-Ok.ensures.written ∙ without_seen (opens l) c.args.i (waiting_of old) (waiting_held old sum (length opened.pages.items) k.tickets k.given_up k.heads) in
+    let marks : account_of new ≡ account_behind (one_pending c.args.i (waiting_of old)) (account_of old) = ap (λ (x : Ledger). x.account) c.in-Ok.ensures.ledger ∙ ledger_account (segment_size_of old) (one_pending c.args.i (waiting_of old)) (ledger_of old) in
     record {
       not_refused = refl;
       next = kept trace sum opened new k k.acknowledged;
       step = (
         answers.0,
-        record { buffers = waiting_of old; shown = shows_waiting old sum (length opened.pages.items) k.tickets k.given_up k.heads (whole_of trace sum old k.given_up k.heads k.history k.acknowledged k.floor at.unmarked at.given_up at.heads at.fits answers.0); made = c.in-Ok.ensures.calls ∙ ap (λ (es : List Event). after_all es (trace (device_of old))) (pinned_pending old at.pinned c.args.i) },
+        record { buffers = waiting_of old; shown = shows_waiting old sum (length opened.pages.items) k.tickets k.given_up k.heads (whole_of trace sum old k.given_up k.heads k.history k.acknowledged k.floor at.unmarked at.given_up at.heads at.fits answers.0); made = c.in-Ok.ensures.calls ∙ ap (λ (es : List Event). after_all es (trace (device_of old))) (pinned_pending old (is_out old at.pinned) c.args.i) },
         answers.2,
-        leaves old sum (length opened.pages.items) k.tickets k.given_up k.heads new (view old.config.device) (view new.config.device) k.history k.acknowledged k.floor (stays_put trace sum old new c.write_to_log.ensures.keeps.tickets (place_pinned old new at.pinned c.write_to_log.ensures.keeps.position) c.write_to_log.ensures.keeps.preserves) _ _ _ left c.write_to_log.ensures.start answers.1,
+        leaves old sum (length opened.pages.items) k.tickets k.given_up k.heads new (view old.config.device) (view new.config.device) k.history k.acknowledged k.floor (stays_put trace sum old new c.write_to_log.ensures.keeps.tickets (place_pinned old new (is_out old at.pinned) c.write_to_log.ensures.keeps.position) c.write_to_log.ensures.keeps.preserves) _ _ _ _ left c.write_to_log.ensures.start answers.1 marks,
       );
-      at = λ own. still_open trace sum opened new k k.acknowledged at c.write_to_log.ensures.keeps.tickets (begun_none sum old new (record { heads = c.write_to_log.ensures.heads; fillings = c.write_to_log.ensures.fillings })) (place_pinned old new at.pinned c.write_to_log.ensures.keeps.position) (was_free old new c.write_to_log.ensures.faulty) c.write_to_log.ensures.keeps.preserves (c.write_to_log.ensures.keeps.preserves.fits k.history k.acknowledged k.floor at.unmarked at.fits);
+      at = λ own. still_open trace sum opened new k k.acknowledged at c.write_to_log.ensures.keeps.tickets (begun_none sum old new (record { heads = c.write_to_log.ensures.heads; fillings = c.write_to_log.ensures.fillings })) (place_pinned old new (is_out old at.pinned) c.write_to_log.ensures.keeps.position) (was_free old new c.write_to_log.ensures.faulty) c.write_to_log.ensures.keeps.preserves (c.write_to_log.ensures.keeps.preserves.fits k.history k.acknowledged k.floor at.unmarked at.fits);
       crash = λ own. going_on trace sum opened k at new c.write_to_log.ensures.keeps.preserves.goes_on;
     }
 
@@ -61,7 +65,7 @@ returns-in-Err-clause-step g c = λ k at free.
     let device = view old.config.device in
     let now = view new.config.device in
     let begun = length opened.pages.items in
-    let put = stays_put trace sum old new c.write_to_log.ensures.keeps.tickets (place_pinned old new at.pinned c.write_to_log.ensures.keeps.position) c.write_to_log.ensures.keeps.preserves in
+    let put = stays_put trace sum old new c.write_to_log.ensures.keeps.tickets (place_pinned old new (is_out old at.pinned) c.write_to_log.ensures.keeps.position) c.write_to_log.ensures.keeps.preserves in
     let answers = held_none (Unit {0}) c.in-Err.e (fault_of old) (fault_of new) device.failures now.failures c.in-Err.ensures.answers in
     record {
       not_refused = refl;
@@ -78,15 +82,15 @@ returns-in-Err-clause-step g c = λ k at free.
             record {
               buffers = waiting_of old;
               shown = shows_waiting old sum begun k.tickets k.given_up k.heads (whole_of trace sum old k.given_up k.heads k.history k.acknowledged k.floor at.unmarked at.given_up at.heads at.fits none);
-              made = subst (λ (es : List Event). Performs es device.trace now.trace) (pinned_pending old at.pinned c.args.i) c.write_to_log.ensures.at_most;
+              made = subst (λ (es : List Event). Performs es device.trace now.trace) (pinned_pending old (is_out old at.pinned) c.args.i) c.write_to_log.ensures.at_most;
               synced = (let same = c.in-Err.ensures.err.2 in omega (arith, same));
               whole = λ sound. spared (Unit {0}) c.in-Err.e (fault_of old) (fault_of new) device.failures now.failures device.trace now.trace none sound c.in-Err.ensures.answers c.in-Err.ensures.refused;
               held = never_held (Unit {0}) c.in-Err.e (fault_of old) (fault_of new) device.failures now.failures _ c.in-Err.ensures.answers;
             },
-            leaves old sum begun k.tickets k.given_up k.heads new device now k.history k.acknowledged k.floor put _ _ _ left c.write_to_log.ensures.start refl,
+            leaves old sum begun k.tickets k.given_up k.heads new device now k.history k.acknowledged k.floor put _ _ _ _ left c.write_to_log.ensures.start refl (ap (λ (x : Ledger). x.account) c.in-Err.ensures.err.3),
           );
         })
       ];
-      at = λ own. still_open trace sum opened new k k.acknowledged at c.write_to_log.ensures.keeps.tickets (begun_none sum old new (record { heads = c.write_to_log.ensures.heads; fillings = c.write_to_log.ensures.fillings })) (place_pinned old new at.pinned c.write_to_log.ensures.keeps.position) (was_free old new c.write_to_log.ensures.faulty) c.write_to_log.ensures.keeps.preserves (c.write_to_log.ensures.keeps.preserves.fits k.history k.acknowledged k.floor at.unmarked at.fits);
+      at = λ own. still_open trace sum opened new k k.acknowledged at c.write_to_log.ensures.keeps.tickets (begun_none sum old new (record { heads = c.write_to_log.ensures.heads; fillings = c.write_to_log.ensures.fillings })) (place_pinned old new (is_out old at.pinned) c.write_to_log.ensures.keeps.position) (was_free old new c.write_to_log.ensures.faulty) c.write_to_log.ensures.keeps.preserves (c.write_to_log.ensures.keeps.preserves.fits k.history k.acknowledged k.floor at.unmarked at.fits);
       crash = λ own. going_on trace sum opened k at new c.write_to_log.ensures.keeps.preserves.goes_on;
     }
