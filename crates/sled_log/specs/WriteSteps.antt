@@ -170,9 +170,10 @@ pub record HasFlushed (sum : List ℕ → ℕ) (size : ℕ) (a : RunState) (l : 
   pub site : SegmentPosition
   pub from : ℕ
   pub at : site.place + from ≡ stable_from l.end l
-  -- the mark that joined, and the greatest one on the device
+  -- the mark that joined, and the greatest one on the device, which are those of the log then
   pub mark : ℤ
   pub durable : ℤ
+  pub marks : (v : LogView) → b.log ≡ Some v → (v.account.mark ≡ mark) × (v.account.durable ≡ durable)
   pub kept : IsKept sum mark durable size site from (state_of new.trace) (logged a.history)
 
 abbrev pub FlushStep : (List ℕ → ℕ) → ℕ → RunState → LogView → Reply → DeviceView → RunState → Type 0

@@ -1,5 +1,6 @@
 -- All that was reserved is written and synced, and all completed messages are acknowledged, unless a reservation is open, memory or a further segment is wanting, the device fails, or the log keeps a failure.
 use Rattle.std.proofs.Common.{◌≡◌, ◌<◌, ◌∙◌, inl, inr, max, ℕ, List, length, arith, subst, sym, refl, ap}
+use Rattle.std.proofs.lemmas.Option.{same_Some}
 use Rattle.sled_store.specs.Device.{Event, state_of}
 use Rattle.sled_store.specs.Script.{Performs, after_all}
 use Rattle.sled_core.specs.Account.{account_of}
@@ -53,6 +54,9 @@ returns-in-Ok-clause-step g c = λ k at free.
         at = ends;
         mark = (account_of new).mark;
         durable = (account_of new).durable;
+        marks = λ v is.
+            let same = same_Some _ v is in
+            (ap (λ (x : LogView). x.account.mark) (sym same), ap (λ (x : LogView). x.account.durable) (sym same));
         kept = settled;
       };
       at = λ own. still_open trace sum opened new k reached at c.flush.ensures.keeps.tickets (only_begun sum opened.log new c.flush.ensures.buffers.0.marked) position (was_free old new c.flush.ensures.spares.faulty) c.flush.ensures.keeps.preserves
