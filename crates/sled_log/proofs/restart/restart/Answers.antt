@@ -128,13 +128,15 @@ returns-in-Ok-clause-crash g c =
       mid = trace config.device;
       performed = performs_whole (flushing sum c.args.log) (trace (device_of c.args.log)) (trace config.device) came;
       is = inr came;
-      first = λ H A f U fits. subst (λ (t : Trace). LeavesOnly (RecoverableIfOwn sum size H A f) (trace (device_of c.args.log)) t) (sym same) (keeps.goes_on.crash H A f U fits);
+      first = λ H A f U fits.
+          subst (λ (t : Trace). LeavesOnly (RecoverableIfOwn sum size H A f) (trace (device_of c.args.log)) t) (sym same) (keeps.goes_on.crash H A f U fits);
       then = λ H A f U restarts.
           let can : CanRecover sum size (state_of (trace config.device)) H A f =
           can_recover trace sum c.args.log log config.device H A A f U c.flush-flushed.ensures.keeps.position.size same came
           c.in-Ok.ensures.answers.2 restarts (keeps.fits H A f U restarts.fits) in
           subst (λ n. LeavesOnly (RecoverableIfOwn sum n H A f) (trace config.device) (trace new.device)) sizes
-          (c.read_snapshot_or_default-snapshot.ensures.recoverable H A f (subst (λ n. CanRecover sum n (state_of (trace config.device)) H A f) (sym sizes) can));
+          (c.read_snapshot_or_default-snapshot.ensures.recoverable H A f
+          (subst (λ n. CanRecover sum n (state_of (trace config.device)) H A f) (sym sizes) can));
     }
 
 pub returns-in-Ok-clause-kept : goal.returns-in-Ok-clause-kept
@@ -171,13 +173,15 @@ returns-in-Err-clause-crash g c =
     let old : Trace = trace (device_of log) in
     let new : Trace = trace c.halt-config.result.device in
     let same : new ≡ trace (device_of c.flush-flushed.new.self) = ap (λ (x : RunningConfig _ _). trace x.device) c.halt-config.ensures.config in
-    let leaves : (H : History) (A f : ℕ) (U : List Message) → Fits trace sum log H A f U → LeavesOnly (RecoverableIfOwn sum size H A f) old new = λ H A f U fits.
-    subst (λ (t : Trace). LeavesOnly (RecoverableIfOwn sum size H A f) old t) (sym same) (c.flush-flushed.ensures.keeps.preserves.goes_on.crash H A f U fits) in record {
+    let crash = c.flush-flushed.ensures.keeps.preserves.goes_on.crash in
+    let leaves : (H : History) (A f : ℕ) (U : List Message) → Fits trace sum log H A f U → LeavesOnly (RecoverableIfOwn sum size H A f) old new =
+    λ H A f U fits. subst (λ (t : Trace). LeavesOnly (RecoverableIfOwn sum size H A f) old t) (sym same) (crash H A f U fits) in record {
       mid = new;
       performed = subst (λ (t : Trace). Performs (flushing sum log) old t) (sym same) c.flush-flushed.ensures.at_most;
       is = inl refl;
       first = leaves;
-      then = λ H A f U restarts. started (LeavesRecoverable sum size H A f) new (at_last (LeavesRecoverable sum size H A f) old new (leaves H A f U restarts.fits));
+      then = λ H A f U restarts.
+          started (LeavesRecoverable sum size H A f) new (at_last (LeavesRecoverable sum size H A f) old new (leaves H A f U restarts.fits));
     }
 
 pub returns-in-Err-clause-kept : goal.returns-in-Err-clause-kept
