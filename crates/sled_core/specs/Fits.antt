@@ -1,6 +1,7 @@
 -- What a log has to do with the history of what was completed, and with its device. Its segments lie one behind another; the first one isn't wholly on the
 -- device, and the last one is being filled.
-use Rattle.std.specs.Prelude.{◌≡◌, ◌⊎◌, ◌+◌, ◌-◌, ◌*◌, ◌/◌, ◌%◌, ◌^◌, ◌≤◌, ◌<◌, ◌≤ℤ◌, if◌then◌else◌, nat_le, nat_lt, Bool, ℕ, ℤ, pos, true, List, [], ◌∷◌, length}
+use Rattle.std.specs.Prelude.{◌≡◌, ◌⊎◌, ◌+◌, ◌-◌, ◌*◌, ◌/◌, ◌%◌, ◌^◌, ◌≤◌, ◌<◌, ◌≤ℤ◌, if◌then◌else◌, nat_le, nat_lt, Bool, ℕ, ℤ, pos, true, List, [], ◌∷◌}
+use Rattle.std.specs.Prelude.{length}
 use Rattle.std.specs.Prelude.{map, drop, take, All, Option, None, Some, slice_get, Contains}
 use Rattle.std.specs.declared.io.Error.{Error as IoError}
 use Rattle.sled_codec.specs.declared.result.DiskPtr.TheVariants.{Blob}

@@ -9,7 +9,8 @@ use Rattle.sled_store.specs.Moments.{IsLater, LeavesOnly}
 use Rattle.sled_core.specs.Account.{account_of}
 use Rattle.sled_core.specs.declared.logger.Log.{Log}
 use Rattle.sled_core.specs.declared.reservation.Reservation.{Reservation}
-use Rattle.sled_core.specs.Fits.{KeepsTickets, Awaits, NoneSealed, buffers_of, config_of, current_begin, current_of, device_of, fault_of, kept_batches, line_of, machine_at}
+use Rattle.sled_core.specs.Fits.{KeepsTickets, Awaits, NoneSealed, buffers_of, config_of, current_begin, current_of, device_of, fault_of, kept_batches}
+use Rattle.sled_core.specs.Fits.{line_of, machine_at}
 use Rattle.sled_core.specs.Fits.{ledger_for, ledger_of, next_place, noted_in, pins_of, position_of, position_sealed, position_with, reserved_end}
 use Rattle.sled_core.specs.Fits.{segment_size_of, start_of, synced_end, waiting_of}
 use Rattle.sled_core.specs.invariants.Fits.{Holds}

@@ -11,7 +11,8 @@ use Rattle.sled_store.specs.StartCauses.{StartRefuses}
 use Rattle.sled_store.specs.Device.{Trace, state_of}
 use Rattle.sled_store.specs.Script.{Performs, after_all}
 use Rattle.sled_store.specs.Started.{started}
-use Rattle.sled_core.specs.Fits.{NoneOpen, NoneSealed, config_of, fault_of, given_up_of, kept_batches, noted_in, pins_of, position_of, reserved_end, segment_size_of}
+use Rattle.sled_core.specs.Fits.{NoneOpen, NoneSealed, config_of, fault_of, given_up_of, kept_batches, noted_in, pins_of, position_of, reserved_end}
+use Rattle.sled_core.specs.Fits.{segment_size_of}
 use Rattle.sled_core.specs.Fits.{start_of, synced_end}
 use Rattle.sled_core.specs.FreeSlots.{begun_machine}
 use Rattle.sled_core.specs.Positions.{Position, is_short, next_segment_at}

@@ -51,10 +51,11 @@ pub record HoldsTicket {D C : Type 0} (old new : Opened D C) (kind : LogKind) (p
 pub record HasTried {D C : Type 0} (view : D → DeviceView) (sum : List ℕ → ℕ) (old : Opened D C) (kind : LogKind) (page : ℕ) (bytes : List ℕ)
     (new : Opened D C) (result : Reply) (k : Unstored) : Type 0 where
   pub not_refused : reason_of result ≡ None
-  pub acts : ReserveActs sum (segment_size_of old.log) (seen old k.tickets k.given_up k.heads) kind page bytes (device_in view (Open old)) result (device_in view (Open new))
+  pub acts : ReserveActs sum (segment_size_of old.log) (seen old k.tickets k.given_up k.heads) kind page bytes
+      (device_in view (Open old)) result (device_in view (Open new))
   pub tickets : Unstored
-  pub step : ReserveStep (segment_size_of old.log) (stands view (Open old) k) (seen old k.tickets k.given_up k.heads) kind page bytes result (device_in view (Open new))
-      (stands view (Open new) tickets)
+  pub step : ReserveStep (segment_size_of old.log) (stands view (Open old) k) (seen old k.tickets k.given_up k.heads)
+      kind page bytes result (device_in view (Open new)) (stands view (Open new) tickets)
   pub at : IsOpenAt (traces view) sum new tickets
   pub crash : StaysRecoverable sum (segment_size_of old.log) (stands view (Open old) k) (device_in view (Open old)).trace (device_in view (Open new)).trace
 

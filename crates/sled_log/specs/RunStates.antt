@@ -1,5 +1,6 @@
 -- Where a run of commands stands between two commands.
-use Rattle.std.specs.Prelude.{◌≡◌, ◌≤◌, ◌<◌, ◌+◌, ◌-◌, ◌-ℤ◌, ◌%◌, ◌^◌, ◌&&◌, ◌==◌, ◌∷◌, ◌++◌, nat_lt, nat_le, not, zero, suc, if◌then◌else◌, ℕ, ℤ, pos, Bool, true, false}
+use Rattle.std.specs.Prelude.{◌≡◌, ◌≤◌, ◌<◌, ◌+◌, ◌-◌, ◌-ℤ◌, ◌%◌, ◌^◌, ◌&&◌, ◌==◌, ◌∷◌, ◌++◌, nat_lt, nat_le, not, zero, suc, if◌then◌else◌, ℕ, ℤ, pos}
+use Rattle.std.specs.Prelude.{Bool, true, false}
 use Rattle.std.specs.Prelude.{List, [], length, slice_get, Option, None, Some, Contains}
 use Rattle.std.specs.declared.io.Error.{Error as IoError}
 use Rattle.sled_codec.specs.declared.result.DiskPtr.{DiskPtr}

@@ -22,7 +22,8 @@ use Rattle.sled_core.specs.Positions.{Position, behind_record}
 use Rattle.sled_core.specs.Reserves.{MadeAnswers}
 use Rattle.sled_log.specs.declared.session.command.Reply.{Reply}
 use Rattle.sled_log.specs.declared.session.command.Reply.TheVariants as reply
-use Rattle.sled_log.specs.RunStates.{DeviceView, EndsInReach, LogView, RunState, body_in, is_behind, made_ready, message_at, one_blob, opens, page_now, heads_at}
+use Rattle.sled_log.specs.RunStates.{DeviceView, EndsInReach, LogView, RunState, body_in, is_behind, made_ready, message_at, one_blob, opens, page_now}
+use Rattle.sled_log.specs.RunStates.{heads_at}
 use Rattle.sled_log.specs.RunStates.{places_without, rewriting_at, start_with, target_in, waiting_with, with_log}
 
 -- the place and the pointer that are answered are those of a message

@@ -36,8 +36,8 @@ pub record StandsFull (sum : List ℕ → ℕ) (held size : ℕ) (log : List ℕ
 -- What a log has to do with a history, the end of what was acknowledged, the floor and the messages that were not marked yet, where all its segments before
 -- a place are wholly on the device, and these were begun from there on.
 -- As there, the log file and the snapshots are of the history as the log has it, and the blobs of the history itself.
-pub record FitsFull (sum : List ℕ → ℕ) (marks : JoinedMarks) (size : ℕ) (device : State) (fault : Option IoError) (place : ℕ) (behind : List SegmentParts) (reach pins : ℕ)
-    (H : History) (A f : ℕ) (U : List Message) : Type 0 where
+pub record FitsFull (sum : List ℕ → ℕ) (marks : JoinedMarks) (size : ℕ) (device : State) (fault : Option IoError) (place : ℕ)
+    (behind : List SegmentParts) (reach pins : ℕ) (H : History) (A f : ℕ) (U : List Message) : Type 0 where
   -- the last one of those before the place, and its bytes
   pub site : SegmentPosition
   pub bytes : List ℕ

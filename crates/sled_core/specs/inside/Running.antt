@@ -104,7 +104,8 @@ pub record FitsIn (sum : List ℕ → ℕ) (marks : JoinedMarks) (parts : LogPar
 abbrev pub FitsLine : (List ℕ → ℕ) → JoinedMarks → ℕ → State → Option IoError → List SegmentView → ℕ → ℕ → History → ℕ → ℕ → List Message → Type 0
 FitsLine sum marks size device fault [] reach pins H A f U = ⊥
 FitsLine sum marks size device fault (v ∷ vs) reach pins H A f U =
-    FitsIn sum marks (log_parts size v.parts.site device fault v.parts.bytes v.parts.written_len v.parts.sealed v.parts.reserved) (map parts_in vs) reach pins H A f U
+    FitsIn sum marks (log_parts size v.parts.site device fault v.parts.bytes v.parts.written_len v.parts.sealed v.parts.reserved) (map parts_in vs)
+    reach pins H A f U
 
 -- So do those of a log that has noted these batches and whose slots are these. Batches and entries are of the history as the log has it.
 pub record FitsWith (sum : List ℕ → ℕ) (marks : JoinedMarks) (noted : List Batch) (size : ℕ) (device : State) (fault : Option IoError)
@@ -124,8 +125,8 @@ pub record FitsWith (sum : List ℕ → ℕ) (marks : JoinedMarks) (noted : List
   pub in_slots : HaveSlotsFrom sum marks size device.snapshots.file H (stable_below reach H.batches) m
 
 -- So do those over a device of which so much is shown. What was placed, blobs and snapshots are those of the device itself.
-pub record FitsShown (sum : List ℕ → ℕ) (marks : JoinedMarks) (noted : List Batch) (size : ℕ) (device : State) (fault : Option IoError) (line : List SegmentView) (m : Machine)
-    (pins : ℕ) (H : History) (A f : ℕ) (U : List Message) : Type 0 where
+pub record FitsShown (sum : List ℕ → ℕ) (marks : JoinedMarks) (noted : List Batch) (size : ℕ) (device : State) (fault : Option IoError)
+    (line : List SegmentView) (m : Machine) (pins : ℕ) (H : History) (A f : ℕ) (U : List Message) : Type 0 where
   pub shows : FitsWith sum marks noted size (shown size fault m line device) fault line m pins H A f U
   pub rests : RestsWhole fault device.log
   -- and this is what the file has besides: no segment that is gone ends behind where the mark's begins

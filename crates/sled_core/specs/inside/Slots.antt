@@ -33,7 +33,8 @@ AreWhole sum size log H below m =
 
 -- The slots are the account of what is marked: of all messages of the history but these. Tables count from the segment of the mark on that joined, or from the
 -- snapshot with which the log began.
-pub record HasAccount (sum : List ℕ → ℕ) (marks : JoinedMarks) (size : ℕ) (snapshots : ℤ → Option (List ℕ)) (H : History) (U : List Message) (m : Machine) : Type 0 where
+pub record HasAccount (sum : List ℕ → ℕ) (marks : JoinedMarks) (size : ℕ) (snapshots : ℤ → Option (List ℕ)) (H : History) (U : List Message)
+    (m : Machine) : Type 0 where
   pub first : SnapshotModel
   pub begins : BeginsFrom sum snapshots first
   pub account : IsAccountOf size (held_since size marks first) (without U H) m

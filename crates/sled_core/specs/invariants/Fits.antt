@@ -11,5 +11,5 @@ use Rattle.sled_core.specs.inside.Fits.{HoldsShown}
 -- The log holds this history: what it shows of its log file has the records of the history as a log has it, without the items that blobs have.
 unfoldable pub Holds : {D C : Type 0} → (D → Trace) → (List ℕ → ℕ) → Log D C → History → Type 0
 Holds trace sum log H =
-    HoldsShown sum log.marks (noted_in log) log.config.config.segment_size (state_of (trace log.config.device)) log.fault.kept (line_of log) (machine_of log.accountant)
-    (logged H)
+    HoldsShown sum log.marks (noted_in log) log.config.config.segment_size (state_of (trace log.config.device)) log.fault.kept (line_of log)
+    (machine_of log.accountant) (logged H)
