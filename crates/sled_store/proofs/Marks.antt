@@ -10,9 +10,11 @@ pub mod OutdatedSteps
 pub mod ReplaceSteps
 pub mod SameSlots
 pub mod SlotLemmas
+pub mod SlotMoves
 pub mod StabilizeSteps
 pub mod StableSteps
 pub mod StandingSums
+pub mod StepCalls
 pub mod TableLemmas
 pub mod Tracked
 pub mod UnmarkedSteps
