@@ -9,6 +9,7 @@ pub mod MarkedLemmas
 pub mod OutdatedSteps
 pub mod ReplaceSteps
 pub mod SameSlots
+pub mod SlotBySlot
 pub mod SlotLemmas
 pub mod SlotMoves
 pub mod StabilizeSteps

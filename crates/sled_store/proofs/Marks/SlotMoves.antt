@@ -334,14 +334,15 @@ pub record LosesSegment (size base : ℕ) (old new : SlotState) : Type 0 where
   pub free : is_free new.state ≡ true
   pub below : old.lsn + size ≤ base
 
+-- each slot has the segment that it had, or has lost it
+abbrev pub KeepOrLose : ℕ → ℕ → Machine → Machine → Type 0
+KeepOrLose size base m m' = (k : ℕ) → KeepsSegment (slot_at m k) (slot_at m' k) ⊎ LosesSegment size base (slot_at m k) (slot_at m' k)
+
 -- What isn't active ends at a place or below it, and so does what is due: so does each segment that has left its slot.
 module _ (size base : ℕ) (mark : ℤ) (m : Machine) (cut_off : AreFreeFrom m.slots m.tip)
     (stable : (k : ℕ) → is_free (slot_at m k).state ≡ false → is_active (slot_at m k).state ≡ false → (slot_at m k).lsn + size ≤ base)
     (below : (place : ℕ) → is_due size mark place ≡ true → place + size ≤ base) where
-  abbrev after : Machine
-  after = (stabilized size mark m).machine
-
-  pub stabilized_slots : (k : ℕ) → KeepsSegment (slot_at m k) (slot_at after k) ⊎ LosesSegment size base (slot_at m k) (slot_at after k)
+  pub stabilized_slots : KeepOrLose size base m (stabilized size mark m).machine
   stabilized_slots k = elim ((stabilized_made size mark m cut_off).slots k) [
     | inl same ↦ inl (record { free = ap (λ (s : SlotState). is_free s.state) same; lsn = ap (λ (s : SlotState). s.lsn) same })
     | inr left ↦ elim left.now [
