@@ -6,6 +6,7 @@ pub mod CutEnds
 pub mod CutHides
 pub mod CutReads
 pub mod CutRecovers
+pub mod FilesLost
 pub mod FreedHides
 pub mod FreedSlots
 pub mod FrontWritten
@@ -23,6 +24,8 @@ pub mod ReadLess
 pub mod ReadsAlike
 pub mod ReadsAs
 pub mod ShownReads
+pub mod SlotsLost
+pub mod StandsLost
 pub mod TornFront
 pub mod TornReads
 pub mod TornUnread
