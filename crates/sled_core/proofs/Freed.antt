@@ -12,6 +12,7 @@ pub mod FreedSlots
 pub mod FrontWritten
 pub mod Gone
 pub mod GoneAlone
+pub mod HoldsLost
 pub mod KeptHides
 pub mod Known
 pub mod LeftOwn
