@@ -21,6 +21,7 @@ pub mod NoHarm
 pub mod OutdatedGoes
 pub mod OwnAlike
 pub mod PassedOver
+pub mod PlacedLost
 pub mod ReadLess
 pub mod ReadsAlike
 pub mod ReadsAs

@@ -2,7 +2,7 @@
 -- slot alone loses its segment it is emptied, also in the file with zeros behind its end.
 use Rattle.std.proofs.Common.{◌≡◌, ◌≢◌, ◌⊎◌, ◌∙◌, ◌+◌, ◌-◌, ◌*◌, ◌/◌, ◌≤◌, ◌<◌, ◌||◌, ℕ, Bool, true, false, if◌then◌else◌, List, length, get_or, refl, sym}
 use Rattle.std.proofs.Common.{ap, subst, arith, inl, inr}
-use Rattle.std.proofs.lemmas.Bool.{cases_eq, or_left}
+use Rattle.std.proofs.lemmas.Bool.{cases_eq}
 use Rattle.sled_codec.specs.History.{History}
 use Rattle.sled_store.specs.SegmentStates.{Machine, is_free, slot_at}
 use Rattle.sled_store.proofs.Marks.SlotMoves.{KeepOrLose}
@@ -12,11 +12,15 @@ use Rattle.sled_core.specs.inside.LogFile.{padded}
 use Rattle.sled_core.specs.inside.Slots.{AreWhole}
 use Rattle.sled_core.proofs.Cleared.Emptied.{IsEmptied, bytes_empty}
 use Rattle.sled_core.proofs.Cleared.Moves.{part_same}
-use Rattle.sled_core.proofs.Cleared.Offsets.{in_own, slot_is, zeroed_get, zeroed_long, zeroed_there}
+use Rattle.sled_core.proofs.Cleared.Offsets.{cleared_zeros, in_own, slot_is, zeroed_get, zeroed_long}
 use Rattle.sled_core.proofs.Freed.SlotsLost.{had_segment}
 use Rattle.sled_core.proofs.Reached.WholeSegments.{whole_at, whole_kept}
 use Rattle.sled_core.proofs.Sealed.Padded.{length-padded, padded_get}
 use Rattle.sled_core.proofs.Torn.AlikeSlots.{SameIn}
+
+-- Two files have the same bytes in a slot.
+abbrev pub SameBytes : ℕ → List ℕ → List ℕ → ℕ → Type 0
+SameBytes size old new k = (i : ℕ) → k * size ≤ i → i < k * size + size → get_or new i 0 ≡ get_or old i 0
 
 module _ (size : ℕ) (some : 0 < size) (m m' : Machine) (line : List SegmentView) (log : List ℕ) where
   abbrev old : List ℕ
@@ -25,8 +29,8 @@ module _ (size : ℕ) (some : 0 < size) (m m' : Machine) (line : List SegmentVie
   abbrev now : List ℕ
   now = cleared size m' line log
 
-  long : length now ≡ length old
-  long = zeroed_long (is_stale size m' line) log ∙ sym (zeroed_long (is_stale size m line) log)
+  pub shown_long : length now ≡ length old
+  shown_long = zeroed_long (is_stale size m' line) log ∙ sym (zeroed_long (is_stale size m line) log)
 
   -- A byte is shown as it was where its slot is as free as it was.
   same_byte : (i : ℕ) → is_free (slot_at m' (i / size)).state ≡ is_free (slot_at m (i / size)).state → get_or now i 0 ≡ get_or old i 0
@@ -36,9 +40,17 @@ module _ (size : ℕ) (some : 0 < size) (m m' : Machine) (line : List SegmentVie
       ∙ sym (zeroed_get (is_stale size m line) log i)
 
   -- So the slot is.
-  pub slot_shown : (k : ℕ) → is_free (slot_at m' k).state ≡ is_free (slot_at m k).state → SameIn size old now k
-  slot_shown k same lid len low high there = part_same old now lid len long (λ i above below.
-      same_byte i (subst (λ j. is_free (slot_at m' j).state ≡ is_free (slot_at m j).state) (sym (slot_is size k i (omega (arith, low, above)) (omega (arith, high, below)))) same))
+  pub bytes_shown : (k : ℕ) → is_free (slot_at m' k).state ≡ is_free (slot_at m k).state → SameBytes size old now k
+  bytes_shown k same i low high =
+      same_byte i (subst (λ j. is_free (slot_at m' j).state ≡ is_free (slot_at m j).state) (sym (slot_is size k i low high)) same)
+
+  slot_shown : (k : ℕ) → is_free (slot_at m' k).state ≡ is_free (slot_at m k).state → SameIn size old now k
+  slot_shown k same lid len low high there = part_same old now lid len shown_long
+      (λ i above below. bytes_shown k same i (omega (arith, low, above)) (omega (arith, high, below)))
+
+  -- One that is free is shown as zeros.
+  pub zeros_shown : (k : ℕ) → is_free (slot_at m' k).state ≡ true → (i : ℕ) → k * size ≤ i → i < k * size + size → get_or now i 0 ≡ 0
+  zeros_shown = (cleared_zeros size some m' line log).0
 
   -- What is whole in a slot that has kept its segment is whole.
   pub whole_lost : (sum : List ℕ → ℕ) → 20 ≤ size → (base : ℕ) → KeepOrLose size base m m' → (H : History) (below : ℕ) → AreWhole sum size old H below m
@@ -59,13 +71,8 @@ module _ (size : ℕ) (some : 0 < size) (m m' : Machine) (line : List SegmentVie
       | inr other ↦ ap (λ s. is_free s.state) (others (i / size) other)
     ])
 
-    inside : (i : ℕ) → k * size ≤ i → i < k * size + size → get_or now i 0 ≡ 0
-    inside i low high =
-        zeroed_there (is_stale size m' line) log i (or_left (is_free (slot_at m' (i / size)).state) (is_unwritten size line i)
-        (ap (λ j. is_free (slot_at m' j).state) (slot_is size k i low high) ∙ free))
-
     pub emptied_beyond : (to : ℕ) → IsEmptied size k (padded to old) (padded to now)
     emptied_beyond to = bytes_empty size k (padded to old) (padded to now)
-        (length-padded to now ∙ ap (λ n. n + (to - n)) long ∙ sym (length-padded to old))
+        (length-padded to now ∙ ap (λ n. n + (to - n)) shown_long ∙ sym (length-padded to old))
         (λ i how. padded_get to now i ∙ beside i how ∙ sym (padded_get to old i))
-        (λ i low high. padded_get to now i ∙ inside i low high)
+        (λ i low high. padded_get to now i ∙ zeros_shown k free i low high)

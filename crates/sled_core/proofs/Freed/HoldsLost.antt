@@ -21,16 +21,13 @@ use Rattle.sled_core.specs.inside.LogFile.{StaysBelow}
 use Rattle.sled_core.specs.inside.SealedBuffers.{Laid}
 use Rattle.sled_core.proofs.Cleared.Moves.{part_same}
 use Rattle.sled_core.proofs.Cleared.Offsets.{slot_is}
+use Rattle.sled_core.proofs.Freed.FilesLost.{SameBytes}
 use Rattle.sled_core.proofs.Sealed.Ended.{ends_rise}
 use Rattle.sled_core.proofs.Sealed.LaidLemmas.{EndsRise, laid_same}
 use Rattle.sled_core.proofs.Tail.LogFileLemmas.{header_there}
 use Rattle.sled_core.proofs.Tail.Multiples.{put_down}
 use Rattle.sled_core.proofs.Torn.AlikeSlots.{SameIn, record_same}
 use Rattle.sled_core.proofs.Torn.TornRecords.{long_enough}
-
--- Two files have the same bytes in a slot.
-abbrev pub SameBytes : ℕ → List ℕ → List ℕ → ℕ → Type 0
-SameBytes size old new k = (i : ℕ) → k * size ≤ i → i < k * size + size → get_or new i 0 ≡ get_or old i 0
 
 module _ (sum : List ℕ → ℕ) (size : ℕ) (some : 256 ≤ size) (old new : List ℕ) (long : length new ≡ length old) where
   -- A record in such a slot stands as it did,

@@ -1,5 +1,5 @@
 -- Slots lose their segments, which end at a place or below: what is said of slots alone stays so, counted from that place on.
-use Rattle.std.proofs.Common.{◌≡◌, ◌∙◌, ◌+◌, ◌*◌, ◌/◌, ◌%◌, ◌<◌, ◌≤◌, ℕ, true, false, List, Option, None, refl, sym, ap, subst, arith, inl, inr}
+use Rattle.std.proofs.Common.{◌≡◌, ◌≢◌, ◌∙◌, ◌+◌, ◌*◌, ◌/◌, ◌%◌, ◌<◌, ◌≤◌, ℕ, true, false, List, Option, None, refl, sym, ap, subst, arith, inl, inr}
 use Rattle.std.specs.List.{All, Contains}
 use Rattle.std.specs.declared.io.Error.{Error as IoError}
 use Rattle.std.proofs.Math.Nat.{lt-div-mul-add}
@@ -11,15 +11,19 @@ use Rattle.sled_store.specs.Marks.{slot_with}
 use Rattle.sled_store.specs.SegmentStates.{Machine, is_free, slot_at}
 use Rattle.sled_store.proofs.Histories.Ascending.{Ascends}
 use Rattle.sled_store.proofs.Histories.EarlierEntries.{entry_earlier}
+use Rattle.sled_store.proofs.Marks.DeactivationSteps.{from_map}
 use Rattle.sled_store.proofs.Marks.SlotMoves.{KeepOrLose, LosesSegment}
 use Rattle.sled_store.proofs.Segments.Elements.{all_from_in}
 use Rattle.sled_store.proofs.Segments.TableEntries.{from_table}
 use Rattle.sled_core.specs.Begun.{SegmentView}
+use Rattle.sled_core.specs.LogFile.{StaysFrom}
+use Rattle.sled_core.specs.Logged.{in_log, logged}
 use Rattle.sled_core.specs.NoForeign.{NoHeaderOfZeros}
 use Rattle.sled_core.specs.inside.Begun.{line_end}
 use Rattle.sled_core.specs.inside.FreeSlots.{FreeAreZeros, HasSlot, HasSlots, HaveOwn}
 use Rattle.sled_core.specs.inside.Numbers.{HasNumber, HasNumbers, HaveSlots, IsInSlot}
 use Rattle.sled_core.proofs.Cleared.Emptied.{NoneNeeds}
+use Rattle.sled_core.proofs.Logged.Messages.{from_logged, table_logged}
 
 module _ (size base : ℕ) (some : 0 < size) (m m' : Machine) (changes : KeepOrLose size base m m') where
   -- A slot that has a segment had it.
@@ -98,3 +102,21 @@ module _ (size base : ℕ) (some : 0 < size) (m m' : Machine) (changes : KeepOrL
         ]);
     not_above = reached;
   }
+
+  -- What stays of a history from a place on that isn't below lies in no slot that lost its segment: also as the log has it.
+  pub stays_beside : (sum : List ℕ → ℕ) (H : History) (held A : ℕ) → base ≤ held → HaveSlots sum size held H A m
+      → ((k : ℕ) → LosesSegment size base (slot_at m k) (slot_at m' k) → NoneNeeds size H k held held) → (x : Message) → StaysFrom (logged H) held x
+      → (k : ℕ) → LosesSegment size base (slot_at m k) (slot_at m' k) → slot_with size x ≢ k
+  stays_beside sum H held A over has unneeded x (inl entry) k lost =
+      let found = from_map in_log (table H held x.page) x (subst (λ (l : List Message). Contains l x) (table_logged H held x.page) entry) in
+      subst (λ (e : Message). slot_with size e ≢ k) found.2 (unneeded k lost held (omega arith) (omega arith) x.page found.0 found.1)
+  stays_beside sum H held A over has unneeded x (inr (above, there)) k lost =
+      let found = from_logged H x there in
+      subst (λ (e : Message). slot_with size e ≢ k) found.2 (apart found.0 (has.later found.0 found.1 (subst (λ (e : Message). held ≤ e.place) (sym found.2) above))
+      (subst (λ (e : Message). held ≤ e.place) (sym found.2) above))
+    where
+      apart : (e : Message) → IsInSlot size m e → held ≤ e.place → slot_with size e ≢ k
+      apart e is high same =
+          let inside : e.place < e.place / size * size + size = lt-div-mul-add some in
+          let at : (slot_at m k).lsn ≡ e.place / size * size = ap (λ j. (slot_at m j).lsn) (sym same) ∙ is.lsn in
+          let low = lost.below in omega (arith, inside, at, low, high, over)
