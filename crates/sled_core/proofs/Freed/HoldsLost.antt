@@ -104,7 +104,7 @@ module _ (sum : List ℕ → ℕ) (size : ℕ) (some : 256 ≤ size) (old new : 
     now = record device { log = log }
 
     -- A segment holds what it held,
-    segment_same : (site : SegmentPosition) (bytes : List ℕ) (from : ℕ) (bs : List Sealed) (rs : List Reserved) (H : History) {stays : Message → Type 0}
+    pub segment_same : (site : SegmentPosition) (bytes : List ℕ) (from : ℕ) (bs : List Sealed) (rs : List Reserved) (H : History) {stays : Message → Type 0}
         → EndsRise from bs size → from ≤ size → SameBytes size old new (site.slot / size)
         → ((m : Message) → stays m → m.place < site.place → (lid : ℕ) → m.pointer ≡ Inline lid → SameBytes size old new (lid / size))
         → HoldsSegment sum (log_parts size site device fault bytes from bs rs) stays H → HoldsSegment sum (log_parts size site now fault bytes from bs rs) stays H
@@ -133,7 +133,7 @@ module _ (sum : List ℕ → ℕ) (size : ℕ) (some : 256 ≤ size) (old new : 
       parts = (put_down size site.slot).0
 
     -- and so do all behind a first one,
-    behind_same : (place : ℕ) (ss : List SegmentParts) (stays : Message → Type 0) (batches : List Batch) (ms : List Message)
+    pub behind_same : (place : ℕ) (ss : List SegmentParts) (stays : Message → Type 0) (batches : List Batch) (ms : List Message)
         → ((s : SegmentParts) → Contains ss s → SameBytes size old new (s.site.slot / size))
         → ((m : Message) → stays m → (lid : ℕ) → m.pointer ≡ Inline lid → SameBytes size old new (lid / size))
         → HoldBehind sum size device fault place ss stays batches ms → HoldBehind sum size now fault place ss stays batches ms
@@ -161,7 +161,7 @@ module _ (sum : List ℕ → ℕ) (size : ℕ) (some : 256 ≤ size) (old new : 
     )
 
     -- so the log holds what it held.
-    pub holds_same : (site : SegmentPosition) (bytes : List ℕ) (from : ℕ) (bs : List Sealed) (rs : List Reserved)
+    unfoldable pub holds_same : (site : SegmentPosition) (bytes : List ℕ) (from : ℕ) (bs : List Sealed) (rs : List Reserved)
         (behind : List SegmentParts) (H : History) → EndsRise from bs size → from ≤ size → SameBytes size old new (site.slot / size)
         → ((s : SegmentParts) → Contains behind s → SameBytes size old new (s.site.slot / size))
         → (holds : HoldsIn sum (log_parts size site device fault bytes from bs rs) behind H)

@@ -22,7 +22,7 @@ use Rattle.sled_core.specs.inside.LogFile.{padded}
 use Rattle.sled_core.specs.inside.Reached.{BegunSegment, StandsAmong}
 use Rattle.sled_core.specs.inside.Scan.{IsFoundSegment}
 use Rattle.sled_core.specs.inside.Slots.{AreWhole, IsWholeSegment, marked_at}
-use Rattle.sled_core.proofs.Cleared.Emptied.{IsEmptied, LiesBelow, NoneNeeds, emptied_stands, its_below}
+use Rattle.sled_core.proofs.Cleared.Emptied.{IsEmptied, NoneNeeds, emptied_stands, its_below}
 use Rattle.sled_core.proofs.Cleared.Moves.{cleared_emptied, cleared_line}
 use Rattle.sled_core.proofs.Freed.FilesLost.{emptied_beyond, whole_lost}
 use Rattle.sled_core.proofs.Freed.FreedHides.{hides_emptied}
@@ -30,6 +30,7 @@ use Rattle.sled_core.proofs.Freed.SlotsLost.{own_lost}
 use Rattle.sled_core.proofs.Numbers.HidesAs.{hides_as}
 use Rattle.sled_core.proofs.Read.FoundLemmas.{found_there}
 use Rattle.sled_core.proofs.Reserve.Ranges.{part-append}
+use Rattle.sled_core.proofs.Tail.Multiples.{lower_multiple}
 use Rattle.sled_core.proofs.Torn.WrittenBeside.{found_moved}
 
 module _ (sum : List ℕ → ℕ) (none : NoHeaderOfZeros sum) (size : ℕ) (some : 256 ≤ size) (s : State) (line : List SegmentView) (base : ℕ) (H : History)
@@ -40,9 +41,9 @@ module _ (sum : List ℕ → ℕ) (none : NoHeaderOfZeros sum) (size : ℕ) (som
   abbrev shown : Machine → List ℕ
   shown m = cleared size m line s.log.bytes
 
-  -- a file stands as far as it was reached, and what is held counts from a place
+  -- a file stands as far as it was reached, and what is held counts from a place or above it
   abbrev Stands : List ℕ → Type 0
-  Stands file = (among : StandsAmong sum size file site from others reach H first) × (among.stands.from ≡ held)
+  Stands file = (among : StandsAmong sum size file site from others reach H first) × (held ≤ among.stands.from)
 
   -- So does what is shown of the file with these slots, and this is what that has besides.
   pub record ShowsStanding (m : Machine) : Type 0 where
@@ -54,12 +55,12 @@ module _ (sum : List ℕ → ℕ) (none : NoHeaderOfZeros sum) (size : ℕ) (som
   stands_emptied : (k place : ℕ) (old left : List ℕ) → IsEmptied size k old left → (x : Segment) → IsFoundSegment sum size old 0 x → x.slot ≡ k * size
       → x.place + size ≤ held / size * size → NoneNeeds size H k held reach → site.slot ≢ k * size
       → ((y : BegunSegment) → Contains others y → y.site.slot ≢ k * size) → Stands old → Stands left
-  stands_emptied k place old left emptied x found here low unneeded beside behind (among, is) =
-      let gone : LiesBelow sum size old least k (among.stands.from / size * size) =
-      subst (λ n. LiesBelow sum size old least k (n / size * size)) (sym is) (its_below sum size old least 0 x found k (held / size * size) here low) in
-      let now = emptied_stands sum none size some k old left emptied H reach first among gone (subst (λ n. NoneNeeds size H k n reach) (sym is) unneeded)
-      beside behind in
-      (now.0, now.1 ∙ is)
+  stands_emptied k place old left emptied x found here low unneeded beside behind (among, counts) =
+      let up = lower_multiple size some held among.stands.from counts in
+      let now = emptied_stands sum none size some k old left emptied H reach first among
+      (its_below sum size old least 0 x found k (among.stands.from / size * size) here (omega (arith, low, up)))
+      (λ cut above below. unneeded cut (omega (arith, counts, above)) below) beside behind in
+      (now.0, omega (arith, counts, now.1))
 
   -- Slots keep their segments.
   standing_kept : (n o : Machine) → ((k : ℕ) → KeepsSegment (slot_at n k) (slot_at o k)) → ShowsStanding n → ShowsStanding o
