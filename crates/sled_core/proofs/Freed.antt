@@ -26,6 +26,7 @@ pub mod PlacedLost
 pub mod ReadLess
 pub mod ReadsAlike
 pub mod ReadsAs
+pub mod SameSlots
 pub mod ShownReads
 pub mod SlotsLost
 pub mod StandsLost

@@ -11,16 +11,11 @@ use Rattle.sled_core.specs.inside.Cleared.{cleared, is_stale, is_unwritten, zero
 use Rattle.sled_core.specs.inside.LogFile.{padded}
 use Rattle.sled_core.specs.inside.Slots.{AreWhole}
 use Rattle.sled_core.proofs.Cleared.Emptied.{IsEmptied, bytes_empty}
-use Rattle.sled_core.proofs.Cleared.Moves.{part_same}
 use Rattle.sled_core.proofs.Cleared.Offsets.{cleared_zeros, in_own, slot_is, zeroed_get, zeroed_long}
+use Rattle.sled_core.proofs.Freed.SameSlots.{SameSlot, slot_bytes, slot_in}
 use Rattle.sled_core.proofs.Freed.SlotsLost.{had_segment}
 use Rattle.sled_core.proofs.Reached.WholeSegments.{whole_at, whole_kept}
 use Rattle.sled_core.proofs.Sealed.Padded.{length-padded, padded_get}
-use Rattle.sled_core.proofs.Torn.AlikeSlots.{SameIn}
-
--- Two files have the same bytes in a slot.
-abbrev pub SameBytes : ℕ → List ℕ → List ℕ → ℕ → Type 0
-SameBytes size old new k = (i : ℕ) → k * size ≤ i → i < k * size + size → get_or new i 0 ≡ get_or old i 0
 
 module _ (size : ℕ) (some : 0 < size) (m m' : Machine) (line : List SegmentView) (log : List ℕ) where
   abbrev old : List ℕ
@@ -29,7 +24,7 @@ module _ (size : ℕ) (some : 0 < size) (m m' : Machine) (line : List SegmentVie
   abbrev now : List ℕ
   now = cleared size m' line log
 
-  pub shown_long : length now ≡ length old
+  shown_long : length now ≡ length old
   shown_long = zeroed_long (is_stale size m' line) log ∙ sym (zeroed_long (is_stale size m line) log)
 
   -- A byte is shown as it was where its slot is as free as it was.
@@ -40,13 +35,9 @@ module _ (size : ℕ) (some : 0 < size) (m m' : Machine) (line : List SegmentVie
       ∙ sym (zeroed_get (is_stale size m line) log i)
 
   -- So the slot is.
-  pub bytes_shown : (k : ℕ) → is_free (slot_at m' k).state ≡ is_free (slot_at m k).state → SameBytes size old now k
-  bytes_shown k same i low high =
-      same_byte i (subst (λ j. is_free (slot_at m' j).state ≡ is_free (slot_at m j).state) (sym (slot_is size k i low high)) same)
-
-  slot_shown : (k : ℕ) → is_free (slot_at m' k).state ≡ is_free (slot_at m k).state → SameIn size old now k
-  slot_shown k same lid len low high there = part_same old now lid len shown_long
-      (λ i above below. bytes_shown k same i (omega (arith, low, above)) (omega (arith, high, below)))
+  pub slot_shown : (k : ℕ) → is_free (slot_at m' k).state ≡ is_free (slot_at m k).state → SameSlot size old now k
+  slot_shown k same = slot_bytes size old now k shown_long (λ i low high.
+      same_byte i (subst (λ j. is_free (slot_at m' j).state ≡ is_free (slot_at m j).state) (sym (slot_is size k i low high)) same))
 
   -- One that is free is shown as zeros.
   pub zeros_shown : (k : ℕ) → is_free (slot_at m' k).state ≡ true → (i : ℕ) → k * size ≤ i → i < k * size + size → get_or now i 0 ≡ 0
@@ -58,7 +49,7 @@ module _ (size : ℕ) (some : 0 < size) (m m' : Machine) (line : List SegmentVie
   whole_lost sum large base changes H below are k used ends =
       let had = had_segment size base some m m' changes k used in
       whole_at sum size now H refl had.1
-      (whole_kept sum size old now (k * size) large (slot_shown k (used ∙ sym had.0)) H (slot_at m k).lsn (are k had.0 (omega (arith, ends, had.1))))
+      (whole_kept sum size old now (k * size) large (slot_in size old now k (slot_shown k (used ∙ sym had.0))) H (slot_at m k).lsn (are k had.0 (omega (arith, ends, had.1))))
 
   -- One slot alone loses its segment.
   module _ (k : ℕ) (free : is_free (slot_at m' k).state ≡ true) (others : (j : ℕ) → j ≢ k → slot_at m' j ≡ slot_at m j) where

@@ -1,5 +1,5 @@
 -- What a log holds it holds over a file that has the same bytes in the slots of its segments, and in those of the messages that stay.
-use Rattle.std.proofs.Common.{◌≡◌, ◌∙◌, ◌+◌, ◌-◌, ◌*◌, ◌/◌, ◌%◌, ◌<◌, ◌≤◌, ℕ, pos, List, [], ◌∷◌, length, map, get_or, Option, None, sym, ap, subst, arith}
+use Rattle.std.proofs.Common.{◌≡◌, ◌∙◌, ◌+◌, ◌-◌, ◌*◌, ◌/◌, ◌%◌, ◌<◌, ◌≤◌, ℕ, Bool, true, false, pos, List, [], ◌∷◌, length, map, get_or, Option, None, sym, ap, subst, arith}
 use Rattle.std.specs.List.{Contains}
 use Rattle.std.specs.declared.io.Error.{Error as IoError}
 use Rattle.std.proofs.Math.Nat.{mod-add-div'}
@@ -16,22 +16,22 @@ use Rattle.sled_core.specs.declared.iobuf.SegmentPosition.{SegmentPosition}
 use Rattle.sled_core.specs.Begun.{SegmentParts}
 use Rattle.sled_core.specs.LogFile.{HasHeader, IsLogFile, MessageStands, StandsElsewhere, StandsHere, StaysFrom}
 use Rattle.sled_core.specs.Reading.{StandsAt}
+use Rattle.sled_core.specs.SealedBuffers.{AreZeros}
 use Rattle.sled_core.specs.inside.Fits.{HoldBehind, HoldsIn, HoldsSegment, log_parts}
 use Rattle.sled_core.specs.inside.LogFile.{StaysBelow}
-use Rattle.sled_core.specs.inside.SealedBuffers.{Laid}
-use Rattle.sled_core.proofs.Cleared.Moves.{part_same}
+use Rattle.sled_core.specs.inside.SealedBuffers.{Laid, LaidOne}
 use Rattle.sled_core.proofs.Cleared.Offsets.{slot_is}
-use Rattle.sled_core.proofs.Freed.FilesLost.{SameBytes}
+use Rattle.sled_core.proofs.Freed.SameSlots.{SameSlot, slot_ends, slot_in, slot_part}
 use Rattle.sled_core.proofs.Sealed.Ended.{ends_rise}
-use Rattle.sled_core.proofs.Sealed.LaidLemmas.{EndsRise, laid_same}
+use Rattle.sled_core.proofs.Sealed.LaidLemmas.{EndsRise, ends_below}
 use Rattle.sled_core.proofs.Tail.LogFileLemmas.{header_there}
 use Rattle.sled_core.proofs.Tail.Multiples.{put_down}
 use Rattle.sled_core.proofs.Torn.AlikeSlots.{SameIn, record_same}
 use Rattle.sled_core.proofs.Torn.TornRecords.{long_enough}
 
-module _ (sum : List ℕ → ℕ) (size : ℕ) (some : 256 ≤ size) (old new : List ℕ) (long : length new ≡ length old) where
+module _ (sum : List ℕ → ℕ) (size : ℕ) (some : 256 ≤ size) (old new : List ℕ) where
   -- A record in such a slot stands as it did,
-  message_same : (lid : ℕ) (m : Message) → SameBytes size old new (lid / size) → MessageStands sum size old lid (m.place / size) m
+  message_same : (lid : ℕ) (m : Message) → SameSlot size old new (lid / size) → MessageStands sum size old lid (m.place / size) m
       → MessageStands sum size new lid (m.place / size) m
   message_same lid m same s = record {
     header = s.header;
@@ -56,14 +56,14 @@ module _ (sum : List ℕ → ℕ) (size : ℕ) (some : 256 ≤ size) (old new : 
     inside = omega (arith, some)
 
     alike : SameIn size old new k
-    alike at len low high there = part_same old new at len long (λ i above below. same i (omega (arith, low, above)) (omega (arith, high, below)))
+    alike = slot_in size old new k same
 
   -- and so does a header.
-  header_same : (site : SegmentPosition) → site.slot % size ≡ 0 → SameBytes size old new (site.slot / size) → HasHeader sum old site → HasHeader sum new site
+  header_same : (site : SegmentPosition) → site.slot % size ≡ 0 → SameSlot size old new (site.slot / size) → HasHeader sum old site → HasHeader sum new site
   header_same site aligned same h = record {
     mark = h.mark;
     header = subst (λ (l : List ℕ). IsHeader sum l (pos site.place) h.mark)
-        (sym (part_same old new site.slot 20 long (λ i low high. same i (omega (arith, parts, aligned, low)) (omega (arith, parts, aligned, high, some))))) h.header;
+        (sym (slot_part size old new (site.slot / size) same site.slot 20 (omega (arith, parts, aligned)) (omega (arith, parts, aligned, some)))) h.header;
     below = h.below;
   } where
     parts : site.slot / size * size + site.slot % size ≡ site.slot
@@ -71,8 +71,8 @@ module _ (sum : List ℕ → ℕ) (size : ℕ) (some : 256 ≤ size) (old new : 
 
   -- So what stands in the file does.
   file_same : (site : SegmentPosition) (from : ℕ) (messages : List Message) (stays : Message → Type 0) → site.slot % size ≡ 0 → from ≤ size
-      → SameBytes size old new (site.slot / size)
-      → ((m : Message) → stays m → m.place < site.place → (lid : ℕ) → m.pointer ≡ Inline lid → SameBytes size old new (lid / size))
+      → SameSlot size old new (site.slot / size)
+      → ((m : Message) → stays m → m.place < site.place → (lid : ℕ) → m.pointer ≡ Inline lid → SameSlot size old new (lid / size))
       → IsLogFile sum size old site from messages stays → IsLogFile sum size new site from messages stays
   file_same site from messages stays aligned short own others file = record {
     own = λ m among above lid is. here lid m (file.own m among above lid is);
@@ -94,9 +94,31 @@ module _ (sum : List ℕ → ℕ) (size : ℕ) (some : 256 ≤ size) (old new : 
           place = s.place;
           offset = s.offset;
           begins = s.begins;
-          stands = message_same lid m (subst (SameBytes size old new) (sym k) own) s.stands;
+          stands = message_same lid m (subst (SameSlot size old new) (sym k) own) s.stands;
           inside = s.inside;
         }
+
+  zeros_kept : (slot from to : ℕ) → to ≤ size → ((i : ℕ) → i < size → get_or new (slot + i) 0 ≡ get_or old (slot + i) 0) → AreZeros old (slot + from) (slot + to)
+      → AreZeros new (slot + from) (slot + to)
+  zeros_kept slot from to high same zeros i above below =
+      let at : slot + (i - slot) ≡ i = omega (arith, above) in
+      ap (λ n. get_or new n 0) (sym at) ∙ same (i - slot) (omega (arith, below, high, at)) ∙ ap (λ n. get_or old n 0) at ∙ zeros i above below
+
+  -- What it has of sealed buffers it has.
+  laid_kept : (slot : ℕ) (bytes : List ℕ) (from : ℕ) (bs : List Sealed) → EndsRise from bs size
+      → ((i : ℕ) → i < size → get_or new (slot + i) 0 ≡ get_or old (slot + i) 0) → ((end : ℕ) → end ≤ size → slot + end ≤ length old → slot + end ≤ length new)
+      → Laid old slot bytes from bs size → Laid new slot bytes from bs size
+  laid_kept slot bytes from [] rise same there laid = zeros_kept slot from size (omega arith) same laid
+  laid_kept slot bytes from (b ∷ bs) rise same there laid =
+      let below = ends_below b.end bs size rise.1 in
+      (one b.is_written (omega (arith, below.0, below.1)) laid.0, laid_kept slot bytes b.end bs rise.1 same there laid.1) where
+        one : (o : Bool) → b.end ≤ size → LaidOne old slot bytes from o b.end → LaidOne new slot bytes from o b.end
+        one true high its = record {
+          same = λ i above low. same i (omega (arith, low, high)) ∙ its.same i above low;
+          in_file = there b.end high its.in_file;
+          in_bytes = its.in_bytes;
+        }
+        one false high zeros = zeros_kept slot from b.end high same zeros
 
   -- A device that has the one at rest, and the same but for the log file, which is the other one at rest.
   module _ (device : State) (log : LogState) (fault : Option IoError) (was : fault ≡ None → device.log ≡ at_rest old) (is : fault ≡ None → log ≡ at_rest new) where
@@ -105,8 +127,8 @@ module _ (sum : List ℕ → ℕ) (size : ℕ) (some : 256 ≤ size) (old new : 
 
     -- A segment holds what it held,
     pub segment_same : (site : SegmentPosition) (bytes : List ℕ) (from : ℕ) (bs : List Sealed) (rs : List Reserved) (H : History) {stays : Message → Type 0}
-        → EndsRise from bs size → from ≤ size → SameBytes size old new (site.slot / size)
-        → ((m : Message) → stays m → m.place < site.place → (lid : ℕ) → m.pointer ≡ Inline lid → SameBytes size old new (lid / size))
+        → EndsRise from bs size → from ≤ size → SameSlot size old new (site.slot / size)
+        → ((m : Message) → stays m → m.place < site.place → (lid : ℕ) → m.pointer ≡ Inline lid → SameSlot size old new (lid / size))
         → HoldsSegment sum (log_parts size site device fault bytes from bs rs) stays H → HoldsSegment sum (log_parts size site now fault bytes from bs rs) stays H
     segment_same site bytes from bs rs H {stays} rise short own others holds = record {
       records = holds.records;
@@ -121,10 +143,8 @@ module _ (sum : List ℕ → ℕ) (size : ℕ) (some : 256 ≤ size) (old new : 
           };
       laid = λ none.
           subst (λ (l : LogState). Laid l.bytes site.slot bytes from bs size) (sym (is none))
-          (laid_same site.slot old new bytes from bs size rise (record {
-            grows = omega (arith, long);
-            same = λ i above below. own (site.slot + i) (omega (arith, parts, aligned)) (omega (arith, parts, aligned, below));
-          }) (subst (λ (l : LogState). Laid l.bytes site.slot bytes from bs size) (was none) (holds.laid none)));
+          (laid_kept site.slot bytes from bs rise (λ i below. own.bytes (site.slot + i) (omega (arith, parts, aligned)) (omega (arith, parts, aligned, below)))
+          (λ end below there. slot_ends size old new (site.slot / size) own (site.slot + end) (omega (arith, parts, aligned, below)) there) (subst (λ (l : LogState). Laid l.bytes site.slot bytes from bs size) (was none) (holds.laid none)));
     } where
       aligned : site.slot % size ≡ 0
       aligned = holds.records.slot_begins
@@ -134,8 +154,8 @@ module _ (sum : List ℕ → ℕ) (size : ℕ) (some : 256 ≤ size) (old new : 
 
     -- and so do all behind a first one,
     pub behind_same : (place : ℕ) (ss : List SegmentParts) (stays : Message → Type 0) (batches : List Batch) (ms : List Message)
-        → ((s : SegmentParts) → Contains ss s → SameBytes size old new (s.site.slot / size))
-        → ((m : Message) → stays m → (lid : ℕ) → m.pointer ≡ Inline lid → SameBytes size old new (lid / size))
+        → ((s : SegmentParts) → Contains ss s → SameSlot size old new (s.site.slot / size))
+        → ((m : Message) → stays m → (lid : ℕ) → m.pointer ≡ Inline lid → SameSlot size old new (lid / size))
         → HoldBehind sum size device fault place ss stays batches ms → HoldBehind sum size now fault place ss stays batches ms
     behind_same place [] stays batches ms own others holds = holds
     behind_same place (s ∷ ss) stays batches ms own others (its, later, all, here, rest) = (
@@ -162,10 +182,10 @@ module _ (sum : List ℕ → ℕ) (size : ℕ) (some : 256 ≤ size) (old new : 
 
     -- so the log holds what it held.
     unfoldable pub holds_same : (site : SegmentPosition) (bytes : List ℕ) (from : ℕ) (bs : List Sealed) (rs : List Reserved)
-        (behind : List SegmentParts) (H : History) → EndsRise from bs size → from ≤ size → SameBytes size old new (site.slot / size)
-        → ((s : SegmentParts) → Contains behind s → SameBytes size old new (s.site.slot / size))
+        (behind : List SegmentParts) (H : History) → EndsRise from bs size → from ≤ size → SameSlot size old new (site.slot / size)
+        → ((s : SegmentParts) → Contains behind s → SameSlot size old new (s.site.slot / size))
         → (holds : HoldsIn sum (log_parts size site device fault bytes from bs rs) behind H)
-        → ((m : Message) → StaysFrom H (stable_place holds.begun.first.stable) m → (lid : ℕ) → m.pointer ≡ Inline lid → SameBytes size old new (lid / size))
+        → ((m : Message) → StaysFrom H (stable_place holds.begun.first.stable) m → (lid : ℕ) → m.pointer ≡ Inline lid → SameSlot size old new (lid / size))
         → HoldsIn sum (log_parts size site now fault bytes from bs rs) behind H
     holds_same site bytes from bs rs behind H rise short own after holds others = record {
       begun = holds.begun;

@@ -35,9 +35,10 @@ use Rattle.sled_core.specs.inside.Slots.{AreWhole}
 use Rattle.sled_store.specs.Foreign.{HeaderWasPlaced, RecordWasPlaced}
 use Rattle.sled_core.proofs.Cleared.Emptied.{NoneNeeds}
 use Rattle.sled_core.proofs.Flush.Settled.{settled_recoverable}
-use Rattle.sled_core.proofs.Freed.FilesLost.{SameBytes, bytes_shown, shown_long, zeros_shown}
+use Rattle.sled_core.proofs.Freed.FilesLost.{slot_shown, zeros_shown}
 use Rattle.sled_core.proofs.Freed.HoldsLost.{holds_same}
 use Rattle.sled_core.proofs.Freed.PlacedLost.{placed_same}
+use Rattle.sled_core.proofs.Freed.SameSlots.{SameSlot}
 use Rattle.sled_core.proofs.Freed.SlotsLost.{has_segment}
 use Rattle.sled_core.proofs.Freed.StandsLost.{ShowsStanding, standing_lost}
 use Rattle.sled_core.proofs.Logged.Messages.{ascends_logged}
@@ -69,30 +70,30 @@ module _ (size base : ℕ) (some : 256 ≤ size) (m m' : Machine) (changes : Kee
     new = cleared size m' line log
 
     -- The slots of the line are shown as they were.
-    line_shown : (u : SegmentView) → Contains line u → (k : ℕ) × (u.parts.site.slot ≡ k * size) × SameBytes size old new k
+    line_shown : (u : SegmentView) → Contains line u → (k : ℕ) × (u.parts.site.slot ≡ k * size) × SameSlot size old new k
     line_shown u there =
         let has = All-contains (HasSlot size m) line u taken there in
         let is = has.is in
         let over = low u there in
         let now = has_segment size base (omega (arith, some)) m m' changes has.number has.taken (omega (arith, is, over, some)) in
-        (has.number, has.lies, bytes_shown size (omega (arith, some)) m m' line log has.number (now.0 ∙ sym has.taken))
+        (has.number, has.lies, slot_shown size (omega (arith, some)) m m' line log has.number (now.0 ∙ sym has.taken))
 
-    line_bytes : (u : SegmentView) → Contains line u → SameBytes size old new (u.parts.site.slot / size)
+    line_bytes : (u : SegmentView) → Contains line u → SameSlot size old new (u.parts.site.slot / size)
     line_bytes u there =
         let (k, lies, same) = line_shown u there in
-        subst (SameBytes size old new) (sym (ap (λ n. n / size) lies ∙ mul-div_cancel k (omega (arith, some)))) same
+        subst (SameSlot size old new) (sym (ap (λ n. n / size) lies ∙ mul-div_cancel k (omega (arith, some)))) same
 
     -- Each slot is shown as it was, or as zeros.
-    each_shown : (k : ℕ) → SameBytes size old new k ⊎ ((i : ℕ) → k * size ≤ i → i < k * size + size → get_or new i 0 ≡ 0)
+    each_shown : (k : ℕ) → SameSlot size old new k ⊎ ((i : ℕ) → k * size ≤ i → i < k * size + size → get_or new i 0 ≡ 0)
     each_shown k = elim (changes k) [
-      | inl kept ↦ inl (bytes_shown size (omega (arith, some)) m m' line log k kept.free)
+      | inl kept ↦ inl (slot_shown size (omega (arith, some)) m m' line log k kept.free)
       | inr lost ↦ inr (zeros_shown size (omega (arith, some)) m m' line log k lost.free)
     ]
 
     -- So is that of a message which lies in none that loses its segment.
-    message_shown : (x : Message) → ((k : ℕ) → IsLost k → slot_with size x ≢ k) → (lid : ℕ) → x.pointer ≡ Inline lid → SameBytes size old new (lid / size)
+    message_shown : (x : Message) → ((k : ℕ) → IsLost k → slot_with size x ≢ k) → (lid : ℕ) → x.pointer ≡ Inline lid → SameSlot size old new (lid / size)
     message_shown x beside lid is = elim (changes (lid / size)) [
-      | inl kept ↦ bytes_shown size (omega (arith, some)) m m' line log (lid / size) kept.free
+      | inl kept ↦ slot_shown size (omega (arith, some)) m m' line log (lid / size) kept.free
       | inr lost ↦ absurd (beside (lid / size) lost (ap (λ (p : DiskPtr). lid_of p / size) is))
     ]
 
@@ -100,7 +101,7 @@ module _ (size base : ℕ) (some : 256 ≤ size) (m m' : Machine) (changes : Kee
     pub placed_lost : (sum : List ℕ → ℕ) → NoHeaderOfZeros sum → HasPlacedFile sum size (shown size None m line s) line
         → HasPlacedFile sum size (shown size None m' line s) line
     placed_lost sum none own =
-        placed_same sum none size some (HeaderWasPlaced s.placed) (RecordWasPlaced sum size s.placed) old new (shown_long size (omega (arith, some)) m m' line log)
+        placed_same sum none size some (HeaderWasPlaced s.placed) (RecordWasPlaced sum size s.placed) old new
         line line_shown each_shown own
 
 -- A log that keeps no failure, with its slots before and behind that, and what it fits. Where headers are told from zeros: each slot that has a segment has its
@@ -155,13 +156,13 @@ module _ (sum : List ℕ → ℕ) (size base : ℕ) (some : 256 ≤ size) (m m' 
   unfolding holds_same
   fits_line_lost = record {
     holds =
-        holds_same sum size some (cleared size m line s.log.bytes) (cleared size m' line s.log.bytes) (shown_long size (omega (arith, some)) m m' line s.log.bytes)
+        holds_same sum size some (cleared size m line s.log.bytes) (cleared size m' line s.log.bytes)
         (shown size None m line s) (at_rest (cleared size m' line s.log.bytes)) None (λ none. refl) (λ none. refl) v.parts.site v.parts.bytes v.parts.written_len
         v.parts.sealed v.parts.reserved (map parts_in vs) (logged H) rise (let rows = ends_below v.parts.written_len v.parts.sealed size rise in omega (arith, rows.0, rows.1))
         (line_bytes size base some m m' changes line taken low s v (in_first v vs))
         (λ p there.
         let its = from_map parts_in vs p there in
-        subst (λ (q : SegmentParts). SameBytes size (cleared size m line s.log.bytes) (cleared size m' line s.log.bytes) (q.site.slot / size)) its.2
+        subst (λ (q : SegmentParts). SameSlot size (cleared size m line s.log.bytes) (cleared size m' line s.log.bytes) (q.site.slot / size)) its.2
         (line_bytes size base some m m' changes line taken low s its.0 (in_rest v its.0 vs its.1)))
         fits.holds (λ x stay. message_shown size base some m m' changes line taken low s x (stays x stay));
     reached = fits.reached;

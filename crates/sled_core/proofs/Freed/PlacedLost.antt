@@ -1,4 +1,4 @@
--- What is own of the file that a log shows is own of another one, as long, that has the same bytes in the slots of the log's segments, and in each other slot, but
+-- What is own of the file that a log shows is own of another one that has the same bytes in the slots of the log's segments, and in each other slot, but
 -- for those that have zeros now.
 use Rattle.std.proofs.Common.{◌≡◌, ◌≢◌, ◌⊎◌, ◌∙◌, ◌+◌, ◌-◌, ◌*◌, ◌/◌, ◌<◌, ◌≤◌, ℕ, ℤ, pos, List, length, length-take, take, drop, get_or, sym, ap, subst, arith}
 use Rattle.std.proofs.Common.{inl, inr}
@@ -14,29 +14,26 @@ use Rattle.sled_core.specs.Begun.{SegmentView}
 use Rattle.sled_core.specs.NoForeign.{NoHeaderOfZeros}
 use Rattle.sled_core.specs.inside.LogFile.{padded}
 use Rattle.sled_core.specs.inside.OwnLog.{AreWritten, HasOwnSlot, IsOwnFile, IsOwnSegment}
-use Rattle.sled_core.proofs.Cleared.Moves.{part_same}
-use Rattle.sled_core.proofs.Freed.FilesLost.{SameBytes}
-use Rattle.sled_core.proofs.Sealed.Padded.{length-padded, padded_get}
+use Rattle.sled_core.proofs.Freed.SameSlots.{SameSlot, slot_beyond, slot_ends, slot_part}
+use Rattle.sled_core.proofs.Sealed.Padded.{padded_get}
 use Rattle.sled_core.proofs.Torn.WrittenBegun.{none_in_zeros}
 
 module _ (sum : List ℕ → ℕ) (none : NoHeaderOfZeros sum) (size : ℕ) (some : 256 ≤ size) (Header : ℕ → List ℕ → Type 0) (Own : ℕ → ℕ → List ℕ → Type 0)
-    (old new : List ℕ) (long : length new ≡ length old) where
+    (old new : List ℕ) where
   -- A part of such a slot is the same, also with zeros behind the file's end.
-  module _ (k : ℕ) (same : SameBytes size old new k) (at len : ℕ) (low : k * size ≤ at) (high : at + len ≤ k * size + size) where
+  module _ (k : ℕ) (same : SameSlot size old new k) (at len : ℕ) (low : k * size ≤ at) (high : at + len ≤ k * size + size) where
     file_part : part new at len ≡ part old at len
-    file_part = part_same old new at len long (λ i above below. same i (omega (arith, low, above)) (omega (arith, high, below)))
+    file_part = slot_part size old new k same at len low high
 
     beyond_part : (to : ℕ) → part (padded to new) at len ≡ part (padded to old) at len
-    beyond_part to = part_same (padded to old) (padded to new) at len
-        (length-padded to new ∙ ap (λ n. n + (to - n)) long ∙ sym (length-padded to old))
-        (λ i above below. padded_get to new i ∙ same i (omega (arith, low, above)) (omega (arith, high, below)) ∙ sym (padded_get to old i))
+    beyond_part to = slot_part size (padded to old) (padded to new) k (slot_beyond size old new k same to) at len low high
 
-  slot_same : (k : ℕ) → SameBytes size old new k → HasOwnSlot sum size Header Own old k → HasOwnSlot sum size Header Own new k
+  slot_same : (k : ℕ) → SameSlot size old new k → HasOwnSlot sum size Header Own old k → HasOwnSlot sum size Header Own new k
   slot_same k same has = record {
     header = λ to lsn mark is.
         let its = has.header to lsn mark
         (subst (λ (l : List ℕ). IsHeader sum l lsn mark) (beyond_part k same (k * size) 20 (omega arith) (omega (arith, some)) to) is) in (
-          omega (arith, its.0, long),
+          slot_ends size old new k same (k * size + 20) (omega (arith, some)) its.0,
           subst (Header (k * size)) (sym (file_part k same (k * size) 20 (omega arith) (omega (arith, some)))) its.1,
         );
     records = λ to lsn mark at len is r.
@@ -45,7 +42,7 @@ module _ (sum : List ℕ → ℕ) (none : NoHeaderOfZeros sum) (size : ℕ) (som
         (subst (λ (l : List ℕ). Reads sum size (lsn / size) l 20 at len) (beyond_part k same (k * size) size (omega arith) (omega arith) to) r) in
         let inside = r.inside in
         let fits : at + len ≤ size = omega (arith, inside, length-take size (drop (k * size) (padded to new))) in (
-          omega (arith, its.0, long),
+          slot_ends size old new k same (k * size + at + len) (omega (arith, fits)) its.0,
           subst (Own (lsn / size) (k * size + at)) (sym (file_part k same (k * size + at) len (omega arith) (omega (arith, fits)))) its.1,
         );
   }
@@ -66,8 +63,8 @@ module _ (sum : List ℕ → ℕ) (none : NoHeaderOfZeros sum) (size : ℕ) (som
   }
 
   -- So all that is read of it is own.
-  pub placed_same : (line : List SegmentView) → ((v : SegmentView) → Contains line v → (k : ℕ) × (v.parts.site.slot ≡ k * size) × SameBytes size old new k)
-      → ((k : ℕ) → SameBytes size old new k ⊎ ((i : ℕ) → k * size ≤ i → i < k * size + size → get_or new i 0 ≡ 0))
+  pub placed_same : (line : List SegmentView) → ((v : SegmentView) → Contains line v → (k : ℕ) × (v.parts.site.slot ≡ k * size) × SameSlot size old new k)
+      → ((k : ℕ) → SameSlot size old new k ⊎ ((i : ℕ) → k * size ≤ i → i < k * size + size → get_or new i 0 ≡ 0))
       → IsOwnFile sum size Header Own old line → IsOwnFile sum size Header Own new line
   placed_same line own each file = record {
     segments = all_from_in (λ v. IsOwnSegment sum size Header Own new v.parts.site v.parts.written_len v.parts.sealed) line (λ v there.
