@@ -1,4 +1,5 @@
 pub mod AddedBatch
+pub mod AlikeStands
 pub mod BufferPath
 pub mod BufferStands
 pub mod ByPlace
@@ -8,8 +9,8 @@ pub mod Higher
 pub mod KeptStands
 pub mod LeftBeside
 pub mod LongerStands
-pub mod Marks
 pub mod MarkWritten
+pub mod Marks
 pub mod MarksRaise
 pub mod MetWritten
 pub mod NextSegment

@@ -1,13 +1,13 @@
 -- What is shown of a log file where slots lose their segments: the slots that keep theirs are shown as they were, so what is whole in them stays; and where one
 -- slot alone loses its segment it is emptied, also in the file with zeros behind its end.
-use Rattle.std.proofs.Common.{◌≡◌, ◌≢◌, ◌⊎◌, ◌∙◌, ◌+◌, ◌-◌, ◌*◌, ◌/◌, ◌≤◌, ◌<◌, ◌||◌, ℕ, Bool, true, false, if◌then◌else◌, List, length, get_or, refl, sym}
+use Rattle.std.proofs.Common.{◌≡◌, ◌≢◌, ◌⊎◌, ◌∙◌, ◌+◌, ◌-◌, ◌*◌, ◌/◌, ◌≤◌, ◌<◌, ◌||◌, ℕ, Bool, true, if◌then◌else◌, List, length, get_or, refl, sym}
 use Rattle.std.proofs.Common.{ap, subst, arith, inl, inr}
 use Rattle.std.proofs.lemmas.Bool.{cases_eq}
 use Rattle.sled_codec.specs.History.{History}
 use Rattle.sled_store.specs.SegmentStates.{Machine, is_free, slot_at}
 use Rattle.sled_store.proofs.Marks.SlotMoves.{KeepOrLose}
 use Rattle.sled_core.specs.Begun.{SegmentView}
-use Rattle.sled_core.specs.inside.Cleared.{cleared, is_stale, is_unwritten, zeroed}
+use Rattle.sled_core.specs.inside.Cleared.{cleared, is_stale, is_unwritten}
 use Rattle.sled_core.specs.inside.LogFile.{padded}
 use Rattle.sled_core.specs.inside.Slots.{AreWhole}
 use Rattle.sled_core.proofs.Cleared.Emptied.{IsEmptied, bytes_empty}

@@ -1,11 +1,9 @@
 -- What a log holds it holds over a file that has the same bytes in the slots of its segments, and in those of the messages that stay.
-use Rattle.std.proofs.Common.{◌≡◌, ◌∙◌, ◌+◌, ◌-◌, ◌*◌, ◌/◌, ◌%◌, ◌<◌, ◌≤◌, ℕ, Bool, true, false, pos, List, [], ◌∷◌, length, map, get_or, Option, None, sym, ap, subst, arith}
+use Rattle.std.proofs.Common.{◌≡◌, ◌∙◌, ◌+◌, ◌-◌, ◌*◌, ◌/◌, ◌%◌, ◌<◌, ◌≤◌, ℕ, Bool, true, false, pos, List, [], ◌∷◌, length, get_or, Option, None, sym, ap, subst, arith}
 use Rattle.std.specs.List.{Contains}
 use Rattle.std.specs.declared.io.Error.{Error as IoError}
-use Rattle.std.proofs.Math.Nat.{mod-add-div'}
 use Rattle.sled_codec.specs.declared.result.DiskPtr.TheVariants.{Inline}
 use Rattle.sled_codec.specs.History.{Batch, History, Message}
-use Rattle.sled_codec.specs.Places.{part}
 use Rattle.sled_codec.specs.Record.{IsHeader}
 use Rattle.sled_codec.specs.Snapshots.{stable_place}
 use Rattle.sled_store.specs.Device.{LogState, State, at_rest}
@@ -14,7 +12,7 @@ use Rattle.sled_core.specs.declared.iobuf.Reserved.{Reserved}
 use Rattle.sled_core.specs.declared.iobuf.Sealed.{Sealed}
 use Rattle.sled_core.specs.declared.iobuf.SegmentPosition.{SegmentPosition}
 use Rattle.sled_core.specs.Begun.{SegmentParts}
-use Rattle.sled_core.specs.LogFile.{HasHeader, IsLogFile, MessageStands, StandsElsewhere, StandsHere, StaysFrom}
+use Rattle.sled_core.specs.LogFile.{HasHeader, IsLogFile, MessageStands, StandsHere, StaysFrom}
 use Rattle.sled_core.specs.Reading.{StandsAt}
 use Rattle.sled_core.specs.SealedBuffers.{AreZeros}
 use Rattle.sled_core.specs.inside.Fits.{HoldBehind, HoldsIn, HoldsSegment, log_parts}
@@ -24,7 +22,6 @@ use Rattle.sled_core.proofs.Cleared.Offsets.{slot_is}
 use Rattle.sled_core.proofs.Freed.SameSlots.{SameSlot, slot_ends, slot_in, slot_part}
 use Rattle.sled_core.proofs.Sealed.Ended.{ends_rise}
 use Rattle.sled_core.proofs.Sealed.LaidLemmas.{EndsRise, ends_below}
-use Rattle.sled_core.proofs.Tail.LogFileLemmas.{header_there}
 use Rattle.sled_core.proofs.Tail.Multiples.{put_down}
 use Rattle.sled_core.proofs.Torn.AlikeSlots.{SameIn, record_same}
 use Rattle.sled_core.proofs.Torn.TornRecords.{long_enough}
