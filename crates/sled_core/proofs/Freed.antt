@@ -17,6 +17,7 @@ pub mod KeptHides
 pub mod Known
 pub mod LeftOwn
 pub mod LeftRecovers
+pub mod LineCut
 pub mod LineLost
 pub mod NoHarm
 pub mod OutdatedGoes

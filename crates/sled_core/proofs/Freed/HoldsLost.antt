@@ -6,7 +6,7 @@ use Rattle.sled_codec.specs.declared.result.DiskPtr.TheVariants.{Inline}
 use Rattle.sled_codec.specs.History.{Batch, History, Message}
 use Rattle.sled_codec.specs.Record.{IsHeader}
 use Rattle.sled_codec.specs.Snapshots.{stable_place}
-use Rattle.sled_store.specs.Device.{LogState, State, at_rest}
+use Rattle.sled_store.specs.Device.{LogState, NamesState, Placement, State, Temporary, at_rest}
 use Rattle.sled_store.proofs.Segments.Elements.{in_first, in_rest}
 use Rattle.sled_core.specs.declared.iobuf.Reserved.{Reserved}
 use Rattle.sled_core.specs.declared.iobuf.Sealed.{Sealed}
@@ -117,10 +117,11 @@ module _ (sum : List ℕ → ℕ) (size : ℕ) (some : 256 ≤ size) (old new : 
         }
         one false high zeros = zeros_kept slot from b.end high same zeros
 
-  -- A device that has the one at rest, and the same but for the log file, which is the other one at rest.
-  module _ (device : State) (log : LogState) (fault : Option IoError) (was : fault ≡ None → device.log ≡ at_rest old) (is : fault ≡ None → log ≡ at_rest new) where
+  -- Two devices, of which the one has the one file at rest, and the other the other one, and the same snapshots.
+  module _ (device : State) (log : LogState) (blobs : NamesState) (temporary : Temporary) (placed : List Placement) (fault : Option IoError)
+      (was : fault ≡ None → device.log ≡ at_rest old) (is : fault ≡ None → log ≡ at_rest new) where
     abbrev now : State
-    now = record device { log = log }
+    now = record { log = log; blobs = blobs; snapshots = device.snapshots; temporary = temporary; placed = placed }
 
     -- A segment holds what it held,
     pub segment_same : (site : SegmentPosition) (bytes : List ℕ) (from : ℕ) (bs : List Sealed) (rs : List Reserved) (H : History) {stays : Message → Type 0}

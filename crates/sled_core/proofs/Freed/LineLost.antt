@@ -156,8 +156,8 @@ module _ (sum : List ℕ → ℕ) (size base : ℕ) (some : 256 ≤ size) (m m' 
   fits_line_lost = record {
     holds =
         holds_same sum size some (cleared size m line s.log.bytes) (cleared size m' line s.log.bytes)
-        (shown size None m line s) (at_rest (cleared size m' line s.log.bytes)) None (λ none. refl) (λ none. refl) v.parts.site v.parts.bytes v.parts.written_len
-        v.parts.sealed v.parts.reserved (map parts_in vs) (logged H) rise (let rows = ends_below v.parts.written_len v.parts.sealed size rise in omega (arith, rows.0, rows.1))
+        (shown size None m line s) (at_rest (cleared size m' line s.log.bytes)) s.blobs s.temporary s.placed None (λ none. refl) (λ none. refl)
+        v.parts.site v.parts.bytes v.parts.written_len v.parts.sealed v.parts.reserved (map parts_in vs) (logged H) rise (let rows = ends_below v.parts.written_len v.parts.sealed size rise in omega (arith, rows.0, rows.1))
         (line_bytes size base some m m' changes line taken low s v (in_first v vs))
         (λ p there.
         let its = from_map parts_in vs p there in
