@@ -23,6 +23,7 @@ pub mod NoHarm
 pub mod OutdatedGoes
 pub mod OwnAlike
 pub mod PassedOver
+pub mod PlacedCut
 pub mod PlacedLost
 pub mod ReadLess
 pub mod ReadsAlike

@@ -120,3 +120,14 @@ module _ (size base : ℕ) (some : 0 < size) (m m' : Machine) (changes : KeepOrL
           let inside : e.place < e.place / size * size + size = lt-div-mul-add some in
           let at : (slot_at m k).lsn ≡ e.place / size * size = ap (λ j. (slot_at m j).lsn) (sym same) ∙ is.lsn in
           let low = lost.below in omega (arith, inside, at, low, high, over)
+
+-- What stays of a history is in slots that have a segment.
+pub stays_used : (sum : List ℕ → ℕ) (size : ℕ) (m : Machine) (H : History) (held A : ℕ) → HaveSlots sum size held H A m → (x : Message) → StaysFrom (logged H) held x
+    → is_free (slot_at m (slot_with size x)).state ≡ false
+stays_used sum size m H held A has x (inl entry) =
+    let found = from_map in_log (table H held x.page) x (subst (λ (l : List Message). Contains l x) (table_logged H held x.page) entry) in
+    subst (λ (e : Message). is_free (slot_at m (slot_with size e)).state ≡ false) found.2 (has.older x.page found.0 found.1).taken
+stays_used sum size m H held A has x (inr (above, there)) =
+    let found = from_logged H x there in
+    subst (λ (e : Message). is_free (slot_at m (slot_with size e)).state ≡ false) found.2
+    (has.later found.0 found.1 (subst (λ (e : Message). held ≤ e.place) (sym found.2) above)).taken
