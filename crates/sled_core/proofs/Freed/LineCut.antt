@@ -12,9 +12,11 @@ use Rattle.sled_codec.specs.Places.{part}
 use Rattle.sled_codec.specs.Pointers.{lid_of}
 use Rattle.sled_codec.specs.Record.{IsHeader}
 use Rattle.sled_codec.specs.Snapshots.{SnapshotModel, stable_place}
-use Rattle.sled_store.specs.Device.{Cut, State, Synced, at_rest, step}
+use Rattle.sled_store.specs.Device.{Cut, Event, LeavesLog, Placement, State, Synced, at_rest, step}
+use Rattle.sled_store.specs.Foreign.{NoForeignLog}
 use Rattle.sled_store.specs.Marks.{slot_with}
 use Rattle.sled_store.specs.SegmentStates.{Machine, is_free, slot_at}
+use Rattle.sled_store.specs.inside.Script.{Along}
 use Rattle.sled_store.proofs.Histories.Ascending.{Ascends}
 use Rattle.sled_store.proofs.Marks.DeactivationSteps.{from_map}
 use Rattle.sled_store.proofs.Segments.Elements.{in_first, in_rest}
@@ -30,21 +32,25 @@ use Rattle.sled_core.specs.inside.Cleared.{cleared, is_stale}
 use Rattle.sled_core.specs.inside.Fits.{begun_segment, parts_in}
 use Rattle.sled_core.specs.inside.FreeSlots.{FreeAreZeros, HasSlot}
 use Rattle.sled_core.specs.inside.LogFile.{padded}
-use Rattle.sled_core.specs.inside.Reached.{BegunSegment, StandsAmong}
+use Rattle.sled_core.specs.inside.Lasting.{LeavesRecovering}
+use Rattle.sled_core.specs.inside.Reached.{BegunSegment, StandsAmong, StandsTo}
 use Rattle.sled_core.specs.inside.Running.{FitsLine}
 use Rattle.sled_core.specs.inside.Scan.{IsFoundSegment}
 use Rattle.sled_core.specs.inside.Shown.{shown}
 use Rattle.sled_core.specs.inside.Slots.{AreWhole}
 use Rattle.sled_core.proofs.Cleared.Offsets.{cleared_zeros, zeroed_get, zeroed_long}
-use Rattle.sled_core.proofs.Flush.Settled.{settled_recoverable}
+use Rattle.sled_core.proofs.Flush.Settled.{left_items, settled_recoverable, stands_recoverable}
+use Rattle.sled_core.proofs.Freed.CutHides.{zeroed_taken}
 use Rattle.sled_core.proofs.Freed.HoldsLost.{holds_same}
 use Rattle.sled_core.proofs.Freed.SameSlots.{SameSlot, slot_back, slot_beyond, slot_in}
 use Rattle.sled_core.proofs.Logged.Messages.{ascends_logged}
-use Rattle.sled_core.proofs.Reached.AlikeStands.{alike_stands}
+use Rattle.sled_core.proofs.Reached.AlikeStands.{alike_stands, standing_kept}
 use Rattle.sled_core.proofs.Reached.WholeSegments.{whole_kept}
 use Rattle.sled_core.proofs.Sealed.LaidLemmas.{EndsRise, ends_below}
 use Rattle.sled_core.proofs.Sealed.Padded.{padded_get}
 use Rattle.sled_core.proofs.Torn.AlikeSlots.{slot_found}
+use Rattle.sled_core.proofs.Torn.CutSlots.{after_cut, below_same}
+use Rattle.sled_core.proofs.Torn.KeptSlots.{cutting_keeps}
 use Rattle.sled_core.proofs.Torn.WrittenBegun.{none_in_zeros}
 
 module _ (size : ℕ) (some : 256 ≤ size) (m : Machine) (line : List SegmentView) (log : List ℕ) (slots : ℕ)
@@ -136,6 +142,17 @@ module _ (size : ℕ) (some : 256 ≤ size) (m : Machine) (line : List SegmentVi
             further : (k : ℕ) → k < slots → SameSlot size (padded end old) (padded end new) k
             further k front = slot_beyond size old new k (front_shown k front) end
 
+  -- So does each that a crash may leave while that is done, with nothing foreign in it.
+  module _ (sum : List ℕ → ℕ) (none : NoHeaderOfZeros sum) (now : ℕ) (no_less : slots * size ≤ now) (left : List ℕ)
+      (leaves : LeavesLog (after_cut size old slots now) left) {placed : List Placement}
+      (only_own : NoForeignLog sum size (after_cut size old slots now) placed left) where
+    pub stands_cutting : (H : History) (reach : ℕ) (first : SnapshotModel) {site : SegmentPosition} {from : ℕ} {others : List BegunSegment}
+        → StandsAmong sum size old site from others reach H first → StandsAmong sum size left site from others reach H first
+    stands_cutting =
+        standing_kept sum size some old left (λ k. k < slots) (below_same sum size old slots now no_less left leaves)
+        (cutting_keeps sum size (λ k. k < slots) (omega (arith, some)) old slots (λ j front. front) now no_less left leaves only_own)
+        (found_front sum none old zeros_old)
+
 -- A log that keeps no failure fits what it fitted. What stays is in slots that have a segment.
 module _ (sum : List ℕ → ℕ) (size : ℕ) (some : 256 ≤ size) (m : Machine) (v : SegmentView) (vs : List SegmentView) (taken : All (HasSlot size m) (v ∷ vs))
     (rise : EndsRise v.parts.written_len v.parts.sealed size) (slots : ℕ) (free : (k : ℕ) → slots ≤ k → is_free (slot_at m k).state ≡ true) (s : State)
@@ -151,6 +168,38 @@ module _ (sum : List ℕ → ℕ) (size : ℕ) (some : 256 ≤ size) (m : Machin
   -- the state behind the cut and its sync
   abbrev behind : State
   behind = step Synced (step (Cut (slots * size) (slots * size)) s)
+
+  -- What a crash may leave of what is shown while the cut is under way can be recovered,
+  cutting_leaves : (now : ℕ) → slots * size ≤ now
+      → LeavesRecovering sum size H (stable_below reach H.batches) f (step (Cut (slots * size) now) (shown size None m line s))
+  cutting_leaves now no_less left leaves only_own =
+      stands_recoverable sum size some left H (stable_below reach H.batches) f fits.holds.begun.first reach (ascends_logged H order)
+      (left_items sum s.blobs left.blobs H (stable_below reach H.batches) leaves.blobs fits.items.stored)
+      (fits.named.names left.snapshots leaves.snapshots only_own.snapshots) (fits.items.blobs left.blobs leaves.blobs only_own.blobs)
+      (stands_cutting size some m line log slots free sum only_own.zeros now no_less left.log leaves.log only_own.log (logged H) reach fits.holds.begun.first
+      (fits.among refl only_own.zeros)).stands
+
+  -- and so it is behind the sync.
+  behind_leaves : LeavesRecovering sum size H (stable_below reach H.batches) f
+      (step Synced (step (Cut (slots * size) (slots * size)) (shown size None m line s)))
+  behind_leaves =
+      settled_recoverable sum size some (step Synced (step (Cut (slots * size) (slots * size)) (shown size None m line s))) H (stable_below reach H.batches) f
+      fits.holds.begun.first reach (ascends_logged H order) fits.items.stored refl fits.named.names fits.items.blobs
+      (λ zeros.
+      subst (λ (l : List ℕ). StandsTo sum size l (logged H) (stable_below reach H.batches) fits.holds.begun.first reach)
+      (zeroed_taken (is_stale size m line) log (slots * size))
+      (stands_cut size some m line log slots free sum zeros (logged H) reach fits.holds.begun.first (fits.among refl zeros)).stands)
+
+  -- So it is at each moment, of what is shown. (Of the device itself by `CutRecovers`.)
+  pub along_cut_shown : Along (LeavesRecovering sum size H (stable_below reach H.batches) f) (Cut (slots * size) (slots * size) ∷ Synced ∷ [])
+      (shown size None m line s)
+  along_cut_shown = (
+    fits.left,
+    λ torn tears.
+        subst (λ (e : Event). LeavesRecovering sum size H (stable_below reach H.batches) f (step e (shown size None m line s))) (sym tears.2)
+        (cutting_leaves tears.0 tears.1),
+    (cutting_leaves (slots * size) (omega arith), λ torn tears. absurd tears, behind_leaves),
+  )
 
   pub fits_line_cut : FitsLine sum size (shown size None m line behind) None line reach pins H A f U
   unfolding holds_same

@@ -1,4 +1,4 @@
--- Two files have the slots alike in which segments are found, in the one or in the other: the one stands as the other does.
+-- A file stands as another one does of which it keeps the slots in which segments are found: as it is where the two have these slots alike.
 use Rattle.std.proofs.Common.{◌∙◌, ◌/◌, ◌≤◌, ℕ, List, arith, inl, inr}
 use Rattle.sled_codec.specs.History.{History}
 use Rattle.sled_codec.specs.Snapshots.{SnapshotModel}
@@ -15,28 +15,15 @@ use Rattle.sled_core.proofs.Tail.OneTail.{segment_there}
 use Rattle.sled_core.proofs.Torn.AlikeSlots.{SameIn, found_same, scan_same, slot_found}
 use Rattle.sled_core.proofs.Torn.KeptSlots.{KeepsSlots}
 
+-- A file keeps the slots in which segments are found, and no others are found in it.
 module _ (sum : List ℕ → ℕ) (size : ℕ) (some : 256 ≤ size) (old left : List ℕ) (Used : ℕ → Type 0) (same : (k : ℕ) → Used k → SameIn size old left k)
-    (back : (k : ℕ) → Used k → SameIn size left old k)
-    (were : (least : ℕ) (s : Segment) → IsFoundSegment sum size old least s → Used (s.slot / size))
-    (are : (least : ℕ) (s : Segment) → IsFoundSegment sum size left least s → Used (s.slot / size)) where
+    (keeps : KeepsSlots sum size Used old left) (were : (least : ℕ) (s : Segment) → IsFoundSegment sum size old least s → Used (s.slot / size)) where
   -- The same are found, and read as they were.
   now_found : (least : ℕ) (s : Segment) → IsFoundSegment sum size old least s → IsFoundSegment sum size left least s
-  now_found least s found =
-      let k : ℕ = s.slot / size in
-      found_same sum size old left k (same k (were least s found)) (omega (arith, some)) least s (slot_found sum size old least s found) found
+  now_found least s found = keeps.found (s.slot / size) (were least s found) least s (slot_found sum size old least s found) found
 
   was_found : (least : ℕ) (s : Segment) → IsFoundSegment sum size left least s → IsFoundSegment sum size old least s
-  was_found least s found =
-      let k : ℕ = s.slot / size in
-      found_same sum size left old k (back k (are least s found)) (omega (arith, some)) least s (slot_found sum size left least s found) found
-
-  keeps : KeepsSlots sum size Used old left
-  keeps = record {
-    before = was_found;
-    found = λ j used least s here found. now_found least s found;
-    met = λ j used place mark header. scan_same sum size old left j (same j used) (back j used) place;
-    met_before = λ j used place mark header. scan_same sum size left old j (back j used) (same j used) place;
-  }
+  was_found = keeps.before
 
   now_read : (least : ℕ) (t : Scanned) → IsFoundSegment sum size old least t.segment → IsScanned sum size old t → IsScanned sum size left t
   now_read least t found scan = scan_kept sum size Used old left keeps same least t.segment found (were least t.segment found) t.met t.stop t.why scan
@@ -95,9 +82,9 @@ module _ (sum : List ℕ → ℕ) (size : ℕ) (some : 256 ≤ size) (old left :
       }))
     ]
 
-    pub alike_stands : StandsAmong sum size left site from others reach H first
+    pub standing_kept : StandsAmong sum size left site from others reach H first
     unfolding stands
-    alike_stands = record {
+    standing_kept = record {
       stands = stands;
       held = stands_from.1 ∙ among.held;
       reached = among.reached;
@@ -108,3 +95,22 @@ module _ (sum : List ℕ → ℕ) (size : ℕ) (some : 256 ≤ size) (old left :
       last = λ s found. among.last s (was_found least s found);
       below = λ s found. among.below s (was_found least s found);
     }
+
+-- Two files have the slots alike in which segments are found, in the one or in the other.
+module _ (sum : List ℕ → ℕ) (size : ℕ) (some : 256 ≤ size) (old left : List ℕ) (Used : ℕ → Type 0) (same : (k : ℕ) → Used k → SameIn size old left k)
+    (back : (k : ℕ) → Used k → SameIn size left old k)
+    (were : (least : ℕ) (s : Segment) → IsFoundSegment sum size old least s → Used (s.slot / size))
+    (are : (least : ℕ) (s : Segment) → IsFoundSegment sum size left least s → Used (s.slot / size)) where
+  slots_alike : KeepsSlots sum size Used old left
+  slots_alike = record {
+    before = λ least s found.
+        let k : ℕ = s.slot / size in
+        found_same sum size left old k (back k (are least s found)) (omega (arith, some)) least s (slot_found sum size left least s found) found;
+    found = λ j used. found_same sum size old left j (same j used) (omega (arith, some));
+    met = λ j used place mark header. scan_same sum size old left j (same j used) (back j used) place;
+    met_before = λ j used place mark header. scan_same sum size left old j (back j used) (same j used) place;
+  }
+
+  pub alike_stands : (H : History) (reach : ℕ) (first : SnapshotModel) {site : SegmentPosition} {from : ℕ} {others : List BegunSegment}
+      → StandsAmong sum size old site from others reach H first → StandsAmong sum size left site from others reach H first
+  alike_stands = standing_kept sum size some old left Used same slots_alike were
