@@ -1,6 +1,6 @@
 -- Slots at the end of the log file that are free are cut off, and the cut is synced: what is shown is shorter by zeros, and the log fits what it fitted.
-use Rattle.std.proofs.Common.{◌≡◌, ◌⊎◌, ◌∙◌, ◌+◌, ◌*◌, ◌/◌, ◌≤◌, ◌<◌, ℕ, ℤ, pos, true, false, List, [], ◌∷◌, length, length-take, map, take, get_or, get_or-take}
-use Rattle.std.proofs.Common.{Option, None, if◌then◌else◌, refl, sym, ap, subst, arith, inl, inr}
+use Rattle.std.proofs.Common.{◌≡◌, ◌⊎◌, ◌∙◌, ◌+◌, ◌*◌, ◌/◌, ◌≤◌, ◌<◌, ℕ, pos, true, false, List, [], ◌∷◌, length-take, map, take, get_or, get_or-take}
+use Rattle.std.proofs.Common.{None, if◌then◌else◌, refl, sym, ap, subst, arith, inl, inr}
 use Rattle.std.specs.List.{All, Contains}
 use Rattle.std.proofs.Math.Nat.{mul-div_cancel}
 use Rattle.std.proofs.lemmas.Bool.{cases_lt, true≢false}
@@ -8,9 +8,7 @@ use Rattle.std.proofs.lemmas.List.Elements.{All-contains}
 use Rattle.sled_codec.specs.declared.result.DiskPtr.{DiskPtr}
 use Rattle.sled_codec.specs.declared.result.DiskPtr.TheVariants.{Inline}
 use Rattle.sled_codec.specs.History.{History, Message}
-use Rattle.sled_codec.specs.Places.{part}
 use Rattle.sled_codec.specs.Pointers.{lid_of}
-use Rattle.sled_codec.specs.Record.{IsHeader}
 use Rattle.sled_codec.specs.Snapshots.{SnapshotModel, stable_place}
 use Rattle.sled_store.specs.Device.{Cut, Event, LeavesLog, Placement, State, Synced, at_rest, step}
 use Rattle.sled_store.specs.Foreign.{NoForeignLog}
@@ -29,10 +27,11 @@ use Rattle.sled_core.specs.Logged.{logged}
 use Rattle.sled_core.specs.NoForeign.{NoHeaderOfZeros}
 use Rattle.sled_core.specs.OpenBatches.{stable_below}
 use Rattle.sled_core.specs.inside.Cleared.{cleared, is_stale}
-use Rattle.sled_core.specs.inside.Fits.{begun_segment, parts_in}
+use Rattle.sled_core.specs.inside.Fits.{parts_in}
 use Rattle.sled_core.specs.inside.FreeSlots.{FreeAreZeros, HasSlot}
 use Rattle.sled_core.specs.inside.LogFile.{padded}
 use Rattle.sled_core.specs.inside.Lasting.{LeavesRecovering}
+use Rattle.sled_core.specs.inside.Numbers.{HasNumbers}
 use Rattle.sled_core.specs.inside.Reached.{BegunSegment, StandsAmong, StandsTo}
 use Rattle.sled_core.specs.inside.Running.{FitsLine}
 use Rattle.sled_core.specs.inside.Scan.{IsFoundSegment}
@@ -44,6 +43,8 @@ use Rattle.sled_core.proofs.Freed.CutHides.{zeroed_taken}
 use Rattle.sled_core.proofs.Freed.HoldsLost.{holds_same}
 use Rattle.sled_core.proofs.Freed.SameSlots.{SameSlot, slot_back, slot_beyond, slot_in}
 use Rattle.sled_core.proofs.Logged.Messages.{ascends_logged}
+use Rattle.sled_core.proofs.Numbers.OwnLess.{less_cut, less_synced}
+use Rattle.sled_core.proofs.Numbers.Stay.{numbers_less}
 use Rattle.sled_core.proofs.Reached.AlikeStands.{alike_stands, standing_kept}
 use Rattle.sled_core.proofs.Reached.WholeSegments.{whole_kept}
 use Rattle.sled_core.proofs.Sealed.LaidLemmas.{EndsRise, ends_below}
@@ -152,6 +153,13 @@ module _ (size : ℕ) (some : 256 ≤ size) (m : Machine) (line : List SegmentVi
         standing_kept sum size some old left (λ k. k < slots) (below_same sum size old slots now no_less left leaves)
         (cutting_keeps sum size (λ k. k < slots) (omega (arith, some)) old slots (λ j front. front) now no_less left leaves only_own)
         (found_front sum none old zeros_old)
+
+-- Slots have the numbers of their segments behind it, as less is own.
+pub numbers_cut : (sum : List ℕ → ℕ) (size base : ℕ) (s : State) (m : Machine) (end to : ℕ) → HasNumbers sum size base s m end
+    → HasNumbers sum size base (step Synced (step (Cut to to) s)) m end
+numbers_cut sum size base s m end to has =
+    numbers_less sum size (step Synced (step (Cut to to) s)) (step (Cut to to) s) (less_synced sum size (step (Cut to to) s)) m end
+    (numbers_less sum size (step (Cut to to) s) s (less_cut sum size to to s) m end has)
 
 -- A log that keeps no failure fits what it fitted. What stays is in slots that have a segment.
 module _ (sum : List ℕ → ℕ) (size : ℕ) (some : 256 ≤ size) (m : Machine) (v : SegmentView) (vs : List SegmentView) (taken : All (HasSlot size m) (v ∷ vs))

@@ -1,12 +1,11 @@
 -- Slots at the end of the log file that are free are cut off, and the cut is synced: what is own of the file that is shown is so of the shorter one, by what was
 -- placed and has stood at that sync, too.
-use Rattle.std.proofs.Common.{◌≡◌, ◌∙◌, ◌+◌, ◌-◌, ◌*◌, ◌/◌, ◌≤◌, ◌<◌, ℕ, min, max, true, List, [], ◌∷◌, length, length-drop, length-take, take, drop, Option, None}
+use Rattle.std.proofs.Common.{◌≡◌, ◌∙◌, ◌+◌, ◌-◌, ◌*◌, ◌/◌, ◌≤◌, ℕ, min, max, true, List, [], ◌∷◌, length, length-drop, length-take, take, drop, None}
 use Rattle.std.proofs.Common.{ap, arith}
-use Rattle.std.specs.List.{All, Contains}
-use Rattle.std.proofs.lemmas.List.{take-take}
+use Rattle.std.specs.List.{All}
 use Rattle.std.proofs.lemmas.List.Elements.{All-contains}
 use Rattle.sled_codec.specs.Places.{part}
-use Rattle.sled_store.specs.Device.{Cut, Placement, State, Synced, step}
+use Rattle.sled_store.specs.Device.{Cut, State, Synced, step}
 use Rattle.sled_store.specs.Foreign.{HeaderWasPlaced, RecordWasPlaced}
 use Rattle.sled_store.specs.Readers.{IsOwnRange}
 use Rattle.sled_store.specs.SegmentStates.{Machine, is_free, slot_at}
