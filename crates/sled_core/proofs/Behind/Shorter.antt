@@ -36,7 +36,8 @@ module _ (sum : List ℕ → ℕ) (none : NoHeaderOfZeros sum) (size : ℕ) (som
   in_front : (least : ℕ) (s : Segment) → IsFoundSegment sum size longer least s → s.slot + size ≤ length log
   in_front least s found = elim (cases_lt s.slot (length log)) [
     | inl before ↦ apart size (omega (arith, some)) s.slot (length log) found.slot ends before
-    | inr past ↦ absurd (none_in_zeros sum 20 none (omega arith) longer s.slot (λ i low high. padded_get to log i ∙ get_or_past log i 0 (omega (arith, low, past))) (pos s.place) s.mark found.header)
+    | inr past ↦ absurd (none_in_zeros sum 20 none (omega arith) longer s.slot
+        (λ i low high. padded_get to log i ∙ get_or_past log i 0 (omega (arith, low, past))) (pos s.place) s.mark found.header)
   ]
 
   its_slot : (least : ℕ) (s : Segment) → IsFoundSegment sum size longer least s → Used (s.slot / size)
@@ -44,7 +45,9 @@ module _ (sum : List ℕ → ℕ) (none : NoHeaderOfZeros sum) (size : ℕ) (som
 
   -- The same are found, and read as they are with the zeros.
   found_on : (least : ℕ) (s : Segment) → IsFoundSegment sum size log least s → IsFoundSegment sum size longer least s
-  found_on least s found = found_moved sum size log longer least s (part-append log (replicate (to - length log) 0) s.slot 20 (found_there sum size log least s found)) found
+  found_on least s found =
+      found_moved sum size log longer least s
+      (part-append log (replicate (to - length log) 0) s.slot 20 (found_there sum size log least s found)) found
 
   same_in : (j : ℕ) → Used j → SameIn size longer log j
   same_in j used = λ lid len low high there. same_part lid len (omega (arith, used, high))

@@ -49,7 +49,8 @@ module _ (size : ℕ) (some : 0 < size) (m m' : Machine) (line : List SegmentVie
   whole_lost sum large base changes H below are k used ends =
       let had = had_segment size base some m m' changes k used in
       whole_at sum size now H refl had.1
-      (whole_kept sum size old now (k * size) large (slot_in size old now k (slot_shown k (used ∙ sym had.0))) H (slot_at m k).lsn (are k had.0 (omega (arith, ends, had.1))))
+      (whole_kept sum size old now (k * size) large (slot_in size old now k (slot_shown k (used ∙ sym had.0))) H (slot_at m k).lsn
+      (are k had.0 (omega (arith, ends, had.1))))
 
   -- One slot alone loses its segment.
   module _ (k : ℕ) (free : is_free (slot_at m' k).state ≡ true) (others : (j : ℕ) → j ≢ k → slot_at m' j ≡ slot_at m j) where

@@ -1,5 +1,6 @@
 -- What a log holds it holds over a file that has the same bytes in the slots of its segments, and in those of the messages that stay.
-use Rattle.std.proofs.Common.{◌≡◌, ◌∙◌, ◌+◌, ◌-◌, ◌*◌, ◌/◌, ◌%◌, ◌<◌, ◌≤◌, ℕ, Bool, true, false, pos, List, [], ◌∷◌, length, get_or, Option, None, sym, ap, subst, arith}
+use Rattle.std.proofs.Common.{◌≡◌, ◌∙◌, ◌+◌, ◌-◌, ◌*◌, ◌/◌, ◌%◌, ◌<◌, ◌≤◌, ℕ, Bool, true, false, pos, List, [], ◌∷◌, length, get_or, Option, None, sym, ap}
+use Rattle.std.proofs.Common.{subst, arith}
 use Rattle.std.specs.List.{Contains}
 use Rattle.std.specs.declared.io.Error.{Error as IoError}
 use Rattle.sled_codec.specs.declared.result.DiskPtr.TheVariants.{Inline}
@@ -32,7 +33,8 @@ module _ (sum : List ℕ → ℕ) (size : ℕ) (some : 256 ≤ size) (old new : 
       → MessageStands sum size new lid (m.place / size) m
   message_same lid m same s = record {
     header = s.header;
-    stands = subst (λ n. At new n) (sym whole) (record_same sum size old new k alike m.place (lid % size) inside s.header m.bytes m.size (subst (At old) whole s.stands));
+    stands = subst (At new) (sym whole)
+        (record_same sum size old new k alike m.place (lid % size) inside s.header m.bytes m.size (subst (At old) whole s.stands));
     known = s.known;
     short = alike lid m.size (omega (arith, parts)) (let fits = s.stands.in_slot in omega (arith, parts, fits)) s.stands.in_file ∙ s.short;
     page = s.page;
@@ -85,7 +87,8 @@ module _ (sum : List ℕ → ℕ) (size : ℕ) (some : 256 ≤ size) (old new : 
         let offset = s.offset in
         let within = s.inside in
         let its = long_enough sum size old lid (m.place / size) s.stands.header m.bytes m.size s.stands.stands in
-        let k : lid / size ≡ site.slot / size = slot_is size (site.slot / size) lid (omega (arith, parts, aligned, offset)) (omega (arith, parts, aligned, offset, within, short, its)) in
+        let k : lid / size ≡ site.slot / size =
+        slot_is size (site.slot / size) lid (omega (arith, parts, aligned, offset)) (omega (arith, parts, aligned, offset, within, short, its)) in
         record {
           at = s.at;
           place = s.place;
@@ -95,8 +98,8 @@ module _ (sum : List ℕ → ℕ) (size : ℕ) (some : 256 ≤ size) (old new : 
           inside = s.inside;
         }
 
-  zeros_kept : (slot from to : ℕ) → to ≤ size → ((i : ℕ) → i < size → get_or new (slot + i) 0 ≡ get_or old (slot + i) 0) → AreZeros old (slot + from) (slot + to)
-      → AreZeros new (slot + from) (slot + to)
+  zeros_kept : (slot from to : ℕ) → to ≤ size → ((i : ℕ) → i < size → get_or new (slot + i) 0 ≡ get_or old (slot + i) 0)
+      → AreZeros old (slot + from) (slot + to) → AreZeros new (slot + from) (slot + to)
   zeros_kept slot from to high same zeros i above below =
       let at : slot + (i - slot) ≡ i = omega (arith, above) in
       ap (λ n. get_or new n 0) (sym at) ∙ same (i - slot) (omega (arith, below, high, at)) ∙ ap (λ n. get_or old n 0) at ∙ zeros i above below
@@ -127,7 +130,8 @@ module _ (sum : List ℕ → ℕ) (size : ℕ) (some : 256 ≤ size) (old new : 
     pub segment_same : (site : SegmentPosition) (bytes : List ℕ) (from : ℕ) (bs : List Sealed) (rs : List Reserved) (H : History) {stays : Message → Type 0}
         → EndsRise from bs size → from ≤ size → SameSlot size old new (site.slot / size)
         → ((m : Message) → stays m → m.place < site.place → (lid : ℕ) → m.pointer ≡ Inline lid → SameSlot size old new (lid / size))
-        → HoldsSegment sum (log_parts size site device fault bytes from bs rs) stays H → HoldsSegment sum (log_parts size site now fault bytes from bs rs) stays H
+        → HoldsSegment sum (log_parts size site device fault bytes from bs rs) stays H
+        → HoldsSegment sum (log_parts size site now fault bytes from bs rs) stays H
     segment_same site bytes from bs rs H {stays} rise short own others holds = record {
       records = holds.records;
       written = λ none.
@@ -142,7 +146,8 @@ module _ (sum : List ℕ → ℕ) (size : ℕ) (some : 256 ≤ size) (old new : 
       laid = λ none.
           subst (λ (l : LogState). Laid l.bytes site.slot bytes from bs size) (sym (is none))
           (laid_kept site.slot bytes from bs rise (λ i below. own.bytes (site.slot + i) (omega (arith, parts, aligned)) (omega (arith, parts, aligned, below)))
-          (λ end below there. slot_ends size old new (site.slot / size) own (site.slot + end) (omega (arith, parts, aligned, below)) there) (subst (λ (l : LogState). Laid l.bytes site.slot bytes from bs size) (was none) (holds.laid none)));
+          (λ end below there. slot_ends size old new (site.slot / size) own (site.slot + end) (omega (arith, parts, aligned, below)) there)
+          (subst (λ (l : LogState). Laid l.bytes site.slot bytes from bs size) (was none) (holds.laid none)));
     } where
       aligned : site.slot % size ≡ 0
       aligned = holds.records.slot_begins
@@ -190,7 +195,8 @@ module _ (sum : List ℕ → ℕ) (size : ℕ) (some : 256 ≤ size) (old new : 
       head = holds.head;
       later = holds.later;
       messages = holds.messages;
-      own = segment_same site bytes from bs rs (record { messages = holds.head; batches = H.batches }) rise short own (λ m stay low lid at. others m stay lid at) holds.own;
+      own = segment_same site bytes from bs rs (record { messages = holds.head; batches = H.batches }) rise short own
+          (λ m stay low lid at. others m stay lid at) holds.own;
       others = behind_same (site.place + size) behind (StaysBelow H (stable_place holds.begun.first.stable) site.place) H.batches holds.later after
           (λ m stay lid at. others m stay.0 lid at) holds.others;
       apart = holds.apart;

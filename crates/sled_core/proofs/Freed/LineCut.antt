@@ -131,7 +131,8 @@ module _ (size : ℕ) (some : 256 ≤ size) (m : Machine) (line : List SegmentVi
       pub stands_cut : StandsAmong sum size old site from others reach H first → StandsAmong sum size new site from others reach H first
       stands_cut =
           alike_stands sum size some old new (λ k. k < slots) (λ k front. slot_in size old new k (front_shown k front))
-          (λ k front. slot_in size new old k (slot_back size old new k (front_shown k front))) (found_front old zeros_old) (found_front new zeros_new) H reach first
+          (λ k front. slot_in size new old k (slot_back size old new k (front_shown k front))) (found_front old zeros_old) (found_front new zeros_new)
+          H reach first
 
       pub stands_cut_beyond : (end : ℕ) → StandsAmong sum size (padded end old) site from others reach H first
           → StandsAmong sum size (padded end new) site from others reach H first
@@ -235,7 +236,7 @@ module _ (sum : List ℕ → ℕ) (size : ℕ) (some : 256 ≤ size) (m : Machin
     passes = fits.passes;
     pinned = fits.pinned;
     left =
-        settled_recoverable sum size some (shown size None m line behind) H (stable_below reach H.batches) f fits.holds.begun.first reach (ascends_logged H order)
-        fits.items.stored refl fits.named.names fits.items.blobs
+        settled_recoverable sum size some (shown size None m line behind) H (stable_below reach H.batches) f fits.holds.begun.first reach
+        (ascends_logged H order) fits.items.stored refl fits.named.names fits.items.blobs
         (λ zeros. (stands_cut size some m line log slots free sum zeros (logged H) reach fits.holds.begun.first (fits.among refl zeros)).stands);
   }

@@ -43,8 +43,8 @@ use Rattle.sled_core.proofs.Freed.StandsLost.{ShowsStanding, standing_lost}
 use Rattle.sled_core.proofs.Logged.Messages.{ascends_logged}
 use Rattle.sled_core.proofs.Sealed.LaidLemmas.{EndsRise, ends_below}
 
-module _ (size base : ℕ) (some : 256 ≤ size) (m m' : Machine) (changes : KeepOrLose size base m m') (line : List SegmentView) (taken : All (HasSlot size m) line)
-    (low : (u : SegmentView) → Contains line u → base ≤ u.parts.site.place) where
+module _ (size base : ℕ) (some : 256 ≤ size) (m m' : Machine) (changes : KeepOrLose size base m m') (line : List SegmentView)
+    (taken : All (HasSlot size m) line) (low : (u : SegmentView) → Contains line u → base ≤ u.parts.site.place) where
   -- A slot loses its segment.
   abbrev IsLost : ℕ → Type 0
   IsLost k = LosesSegment size base (slot_at m k) (slot_at m' k)
@@ -107,7 +107,8 @@ module _ (size base : ℕ) (some : 256 ≤ size) (m m' : Machine) (changes : Kee
 -- own, the older ones are whole, what is held counts from a place or above it, and the file has besides what it may have. No table from there on needs anything
 -- of the slots that lose their segments, and what stays lies in none of them.
 module _ (sum : List ℕ → ℕ) (size base : ℕ) (some : 256 ≤ size) (m m' : Machine) (long : length m'.slots ≡ length m.slots) (changes : KeepOrLose size base m m')
-    (v : SegmentView) (vs : List SegmentView) (taken : All (HasSlot size m) (v ∷ vs)) (low : (u : SegmentView) → Contains (v ∷ vs) u → base ≤ u.parts.site.place)
+    (v : SegmentView) (vs : List SegmentView) (taken : All (HasSlot size m) (v ∷ vs))
+    (low : (u : SegmentView) → Contains (v ∷ vs) u → base ≤ u.parts.site.place)
     (rise : EndsRise v.parts.written_len v.parts.sealed size) (end : ℕ) (own : HaveOwn size end m) (s : State) (reach pins : ℕ) (H : History) (A f : ℕ)
     (U : List Message) (order : Ascends H.messages) (fits : FitsLine sum size (shown size None m (v ∷ vs) s) None (v ∷ vs) reach pins H A f U)
     (stays : (x : Message) → StaysFrom (logged H) (stable_place fits.holds.begun.first.stable) x → (k : ℕ) → LosesSegment size base (slot_at m k) (slot_at m' k)
@@ -138,8 +139,8 @@ module _ (sum : List ℕ → ℕ) (size base : ℕ) (some : 256 ≤ size) (m m' 
   -- What is shown stands as it did.
   standing : (zeros : NoHeaderOfZeros sum) → Standing m' zeros
   standing zeros =
-      standing_lost sum zeros size some s line base (logged H) fits.holds.begun.first v.parts.site v.parts.written_len others reach held m m' long changes end own
-      v.parts.site.place (whole zeros) (low v (in_first v vs)) high unneeded
+      standing_lost sum zeros size some s line base (logged H) fits.holds.begun.first v.parts.site v.parts.written_len others reach held m m' long changes
+      end own v.parts.site.place (whole zeros) (low v (in_first v vs)) high unneeded
       (λ k lost. line_beside size base some m m' changes line taken low v (in_first v vs) k lost) behind_beside (record {
         among = (fits.among refl zeros, counts zeros);
         beyond = λ to up. (fits.beyond to up refl zeros, counts_beyond zeros to up);
@@ -157,7 +158,8 @@ module _ (sum : List ℕ → ℕ) (size base : ℕ) (some : 256 ≤ size) (m m' 
     holds =
         holds_same sum size some (cleared size m line s.log.bytes) (cleared size m' line s.log.bytes)
         (shown size None m line s) (at_rest (cleared size m' line s.log.bytes)) s.blobs s.temporary s.placed None (λ none. refl) (λ none. refl)
-        v.parts.site v.parts.bytes v.parts.written_len v.parts.sealed v.parts.reserved (map parts_in vs) (logged H) rise (let rows = ends_below v.parts.written_len v.parts.sealed size rise in omega (arith, rows.0, rows.1))
+        v.parts.site v.parts.bytes v.parts.written_len v.parts.sealed v.parts.reserved (map parts_in vs) (logged H) rise
+        (let rows = ends_below v.parts.written_len v.parts.sealed size rise in omega (arith, rows.0, rows.1))
         (line_bytes size base some m m' changes line taken low s v (in_first v vs))
         (λ p there.
         let its = from_map parts_in vs p there in

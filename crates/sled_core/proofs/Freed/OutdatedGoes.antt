@@ -1,6 +1,7 @@
 -- The blobs that go with a segment are removed: nothing needs them from where it ends on. So where that is stable, what a crash leaves of the blobs has all
 -- that it had to, behind each removal, done or not.
-use Rattle.std.proofs.Common.{◌≡◌, ◌⊎◌, ◌∙◌, ◌&&◌, ◌+◌, ◌<◌, ◌≤◌, ◌++◌, is_some, if◌then◌else◌, ℕ, ℤ, Bool, true, false, List, [], ◌∷◌, Option, Some, None, refl, sym, ap, subst, arith, inl, inr}
+use Rattle.std.proofs.Common.{◌≡◌, ◌⊎◌, ◌∙◌, ◌&&◌, ◌+◌, ◌<◌, ◌≤◌, ◌++◌, is_some, if◌then◌else◌, ℕ, ℤ, Bool, true, false, List, [], ◌∷◌, Option, Some, None}
+use Rattle.std.proofs.Common.{refl, sym, ap, subst, arith, inl, inr}
 use Rattle.std.specs.List.{Contains}
 use Rattle.std.specs.declared.io.Error.{Error as IoError}
 use Rattle.std.specs.Ordering.{int_eq}
@@ -233,8 +234,8 @@ fits_outdated_goes sum noted size fault line m pins H A f U some order k device 
     device has
 
 -- A step of the accountant removes such blobs alone: those that go with segments which are due for its mark, where these end at a place or below it.
-pub goes_spent : (size base : ℕ) (H : History) (m : Machine) (mark : ℤ) → AreOutdated size H m → ((place : ℕ) → is_due size mark place ≡ true → place + size ≤ base)
-    → (p : ℤ) → GoesWith (IsDueFor size mark m) m.slots p → IsSpent size base H p
+pub goes_spent : (size base : ℕ) (H : History) (m : Machine) (mark : ℤ) → AreOutdated size H m
+    → ((place : ℕ) → is_due size mark place ≡ true → place + size ≤ base) → (p : ℤ) → GoesWith (IsDueFor size mark m) m.slots p → IsSpent size base H p
 goes_spent size base H m mark are below p goes e there names =
     superseded_more size ((slot_at m goes.slot).lsn + size) base H H e (λ x found. found) (below (slot_at m goes.slot).lsn goes.due)
     ((are goes.slot p goes.there).superseded e there names)

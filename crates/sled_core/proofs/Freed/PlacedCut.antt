@@ -1,5 +1,5 @@
--- Slots at the end of the log file that are free are cut off, and the cut is synced: what is own of the file that is shown is so of the shorter one, by what was
--- placed and has stood at that sync, too.
+-- Slots at the end of the log file that are free are cut off, and the cut is synced: what is own of the file that is shown is so of the shorter one, by what
+-- was placed and has stood at that sync, too.
 use Rattle.std.proofs.Common.{◌≡◌, ◌∙◌, ◌+◌, ◌-◌, ◌*◌, ◌/◌, ◌≤◌, ℕ, min, max, true, List, [], ◌∷◌, length, length-drop, length-take, take, drop, None}
 use Rattle.std.proofs.Common.{ap, arith}
 use Rattle.std.specs.List.{All}
@@ -81,8 +81,8 @@ module _ (sum : List ℕ → ℕ) (size : ℕ) (Header Header' : ℕ → List �
   }
 
 -- All that was placed stands in the file (as it does in each that is at rest).
-module _ (sum : List ℕ → ℕ) (none : NoHeaderOfZeros sum) (size : ℕ) (some : 256 ≤ size) (m : Machine) (line : List SegmentView) (taken : All (HasSlot size m) line)
-    (slots : ℕ) (free : (k : ℕ) → slots ≤ k → is_free (slot_at m k).state ≡ true) (s : State)
+module _ (sum : List ℕ → ℕ) (none : NoHeaderOfZeros sum) (size : ℕ) (some : 256 ≤ size) (m : Machine) (line : List SegmentView)
+    (taken : All (HasSlot size m) line) (slots : ℕ) (free : (k : ℕ) → slots ≤ k → is_free (slot_at m k).state ≡ true) (s : State)
     (headers : (at : ℕ) (text : List ℕ) → HeaderWasPlaced s.placed at text → part s.log.bytes at (length text) ≡ text)
     (records : (number at : ℕ) (text : List ℕ) → RecordWasPlaced sum size s.placed number at text → part s.log.bytes at (length text) ≡ text) where
   abbrev behind : State
@@ -102,9 +102,9 @@ module _ (sum : List ℕ → ℕ) (none : NoHeaderOfZeros sum) (size : ℕ) (som
 
   pub placed_cut : HasPlacedFile sum size (shown size None m line s) line → HasPlacedFile sum size (shown size None m line behind) line
   placed_cut own =
-      file_again sum size (HeaderWasPlaced s.placed) (HeaderWasPlaced behind.placed) (RecordWasPlaced sum size s.placed) (RecordWasPlaced sum size behind.placed)
-      (cleared size m line short)
+      file_again sum size (HeaderWasPlaced s.placed) (HeaderWasPlaced behind.placed) (RecordWasPlaced sum size s.placed)
+      (RecordWasPlaced sum size behind.placed) (cleared size m line short)
       (λ at text below laid. header_settled short s.placed at text laid (in_short at text below (headers at text laid)))
       (λ number at text below laid. record_settled sum size short s.placed number at text laid (in_short at text below (records number at text laid))) line
-      (placed_same sum none size some (HeaderWasPlaced s.placed) (RecordWasPlaced sum size s.placed) (cleared size m line s.log.bytes) (cleared size m line short) line
-      (line_cut size some m line s.log.bytes slots free taken) (each_cut size some m line s.log.bytes slots free) own)
+      (placed_same sum none size some (HeaderWasPlaced s.placed) (RecordWasPlaced sum size s.placed) (cleared size m line s.log.bytes)
+      (cleared size m line short) line (line_cut size some m line s.log.bytes slots free taken) (each_cut size some m line s.log.bytes slots free) own)

@@ -51,7 +51,8 @@ module _ (sum : List ℕ → ℕ) (none : NoHeaderOfZeros sum) (size : ℕ) (som
   slot_zeros : (k : ℕ) → ((i : ℕ) → k * size ≤ i → i < k * size + size → get_or new i 0 ≡ 0) → HasOwnSlot sum size Header Own new k
   slot_zeros k zeros = record {
     header = λ to lsn mark is.
-        absurd (none_in_zeros sum size none (omega (arith, some)) (padded to new) (k * size) (λ i low high. padded_get to new i ∙ zeros i low high) lsn mark is);
+        absurd (none_in_zeros sum size none (omega (arith, some)) (padded to new) (k * size)
+        (λ i low high. padded_get to new i ∙ zeros i low high) lsn mark is);
     records = λ to lsn mark at len is r. absurd (none_in_zeros sum size none (omega (arith, some)) new (k * size) zeros (pos lsn) mark is);
   }
 

@@ -1,5 +1,5 @@
--- A slot that two files have alike: the same bytes in it, and as far as the one goes in it the other does. So parts of it are the same, also with zeros behind the
--- ends of both.
+-- A slot that two files have alike: the same bytes in it, and as far as the one goes in it the other does. So parts of it are the same, also with zeros
+-- behind the ends of both.
 use Rattle.std.proofs.Common.{◌≡◌, ◌∙◌, ◌+◌, ◌*◌, ◌≤◌, ◌<◌, ℕ, min, List, length, length-drop, length-take, drop, get_or, get_or-take, sym, ap}
 use Rattle.std.proofs.Common.{arith}
 use Rattle.std.proofs.lemmas.List.{ext_get_or, get_or-drop}

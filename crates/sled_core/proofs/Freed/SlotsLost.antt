@@ -112,7 +112,8 @@ module _ (size base : ℕ) (some : 0 < size) (m m' : Machine) (changes : KeepOrL
       subst (λ (e : Message). slot_with size e ≢ k) found.2 (unneeded k lost held (omega arith) (omega arith) x.page found.0 found.1)
   stays_beside sum H held A over has unneeded x (inr (above, there)) k lost =
       let found = from_logged H x there in
-      subst (λ (e : Message). slot_with size e ≢ k) found.2 (apart found.0 (has.later found.0 found.1 (subst (λ (e : Message). held ≤ e.place) (sym found.2) above))
+      subst (λ (e : Message). slot_with size e ≢ k) found.2
+      (apart found.0 (has.later found.0 found.1 (subst (λ (e : Message). held ≤ e.place) (sym found.2) above))
       (subst (λ (e : Message). held ≤ e.place) (sym found.2) above))
     where
       apart : (e : Message) → IsInSlot size m e → held ≤ e.place → slot_with size e ≢ k
@@ -122,8 +123,8 @@ module _ (size base : ℕ) (some : 0 < size) (m m' : Machine) (changes : KeepOrL
           let low = lost.below in omega (arith, inside, at, low, high, over)
 
 -- What stays of a history is in slots that have a segment.
-pub stays_used : (sum : List ℕ → ℕ) (size : ℕ) (m : Machine) (H : History) (held A : ℕ) → HaveSlots sum size held H A m → (x : Message) → StaysFrom (logged H) held x
-    → is_free (slot_at m (slot_with size x)).state ≡ false
+pub stays_used : (sum : List ℕ → ℕ) (size : ℕ) (m : Machine) (H : History) (held A : ℕ) → HaveSlots sum size held H A m
+    → (x : Message) → StaysFrom (logged H) held x → is_free (slot_at m (slot_with size x)).state ≡ false
 stays_used sum size m H held A has x (inl entry) =
     let found = from_map in_log (table H held x.page) x (subst (λ (l : List Message). Contains l x) (table_logged H held x.page) entry) in
     subst (λ (e : Message). is_free (slot_at m (slot_with size e)).state ≡ false) found.2 (has.older x.page found.0 found.1).taken

@@ -1,5 +1,5 @@
--- Slots lose their segments, which end at the beginning of the segment from which on all is held, or below: what a reader finds in the file that is shown stands
--- as it did, also with zeros behind its end, and the file has besides what it may have.
+-- Slots lose their segments, which end at the beginning of the segment from which on all is held, or below: what a reader finds in the file that is shown
+-- stands as it did, also with zeros behind its end, and the file has besides what it may have.
 use Rattle.std.proofs.Common.{◌≡◌, ◌≢◌, ◌∙◌, ◌+◌, ◌*◌, ◌/◌, ◌≤◌, ℕ, true, false, List, length, refl, sym, ap, subst, arith}
 use Rattle.std.specs.List.{Contains}
 use Rattle.sled_codec.specs.History.{History}
@@ -71,8 +71,8 @@ module _ (sum : List ℕ → ℕ) (none : NoHeaderOfZeros sum) (size : ℕ) (som
     same : shown o ≡ shown n
     same = cleared_line size n o line line s.log.bytes (λ k. (kept k).free) (λ i. refl)
 
-  -- Each slot that has a segment has its own, and those that end at a place or below are whole. No table needs anything of those that are lost, which lie beside
-  -- the segments of the line.
+  -- Each slot that has a segment has its own, and those that end at a place or below are whole. No table needs anything of those that are lost, which lie
+  -- beside the segments of the line.
   module _ (m m' : Machine) (long : length m'.slots ≡ length m.slots) (changes : KeepOrLose size base m m') (end : ℕ) (own : HaveOwn size end m) (below : ℕ)
       (whole : AreWhole sum size (shown m) H below m) (low : base ≤ below) (high : base ≤ held / size * size)
       (unneeded : (k : ℕ) → LosesSegment size base (slot_at m k) (slot_at m' k) → NoneNeeds size H k held reach)
@@ -83,7 +83,8 @@ module _ (sum : List ℕ → ℕ) (none : NoHeaderOfZeros sum) (size : ℕ) (som
       among = stands_emptied k place (shown n) (shown o) emptied x its.found refl ends (unneeded k one.lost) (beside k one.lost) (behind k one.lost) has.among;
       beyond = λ to up. stands_emptied k place (padded to (shown n)) (padded to (shown o))
           (emptied_beyond size (omega (arith, some)) n o line s.log.bytes k free one.others to) x
-          (found_moved sum size (shown n) (padded to (shown n)) 0 x (part-append (shown n) _ (k * size) 20 (found_there sum size (shown n) 0 x its.found)) its.found)
+          (found_moved sum size (shown n) (padded to (shown n)) 0 x
+          (part-append (shown n) _ (k * size) 20 (found_there sum size (shown n) 0 x its.found)) its.found)
           refl ends (unneeded k one.lost) (beside k one.lost) (behind k one.lost) (has.beyond to up);
       hides = hides_emptied sum size some s n line base H first has.hides o k used free one.others emptied end
           (own_lost size base (omega (arith, some)) m n one.so_far end own) under its (stable_below reach H.batches) reach has.among.0.stands;
@@ -104,7 +105,9 @@ module _ (sum : List ℕ → ℕ) (none : NoHeaderOfZeros sum) (size : ℕ) (som
       ends = omega (arith, under, high)
 
       its : IsWholeSegment sum size (shown n) H (k * size) place
-      its = whole_lost size (omega (arith, some)) m n line s.log.bytes sum (omega (arith, some)) base one.so_far H below whole k used (omega (arith, under, low))
+      its =
+          whole_lost size (omega (arith, some)) m n line s.log.bytes sum (omega (arith, some)) base one.so_far H below whole k used
+          (omega (arith, under, low))
 
       x : Segment
       x = marked_at (k * size) place its.mark
