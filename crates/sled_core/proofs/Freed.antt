@@ -32,6 +32,7 @@ pub mod SameSlots
 pub mod ShownReads
 pub mod SlotsLost
 pub mod StandsLost
+pub mod StepSlots
 pub mod TornFront
 pub mod TornReads
 pub mod TornUnread

@@ -9,8 +9,8 @@ pub mod Higher
 pub mod KeptStands
 pub mod LeftBeside
 pub mod LongerStands
-pub mod MarkWritten
 pub mod Marks
+pub mod MarkWritten
 pub mod MarksRaise
 pub mod MetWritten
 pub mod NextSegment
