@@ -1,6 +1,7 @@
 -- The blobs that go with a segment are removed: nothing needs them from where it ends on. So where that is stable, what a crash leaves of the blobs has all
 -- that it had to, behind each removal, done or not.
-use Rattle.std.proofs.Common.{◌≡◌, ◌⊎◌, ◌∙◌, ◌&&◌, ◌+◌, ◌<◌, ◌≤◌, ◌++◌, is_some, if◌then◌else◌, ℕ, ℤ, Bool, true, false, List, [], ◌∷◌, Option, Some, None, refl, sym, ap, subst, arith, inl, inr}
+use Rattle.std.proofs.Common.{◌≡◌, ◌⊎◌, ◌∙◌, ◌&&◌, ◌+◌, ◌<◌, ◌≤◌, ◌++◌, is_some, if◌then◌else◌, ℕ, ℤ, Bool, true, false, List, [], ◌∷◌, Option, Some, None}
+use Rattle.std.proofs.Common.{refl, sym, ap, subst, arith, inl, inr}
 use Rattle.std.specs.List.{Contains}
 use Rattle.std.specs.declared.io.Error.{Error as IoError}
 use Rattle.std.specs.Ordering.{int_eq}
@@ -16,10 +17,11 @@ use Rattle.sled_store.specs.Device.{BlobRemoved, Content, Event, LeavesName, Nam
 use Rattle.sled_store.specs.Foreign.{NoForeignNames}
 use Rattle.sled_store.specs.Marks.{IsSuperseded}
 use Rattle.sled_store.specs.Outdated.{AreOutdated, NamesBlob}
-use Rattle.sled_store.specs.SegmentStates.{Machine, slot_at}
+use Rattle.sled_store.specs.SegmentStates.{Machine, is_due, slot_at}
 use Rattle.sled_store.specs.inside.Script.{Along}
 use Rattle.sled_store.proofs.Histories.Ascending.{Ascends}
 use Rattle.sled_store.proofs.Marks.MarkedLemmas.{not_superseded, superseded_more}
+use Rattle.sled_store.proofs.Marks.SlotMoves.{GoesWith, IsDueFor}
 use Rattle.sled_store.proofs.Names.NamesLemmas.{after_unnamed}
 use Rattle.sled_store.proofs.Segments.Elements.{in_first, in_rest}
 use Rattle.sled_store.proofs.Segments.TableEntries.{from_table}
@@ -195,36 +197,46 @@ pub record FitsPast (sum : List ℕ → ℕ) (marks : JoinedMarks) (noted : List
   pub fits : FitsWith sum marks noted size s fault line m pins H A f U
   pub past : place ≤ stable_below fits.reach H.batches
 
+-- So it does once a blob is removed, or may be, of which each message that names it is replaced before that place.
+pub fits_removed : (sum : List ℕ → ℕ) (marks : JoinedMarks) (noted : List Batch) (size : ℕ) (fault : Option IoError) (line : List SegmentView) (m : Machine) (pins : ℕ)
+    (H : History) (A f : ℕ) (U : List Message) (place : ℕ)
+    → 0 < size → Ascends H.messages → (p : ℤ) → IsSpent size place H p → (s : State) (done : Bool)
+    → FitsPast sum marks noted size fault line m pins H A f U place s → FitsPast sum marks noted size fault line m pins H A f U place (step (BlobRemoved p done) s)
+fits_removed sum marks noted size fault line m pins H A f U place some order p spent s done its =
+    record { fits = now.0; past = subst (λ reach. place ≤ stable_below reach H.batches) (sym now.1) its.past } where
+      stable : ℕ
+      stable = stable_below its.fits.reach H.batches
+
+      items : HaveItems sum s.blobs H stable → HaveItems sum (unnamed s.blobs p done) H stable
+      items have = record {
+        blobs = removed_fit sum size some H order place p spent s.blobs done stable its.past have.blobs;
+        stored = removed_items sum size some H order place p spent s.blobs done stable its.past have.stored;
+        entries = removed_entries sum size some H order place p spent s.blobs done stable its.past have.entries;
+        below = have.below;
+      }
+
+      left : LeavesRecovering sum size H stable f s → LeavesRecovering sum size H stable f (step (BlobRemoved p done) s)
+      left = removed_leaves sum size some H order place p spent stable f its.past s done
+
+      now : (fits : FitsWith sum marks noted size (step (BlobRemoved p done) s) fault line m pins H A f U) × (fits.reach ≡ its.fits.reach)
+      now = fits_over_blobs sum size s (unnamed s.blobs p done) s.snapshots fault refl H A f U
+          (λ first named. record { names = named.names; own_names = λ none. own_removing sum p done s (named.own_names none) }) noted line m pins its.fits
+          (items, left)
+
 -- So it does along the removal of all blobs that go with a segment which ends there.
 pub fits_outdated_goes : (sum : List ℕ → ℕ) (marks : JoinedMarks) (noted : List Batch) (size : ℕ) (fault : Option IoError) (line : List SegmentView) (m : Machine) (pins : ℕ)
     (H : History) (A f : ℕ) (U : List Message)
     → 0 < size → Ascends H.messages → (k : ℕ) (device : State) → FitsPast sum marks noted size fault line m pins H A f U ((slot_at m k).lsn + size) device
     → Along (FitsPast sum marks noted size fault line m pins H A f U ((slot_at m k).lsn + size)) (removing_blobs (slot_at m k).blobs) device
 fits_outdated_goes sum marks noted size fault line m pins H A f U some order k device has =
-    removing_all_keep (FitsPast sum marks noted size fault line m pins H A f U ((slot_at m k).lsn + size)) (slot_at m k).blobs keeps device has where
-      keeps : (p : ℤ) → Contains (slot_at m k).blobs p → (s : State) (done : Bool)
-          → FitsPast sum marks noted size fault line m pins H A f U ((slot_at m k).lsn + size) s
-          → FitsPast sum marks noted size fault line m pins H A f U ((slot_at m k).lsn + size) (step (BlobRemoved p done) s)
-      keeps p among s done its =
-          record { fits = now.0; past = subst (λ reach. (slot_at m k).lsn + size ≤ stable_below reach H.batches) (sym now.1) its.past } where
-            stable : ℕ
-            stable = stable_below its.fits.reach H.batches
+    removing_all_keep (FitsPast sum marks noted size fault line m pins H A f U ((slot_at m k).lsn + size)) (slot_at m k).blobs
+    (λ p among s done its.
+    fits_removed sum marks noted size fault line m pins H A f U ((slot_at m k).lsn + size) some order p (its.fits.account.outdated k p among).superseded s done its)
+    device has
 
-            spent : IsSpent size ((slot_at m k).lsn + size) H p
-            spent = (its.fits.account.outdated k p among).superseded
-
-            items : HaveItems sum s.blobs H stable → HaveItems sum (unnamed s.blobs p done) H stable
-            items have = record {
-              blobs = removed_fit sum size some H order ((slot_at m k).lsn + size) p spent s.blobs done stable its.past have.blobs;
-              stored = removed_items sum size some H order ((slot_at m k).lsn + size) p spent s.blobs done stable its.past have.stored;
-              entries = removed_entries sum size some H order ((slot_at m k).lsn + size) p spent s.blobs done stable its.past have.entries;
-              below = have.below;
-            }
-
-            left : LeavesRecovering sum size H stable f s → LeavesRecovering sum size H stable f (step (BlobRemoved p done) s)
-            left = removed_leaves sum size some H order ((slot_at m k).lsn + size) p spent stable f its.past s done
-
-            now : (fits : FitsWith sum marks noted size (step (BlobRemoved p done) s) fault line m pins H A f U) × (fits.reach ≡ its.fits.reach)
-            now = fits_over_blobs sum size s (unnamed s.blobs p done) s.snapshots fault refl H A f U
-                (λ first named. record { names = named.names; own_names = λ none. own_removing sum p done s (named.own_names none) }) noted line m pins its.fits
-                (items, left)
+-- A step of the accountant removes such blobs alone: those that go with segments which are due for its mark, where these end at a place or below it.
+pub goes_spent : (size base : ℕ) (H : History) (m : Machine) (mark : ℤ) → AreOutdated size H m
+    → ((place : ℕ) → is_due size mark place ≡ true → place + size ≤ base) → (p : ℤ) → GoesWith (IsDueFor size mark m) m.slots p → IsSpent size base H p
+goes_spent size base H m mark are below p goes e there names =
+    superseded_more size ((slot_at m goes.slot).lsn + size) base H H e (λ x found. found) (below (slot_at m goes.slot).lsn goes.due)
+    ((are goes.slot p goes.there).superseded e there names)
