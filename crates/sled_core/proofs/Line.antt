@@ -98,6 +98,7 @@ pub mod Shows
 pub mod Slots
 pub mod Spans
 pub mod StandsThere
+pub mod StepAlong
 pub mod StepFits
 pub mod Targets
 pub mod TicketEnds

@@ -83,7 +83,7 @@ module _ (size : ℕ) (some : 256 ≤ size) (m : Machine) (line : List SegmentVi
     row : k * size + size ≤ slots * size
     row = slot_before size k slots front
 
-  used_shown : (k : ℕ) → is_free (slot_at m k).state ≡ false → SameSlot size old new k
+  pub used_shown : (k : ℕ) → is_free (slot_at m k).state ≡ false → SameSlot size old new k
   used_shown k used = front_shown k (used_front k used)
 
   -- Each other one is shown as zeros.
@@ -181,7 +181,7 @@ module _ (sum : List ℕ → ℕ) (marks : JoinedMarks) (size : ℕ) (some : 256
   behind = step Synced (step (Cut (slots * size) (slots * size)) s)
 
   -- What a crash may leave of what is shown while the cut is under way can be recovered,
-  cutting_leaves : (now : ℕ) → slots * size ≤ now
+  pub cutting_leaves : (now : ℕ) → slots * size ≤ now
       → LeavesRecovering sum size H (stable_below reach H.batches) f (step (Cut (slots * size) now) (shown size None m line s))
   cutting_leaves now no_less left leaves only_own =
       stands_recoverable sum size some left H (stable_below reach H.batches) f fits.holds.begun.first reach (ascends_logged H order)

@@ -235,26 +235,31 @@ module _ (sum : List ℕ → ℕ) (marks : JoinedMarks) (noted : List Batch) (si
         (fits.shows.in_slots first begins).not_above (λ k lost. unneeded k lost held) (fits.shows.in_slots first begins));
   }
 
-  pub stepped_fits : FitsShown sum marks noted size s None line after pins H A f []
-  stepped_fits = record {
-    shows = stepped_shows;
-    rests = fits.rests;
-    hides = λ none zeros x from.
-        subst (λ (y : SnapshotModel). Hides sum size s after line (least_place size y) base (logged H))
-        (one_begin sum s.snapshots.file first x begins from) (hides zeros);
-    marked = λ none zeros x from.
-        subst (λ (y : SnapshotModel). MarksFit sum size (cleared size after line log) y marks.joined marks.durable)
-        (one_begin sum s.snapshots.file first x begins from)
-        (let its = fits.marked refl zeros first begins in record { joined = its.joined; stands = mark_kept zeros its.stands });
-  }
+  pub stepped_fits : (now : FitsShown sum marks noted size s None line after pins H A f []) × (now.shows.reach ≡ fits.shows.reach)
+  unfolding stepped_shows
+  stepped_fits = (
+    record {
+      shows = stepped_shows;
+      rests = fits.rests;
+      hides = λ none zeros x from.
+          subst (λ (y : SnapshotModel). Hides sum size s after line (least_place size y) base (logged H))
+          (one_begin sum s.snapshots.file first x begins from) (hides zeros);
+      marked = λ none zeros x from.
+          subst (λ (y : SnapshotModel). MarksFit sum size (cleared size after line log) y marks.joined marks.durable)
+          (one_begin sum s.snapshots.file first x begins from)
+          (let its = fits.marked refl zeros first begins in record { joined = its.joined; stands = mark_kept zeros its.stands });
+    },
+    refl,
+  )
 
--- So it is where messages aren't marked yet, as long as nothing is due: then the step does nothing.
+-- So it is where messages aren't marked yet, as long as nothing is due: then the step does nothing. What a reader reaches is the same.
 pub step_fits : (sum : List ℕ → ℕ) (marks : JoinedMarks) (noted : List Batch) (size : ℕ) → 256 ≤ size → (s : State) (m : Machine) (pins : ℕ) (H : History)
     (A f : ℕ) → Ascends H.messages → (v : SegmentView) (vs : List SegmentView) → AreSegments size v.parts.site.place (v ∷ vs) → (U : List Message)
-    → (U ≢ [] → NoneDue size marks.joined m) → FitsShown sum marks noted size s None (v ∷ vs) m pins H A f U
-    → FitsShown sum marks noted size s None (v ∷ vs) (stabilized size marks.joined m).machine pins H A f U
+    → (U ≢ [] → NoneDue size marks.joined m) → (fits : FitsShown sum marks noted size s None (v ∷ vs) m pins H A f U)
+    → (now : FitsShown sum marks noted size s None (v ∷ vs) (stabilized size marks.joined m).machine pins H A f U)
+    × (now.shows.reach ≡ fits.shows.reach)
 step_fits sum marks noted size big s m pins H A f order v vs are [] idle fits =
     stepped_fits sum marks noted size big s m pins H A f order v vs are fits
 step_fits sum marks noted size big s m pins H A f order v vs are (u ∷ us) idle fits =
-    subst (λ (n : Machine). FitsShown sum marks noted size s None (v ∷ vs) n pins H A f (u ∷ us))
-    (sym (ap (λ (x : Step). x.machine) (none_stabilized size marks.joined m (idle (λ none. let clash : u ∷ us ≡ [] = none in cc))))) fits
+    subst (λ (n : Machine). (now : FitsShown sum marks noted size s None (v ∷ vs) n pins H A f (u ∷ us)) × (now.shows.reach ≡ fits.shows.reach))
+    (sym (ap (λ (x : Step). x.machine) (none_stabilized size marks.joined m (idle (λ none. let clash : u ∷ us ≡ [] = none in cc))))) (fits, refl)
