@@ -108,8 +108,8 @@ module _ (size base : ℕ) (some : 256 ≤ size) (m m' : Machine) (changes : Kee
         line line_shown each_shown own
 
 -- A log that keeps no failure, with its slots before and behind that, and what it fits. Where headers are told from zeros: each slot that has a segment has its
--- own, the older ones are whole, what is held counts from a place or above it, and the file has besides what it may have. No table from there on needs anything
--- of the slots that lose their segments, and what stays lies in none of them.
+-- own, the older ones are whole, the mark that joined stands, and the file has besides what it may have. No table needs anything of the slots that lose their
+-- segments, from where what is held counts, and what stays lies in none of them.
 module _ (sum : List ℕ → ℕ) (marks : JoinedMarks) (size base : ℕ) (some : 256 ≤ size) (m m' : Machine) (long : length m'.slots ≡ length m.slots) (changes : KeepOrLose size base m m')
     (v : SegmentView) (vs : List SegmentView) (taken : All (HasSlot size m) (v ∷ vs))
     (low : (u : SegmentView) → Contains (v ∷ vs) u → base ≤ u.parts.site.place)

@@ -1,6 +1,6 @@
 -- The calls of a step of the accountant, over the slots as they are behind it: a log at rest fits what it fitted behind each blob that is removed, and behind
 -- each cut with its sync. So what a crash leaves at each moment of them can be recovered, and lasts.
-use Rattle.std.proofs.Common.{◌≡◌, ◌≢◌, ◌*◌, ◌+◌, ◌/◌, ◌<◌, ◌≤◌, ℕ, ℤ, pos, true, false, Bool, List, [], ◌∷◌, length, None, refl, sym, subst, arith, inl, inr}
+use Rattle.std.proofs.Common.{◌≡◌, ◌≢◌, ◌*◌, ◌/◌, ◌<◌, ◌≤◌, ℕ, ℤ, pos, true, false, Bool, List, [], ◌∷◌, length, None, refl, sym, subst, arith, inl, inr}
 use Rattle.std.proofs.Math.Nat.{mul-mod_left}
 use Rattle.std.proofs.lemmas.Bool.{cases_lt}
 use Rattle.sled_codec.specs.History.{Batch, History, Message}
@@ -31,10 +31,10 @@ use Rattle.sled_core.specs.OpenBatches.{stable_below}
 use Rattle.sled_core.specs.Tail.{least_place}
 use Rattle.sled_core.specs.inside.Begun.{line_end}
 use Rattle.sled_core.specs.inside.Cleared.{cleared}
-use Rattle.sled_core.specs.inside.Lasting.{IsLasting, LastsFrom, LeavesRecovering}
+use Rattle.sled_core.specs.inside.Lasting.{IsLasting, LeavesRecovering}
 use Rattle.sled_core.specs.inside.LogSegments.{held_since}
 use Rattle.sled_core.specs.inside.MarksFit.{MarkStands, MarksFit}
-use Rattle.sled_core.specs.inside.Numbers.{HasNumbers, NumbersStay}
+use Rattle.sled_core.specs.inside.Numbers.{HasNumbers}
 use Rattle.sled_core.specs.inside.Running.{FitsShown, FitsWith}
 use Rattle.sled_core.specs.inside.Shown.{shown}
 use Rattle.sled_core.proofs.Freed.CutHides.{hides_cut}
@@ -199,10 +199,13 @@ module _ (sum : List ℕ → ℕ) (marks : JoinedMarks) (noted : List Batch) (si
         let here = slot_found sum size (cleared size m line log) (least_place size first) x found in
         let header = subst (λ n. IsHeader sum (part (cleared size m line log) n 20) (pos x.place) x.mark) here found.header in
         let used = ((known zeros).reads.slots (x.slot / size) x.place x.mark header).0 in
-        inr (x,
-        found_same sum size (cleared size m line log) (cleared size m line short) (x.slot / size)
-        (slot_in size (cleared size m line log) (cleared size m line short) (x.slot / size) (used_shown size big m line log slots free (x.slot / size) used))
-        (omega (arith, big)) (least_place size first) x here found, up)
+        inr (
+          x,
+          found_same sum size (cleared size m line log) (cleared size m line short) (x.slot / size)
+              (slot_in size (cleared size m line log) (cleared size m line short) (x.slot / size) (used_shown size big m line log slots free (x.slot / size) used))
+              (omega (arith, big)) (least_place size first) x here found,
+          up,
+        )
 
     free_above : (k : ℕ) → to ≤ k * size → is_free (slot_at m k).state ≡ true
     free_above k high = elim (cases_lt k slots) [
@@ -246,9 +249,9 @@ module _ (sum : List ℕ → ℕ) (marks : JoinedMarks) (noted : List Batch) (si
       → Along LastsNow calls s × EndsIn FitsNow calls s
   along_calls calls made s its = (
     along_step_calls size (IsSpent size base H) (AreFreeFrom m.slots) FitsNow LastsNow lasts_now removed_at
-    (λ k free now next less has. during_cut k free now has next less) (λ k free now has. cut_at k free now has) calls made s its,
+        (λ k free now next less has. during_cut k free now has next less) (λ k free now has. cut_at k free now has) calls made s its,
     ends_step_calls size (IsSpent size base H) (AreFreeFrom m.slots) FitsNow LastsNow lasts_now removed_at
-    (λ k free now next less has. during_cut k free now has next less) (λ k free now has. cut_at k free now has) calls made s its,
+        (λ k free now next less has. during_cut k free now has next less) (λ k free now has. cut_at k free now has) calls made s its,
   )
 
 -- Along a step of the accountant for the mark that joined, where all messages are marked, or nothing is due.
@@ -265,14 +268,14 @@ step_along sum marks noted size big s m pins H A f order v vs are U idle its =
       headers = its.headers;
       records = its.records;
     }) where
-  now : (now : FitsShown sum marks noted size s None (v ∷ vs) (stabilized size marks.joined m).machine pins H A f U)
-      × (now.shows.reach ≡ its.fits.shows.reach)
-  now = step_fits sum marks noted size big s m pins H A f order v vs are U idle its.fits
+      now : (now : FitsShown sum marks noted size s None (v ∷ vs) (stabilized size marks.joined m).machine pins H A f U)
+          × (now.shows.reach ≡ its.fits.shows.reach)
+      now = step_fits sum marks noted size big s m pins H A f order v vs are U idle its.fits
 
-  made : AreStepCalls size (IsSpent size (begins_from size marks.joined) H) (AreFreeFrom (stabilized size marks.joined m).machine.slots)
-      (stabilized size marks.joined m).calls
-  made =
-      step_calls_more size (GoesWith (IsDueFor size marks.joined m) m.slots) (AreFreeFrom (stabilized size marks.joined m).machine.slots)
-      (IsSpent size (begins_from size marks.joined) H) (AreFreeFrom (stabilized size marks.joined m).machine.slots)
-      (goes_spent size (begins_from size marks.joined) H m marks.joined its.fits.shows.account.outdated (due_ends size marks.joined)) (λ k free. free)
-      (stabilized size marks.joined m).calls (stabilized_made size marks.joined m its.fits.shows.account.account.cut_off).calls
+      made : AreStepCalls size (IsSpent size (begins_from size marks.joined) H) (AreFreeFrom (stabilized size marks.joined m).machine.slots)
+          (stabilized size marks.joined m).calls
+      made =
+          step_calls_more size (GoesWith (IsDueFor size marks.joined m) m.slots) (AreFreeFrom (stabilized size marks.joined m).machine.slots)
+          (IsSpent size (begins_from size marks.joined) H) (AreFreeFrom (stabilized size marks.joined m).machine.slots)
+          (goes_spent size (begins_from size marks.joined) H m marks.joined its.fits.shows.account.outdated (due_ends size marks.joined)) (λ k free. free)
+          (stabilized size marks.joined m).calls (stabilized_made size marks.joined m its.fits.shows.account.account.cut_off).calls

@@ -1,6 +1,6 @@
 -- A step of the accountant frees slots, and no call is made yet: a log at rest that keeps no failure, all of whose messages are marked, fits what it fitted,
 -- with the slots as they are behind the step.
-use Rattle.std.proofs.Common.{◌≡◌, ◌≢◌, ◌∙◌, ◌+◌, ◌*◌, ◌/◌, ◌<◌, ◌≤◌, ◌≤ℤ◌, ℕ, ℤ, pos, true, false, List, [], ◌∷◌, length, None, refl, sym, ap, subst}
+use Rattle.std.proofs.Common.{◌≡◌, ◌≢◌, ◌∙◌, ◌+◌, ◌*◌, ◌/◌, ◌<◌, ◌≤◌, ◌≤ℤ◌, ℕ, pos, true, List, [], ◌∷◌, length, None, refl, sym, ap, subst}
 use Rattle.std.proofs.Common.{arith, inl, inr}
 use Rattle.std.specs.List.{Contains}
 use Rattle.std.proofs.Math.Nat.{mul-div_cancel}
@@ -188,10 +188,13 @@ module _ (sum : List ℕ → ℕ) (marks : JoinedMarks) (noted : List Batch) (si
       → MarkStands sum size (cleared size after line log) first marks.durable
   mark_kept zeros (inl under) = inl under
   mark_kept zeros (inr (x, found, up)) = elim (changes (x.slot / size)) [
-    | inl kept ↦ inr (x,
-        found_same sum size (cleared size m line log) (cleared size after line log) (x.slot / size)
-        (slot_in size (cleared size m line log) (cleared size after line log) (x.slot / size)
-        (slot_shown size some m after line log (x.slot / size) kept.free)) (omega (arith, big)) (least_place size first) x here found, up)
+    | inl kept ↦ inr (
+      x,
+      found_same sum size (cleared size m line log) (cleared size after line log) (x.slot / size)
+          (slot_in size (cleared size m line log) (cleared size after line log) (x.slot / size)
+          (slot_shown size some m after line log (x.slot / size) kept.free)) (omega (arith, big)) (least_place size first) x here found,
+      up,
+    )
     | inr lost ↦ absurd (
         let among = file_among sum marks noted size big s None refl zeros m pins H A f [] v vs are fits.shows in
         let reads = file_reads sum marks noted size big s None refl zeros m pins H A f [] v vs are fits.shows in

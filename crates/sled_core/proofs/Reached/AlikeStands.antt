@@ -1,5 +1,5 @@
 -- A file stands as another one does of which it keeps the slots in which segments are found: as it is where the two have these slots alike.
-use Rattle.std.proofs.Common.{◌∙◌, ◌/◌, ◌≤◌, ℕ, List, arith, inl, inr}
+use Rattle.std.proofs.Common.{◌/◌, ◌≤◌, ℕ, List, arith, inl, inr}
 use Rattle.sled_codec.specs.History.{History}
 use Rattle.sled_codec.specs.Snapshots.{SnapshotModel}
 use Rattle.sled_core.specs.OpenBatches.{stable_below}

@@ -1,6 +1,6 @@
 -- A file stands with what is held counted from the segment of a mark that stands, or from the snapshot's place, where that is higher: so it is with zeros
 -- behind its end, too.
-use Rattle.std.proofs.Common.{◌≡◌, ◌-◌, ◌≤◌, ℕ, ℤ, List, length, replicate, arith, refl, inl, inr}
+use Rattle.std.proofs.Common.{◌-◌, ◌≤◌, ℕ, ℤ, List, length, replicate, arith, inl, inr}
 use Rattle.sled_codec.specs.History.{History}
 use Rattle.sled_codec.specs.Snapshots.{SnapshotModel, stable_place}
 use Rattle.sled_core.specs.LogSegments.{held_from}
@@ -40,5 +40,9 @@ pub mark_beyond : (sum : List ℕ → ℕ) (size : ℕ) (log : List ℕ) (first 
     → MarkStands sum size (padded to log) first mark
 mark_beyond sum size log first mark to (inl low) = inl low
 mark_beyond sum size log first mark to (inr (s, found, up)) =
-    inr (s, found_moved sum size log (padded to log) (least_place size first) s
-    (part-append log (replicate (to - length log) 0) s.slot 20 (found_there sum size log (least_place size first) s found)) found, up)
+    inr (
+      s,
+      found_moved sum size log (padded to log) (least_place size first) s
+          (part-append log (replicate (to - length log) 0) s.slot 20 (found_there sum size log (least_place size first) s found)) found,
+      up,
+    )
