@@ -198,10 +198,11 @@ pub record FitsPast (sum : List ℕ → ℕ) (marks : JoinedMarks) (noted : List
   pub past : place ≤ stable_below fits.reach H.batches
 
 -- So it does once a blob is removed, or may be, of which each message that names it is replaced before that place.
-pub fits_removed : (sum : List ℕ → ℕ) (marks : JoinedMarks) (noted : List Batch) (size : ℕ) (fault : Option IoError) (line : List SegmentView) (m : Machine) (pins : ℕ)
-    (H : History) (A f : ℕ) (U : List Message) (place : ℕ)
+pub fits_removed : (sum : List ℕ → ℕ) (marks : JoinedMarks) (noted : List Batch) (size : ℕ) (fault : Option IoError) (line : List SegmentView) (m : Machine)
+    (pins : ℕ) (H : History) (A f : ℕ) (U : List Message) (place : ℕ)
     → 0 < size → Ascends H.messages → (p : ℤ) → IsSpent size place H p → (s : State) (done : Bool)
-    → FitsPast sum marks noted size fault line m pins H A f U place s → FitsPast sum marks noted size fault line m pins H A f U place (step (BlobRemoved p done) s)
+    → FitsPast sum marks noted size fault line m pins H A f U place s
+    → FitsPast sum marks noted size fault line m pins H A f U place (step (BlobRemoved p done) s)
 fits_removed sum marks noted size fault line m pins H A f U place some order p spent s done its =
     record { fits = now.0; past = subst (λ reach. place ≤ stable_below reach H.batches) (sym now.1) its.past } where
       stable : ℕ
@@ -224,14 +225,15 @@ fits_removed sum marks noted size fault line m pins H A f U place some order p s
           (items, left)
 
 -- So it does along the removal of all blobs that go with a segment which ends there.
-pub fits_outdated_goes : (sum : List ℕ → ℕ) (marks : JoinedMarks) (noted : List Batch) (size : ℕ) (fault : Option IoError) (line : List SegmentView) (m : Machine) (pins : ℕ)
-    (H : History) (A f : ℕ) (U : List Message)
+pub fits_outdated_goes : (sum : List ℕ → ℕ) (marks : JoinedMarks) (noted : List Batch) (size : ℕ) (fault : Option IoError) (line : List SegmentView) (m : Machine)
+    (pins : ℕ) (H : History) (A f : ℕ) (U : List Message)
     → 0 < size → Ascends H.messages → (k : ℕ) (device : State) → FitsPast sum marks noted size fault line m pins H A f U ((slot_at m k).lsn + size) device
     → Along (FitsPast sum marks noted size fault line m pins H A f U ((slot_at m k).lsn + size)) (removing_blobs (slot_at m k).blobs) device
 fits_outdated_goes sum marks noted size fault line m pins H A f U some order k device has =
     removing_all_keep (FitsPast sum marks noted size fault line m pins H A f U ((slot_at m k).lsn + size)) (slot_at m k).blobs
     (λ p among s done its.
-    fits_removed sum marks noted size fault line m pins H A f U ((slot_at m k).lsn + size) some order p (its.fits.account.outdated k p among).superseded s done its)
+    fits_removed sum marks noted size fault line m pins H A f U ((slot_at m k).lsn + size) some order p
+    (its.fits.account.outdated k p among).superseded s done its)
     device has
 
 -- A step of the accountant removes such blobs alone: those that go with segments which are due for its mark, where these end at a place or below it.

@@ -1,7 +1,8 @@
 -- The calls of a step of the accountant, over the slots as they are behind it: a log at rest fits what it fitted behind each blob that is removed, and behind
--- each cut with its sync. So what a crash leaves at each moment of them can be recovered, and lasts.
-use Rattle.std.proofs.Common.{◌≡◌, ◌≢◌, ◌*◌, ◌/◌, ◌<◌, ◌≤◌, ℕ, ℤ, pos, true, false, Bool, List, [], ◌∷◌, length, None, refl, sym, subst, arith, inl, inr}
+-- each cut with its sync. So what a crash leaves at each moment of them can be recovered, and lasts; and where a failure is kept from one on, it fits that, too.
+use Rattle.std.proofs.Common.{◌≡◌, ◌≢◌, ◌*◌, ◌/◌, ◌<◌, ◌≤◌, ℕ, ℤ, pos, true, false, Bool, List, [], ◌∷◌, length, None, Some, refl, sym, subst, arith, inl, inr}
 use Rattle.std.proofs.Math.Nat.{mul-mod_left}
+use Rattle.std.specs.declared.io.Error.{Error as IoError}
 use Rattle.std.proofs.lemmas.Bool.{cases_lt}
 use Rattle.sled_codec.specs.History.{Batch, History, Message}
 use Rattle.sled_codec.specs.Places.{part}
@@ -46,7 +47,7 @@ use Rattle.sled_core.proofs.Freed.PlacedCut.{placed_cut}
 use Rattle.sled_core.proofs.Freed.SameSlots.{slot_in}
 use Rattle.sled_core.proofs.Freed.SlotsLost.{stays_used}
 use Rattle.sled_core.proofs.Freed.StepSlots.{due_ends}
-use Rattle.sled_core.proofs.Line.Faulty.{numbers_placed}
+use Rattle.sled_core.proofs.Line.Faulty.{fits_shown_faulty, numbers_placed}
 use Rattle.sled_core.proofs.Line.LeftShown.{left_real}
 use Rattle.sled_core.proofs.Line.NumbersKept.{stays_in}
 use Rattle.sled_core.proofs.Line.Segments.{AreSegments}
@@ -67,6 +68,12 @@ pub record FitsAt (sum : List ℕ → ℕ) (marks : JoinedMarks) (noted : List B
   pub headers : (at : ℕ) (text : List ℕ) → HeaderWasPlaced s.placed at text → part s.log.bytes at (length text) ≡ text
   pub records : (number at : ℕ) (text : List ℕ) → RecordWasPlaced sum size s.placed number at text → part s.log.bytes at (length text) ≡ text
 
+-- A moment of the calls: what a crash leaves can be recovered, and lasts, and a log that keeps a failure from then on fits the history.
+pub record StopsWell (sum : List ℕ → ℕ) (marks : JoinedMarks) (noted : List Batch) (size : ℕ) (line : List SegmentView) (m : Machine) (pins : ℕ)
+    (H : History) (A f : ℕ) (U : List Message) (s : State) : Type 0 where
+  pub lasts : IsLasting sum size s H A f
+  pub fits : (e : IoError) → FitsShown sum marks noted size s (Some e) line m pins H A f U
+
 module _ (sum : List ℕ → ℕ) (marks : JoinedMarks) (noted : List Batch) (size : ℕ) (big : 256 ≤ size) (m : Machine) (pins : ℕ) (H : History) (A f : ℕ)
     (U : List Message) (order : Ascends H.messages) (v : SegmentView) (vs : List SegmentView) (are : AreSegments size v.parts.site.place (v ∷ vs)) where
   abbrev line : List SegmentView
@@ -78,8 +85,8 @@ module _ (sum : List ℕ → ℕ) (marks : JoinedMarks) (noted : List Batch) (si
   abbrev FitsNow : State → Type 0
   FitsNow = FitsAt sum marks noted size line m pins H A f U
 
-  abbrev LastsNow : State → Type 0
-  LastsNow s = IsLasting sum size s H A f
+  abbrev StopsNow : State → Type 0
+  StopsNow = StopsWell sum marks noted size line m pins H A f U
 
   some : 0 < size
   some = omega (arith, big)
@@ -116,26 +123,31 @@ module _ (sum : List ℕ → ℕ) (marks : JoinedMarks) (noted : List Batch) (si
     now = fits_removed sum marks noted size None line m pins H A f U base some order p spent (shown size None m line s) done
         (record { fits = its.fits.shows; past = its.past })
 
-  -- What a crash leaves then can be recovered, and lasts.
+  -- What a crash leaves then can be recovered, and lasts; so it is where a failure is kept.
   numbers_at : (s : State) → FitsNow s → NoHeaderOfZeros sum → HasNumbers sum size base s m (line_end size line)
   numbers_at s its zeros =
       numbers_placed sum size (shown size None m line s) s m (line_end size line) refl (its.fits.shows.numbers zeros)
 
-  lasts_at : (s t : State) (its : FitsNow s) → (NoHeaderOfZeros sum → HasNumbers sum size base t m (line_end size line))
-      → LeavesRecovering sum size H (stable_below its.fits.shows.reach H.batches) f t → LastsNow t
-  lasts_at s t its numbers can = record {
-    stable = stable_below its.fits.shows.reach H.batches;
-    passes = its.fits.shows.parts.passes;
+  stops_at : (s t : State) (its : FitsNow s) → t.blobs ≡ s.blobs → t.snapshots ≡ s.snapshots
+      → (NoHeaderOfZeros sum → HasNumbers sum size base t m (line_end size line))
+      → LeavesRecovering sum size H (stable_below its.fits.shows.reach H.batches) f t → StopsNow t
+  stops_at s t its blobs names numbers can = record {
     lasts = record {
-      can = can;
-      numbers = λ zeros.
-          stays_in sum noted size big (shown size None m line s) None line m pins H A f U its.fits.shows order zeros t (numbers zeros);
+      stable = stable_below its.fits.shows.reach H.batches;
+      passes = its.fits.shows.parts.passes;
+      lasts = record {
+        can = can;
+        numbers = λ zeros.
+            stays_in sum noted size big (shown size None m line s) None line m pins H A f U its.fits.shows order zeros t (numbers zeros);
+      };
     };
+    fits = λ e.
+        fits_shown_faulty sum marks noted size (shown size None m line s) t None (Some e) line m pins H A f U its.fits.shows e refl blobs names can numbers;
   }
 
-  pub lasts_now : (s : State) → FitsNow s → LastsNow s
-  lasts_now s its =
-      lasts_at s s its (numbers_at s its)
+  pub stops_now : (s : State) → FitsNow s → StopsNow s
+  stops_now s its =
+      stops_at s s its refl refl (numbers_at s its)
       (left_real sum marks noted size big s None m pins H A f U refl v.parts.site.place line are its.fits)
 
   -- Slots at the end that are free are cut off.
@@ -176,10 +188,10 @@ module _ (sum : List ℕ → ℕ) (marks : JoinedMarks) (noted : List Batch) (si
     stays : (x : Message) → StaysFrom (logged H) (held_since size marks first) x → is_free (slot_at m (slot_with size x)).state ≡ false
     stays = stays_used sum size m H (held_since size marks first) stable (shows.in_slots first begins)
 
-    -- While that is done what a crash leaves can be recovered, and lasts,
-    pub during_cut : (now : ℕ) → to ≤ now → LastsNow (step (Cut to now) s)
+    -- While that is done it is so, too,
+    pub during_cut : (now : ℕ) → to ≤ now → StopsNow (step (Cut to now) s)
     during_cut now no_less =
-        lasts_at s (step (Cut to now) s) its
+        stops_at s (step (Cut to now) s) its refl refl
         (λ zeros. numbers_less sum size (step (Cut to now) s) s (less_cut sum size to now s) m (line_end size line) (numbers_at s its zeros))
         (λ left leaves own_left.
         let zeros : NoHeaderOfZeros sum = own_left.zeros in
@@ -202,7 +214,8 @@ module _ (sum : List ℕ → ℕ) (marks : JoinedMarks) (noted : List Batch) (si
         inr (
           x,
           found_same sum size (cleared size m line log) (cleared size m line short) (x.slot / size)
-              (slot_in size (cleared size m line log) (cleared size m line short) (x.slot / size) (used_shown size big m line log slots free (x.slot / size) used))
+              (slot_in size (cleared size m line log) (cleared size m line short) (x.slot / size)
+              (used_shown size big m line log slots free (x.slot / size) used))
               (omega (arith, big)) (least_place size first) x here found,
           up,
         )
@@ -246,11 +259,11 @@ module _ (sum : List ℕ → ℕ) (marks : JoinedMarks) (noted : List Batch) (si
 
   -- So it is at each moment of calls each of which removes such a blob, or cuts slots off that are free, and syncs that; and behind all of them.
   pub along_calls : (calls : List Event) → AreStepCalls size (IsSpent size base H) (AreFreeFrom m.slots) calls → (s : State) → FitsNow s
-      → Along LastsNow calls s × EndsIn FitsNow calls s
+      → Along StopsNow calls s × EndsIn FitsNow calls s
   along_calls calls made s its = (
-    along_step_calls size (IsSpent size base H) (AreFreeFrom m.slots) FitsNow LastsNow lasts_now removed_at
+    along_step_calls size (IsSpent size base H) (AreFreeFrom m.slots) FitsNow StopsNow stops_now removed_at
         (λ k free now next less has. during_cut k free now has next less) (λ k free now has. cut_at k free now has) calls made s its,
-    ends_step_calls size (IsSpent size base H) (AreFreeFrom m.slots) FitsNow LastsNow lasts_now removed_at
+    ends_step_calls size (IsSpent size base H) (AreFreeFrom m.slots) FitsNow StopsNow stops_now removed_at
         (λ k free now next less has. during_cut k free now has next less) (λ k free now has. cut_at k free now has) calls made s its,
   )
 
@@ -258,7 +271,7 @@ module _ (sum : List ℕ → ℕ) (marks : JoinedMarks) (noted : List Batch) (si
 pub step_along : (sum : List ℕ → ℕ) (marks : JoinedMarks) (noted : List Batch) (size : ℕ) → 256 ≤ size → (s : State) (m : Machine) (pins : ℕ) (H : History)
     (A f : ℕ) → Ascends H.messages → (v : SegmentView) (vs : List SegmentView) → AreSegments size v.parts.site.place (v ∷ vs) → (U : List Message)
     → (U ≢ [] → NoneDue size marks.joined m) → FitsAt sum marks noted size (v ∷ vs) m pins H A f U s
-    → Along (λ t. IsLasting sum size t H A f) (stabilized size marks.joined m).calls s
+    → Along (StopsWell sum marks noted size (v ∷ vs) (stabilized size marks.joined m).machine pins H A f U) (stabilized size marks.joined m).calls s
     × EndsIn (FitsAt sum marks noted size (v ∷ vs) (stabilized size marks.joined m).machine pins H A f U) (stabilized size marks.joined m).calls s
 step_along sum marks noted size big s m pins H A f order v vs are U idle its =
     along_calls sum marks noted size big (stabilized size marks.joined m).machine pins H A f U order v vs are (stabilized size marks.joined m).calls made s
