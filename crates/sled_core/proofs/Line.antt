@@ -99,6 +99,7 @@ pub mod Slots
 pub mod Spans
 pub mod StandsThere
 pub mod StepAlong
+pub mod StepBetween
 pub mod StepFits
 pub mod Targets
 pub mod TicketEnds

@@ -167,7 +167,8 @@ numbers_cut sum size base s m end to has =
 -- A log that keeps no failure fits what it fitted. What stays is in slots that have a segment.
 module _ (sum : List ℕ → ℕ) (marks : JoinedMarks) (size : ℕ) (some : 256 ≤ size) (m : Machine) (v : SegmentView)
     (vs : List SegmentView) (taken : All (HasSlot size m) (v ∷ vs)) (rise : EndsRise v.parts.written_len v.parts.sealed size)
-    (slots : ℕ) (free : (k : ℕ) → slots ≤ k → is_free (slot_at m k).state ≡ true) (s : State) (reach pins : ℕ) (H : History) (A f : ℕ) (U : List Message) (order : Ascends H.messages)
+    (slots : ℕ) (free : (k : ℕ) → slots ≤ k → is_free (slot_at m k).state ≡ true) (s : State) (reach pins : ℕ)
+    (H : History) (A f : ℕ) (U : List Message) (order : Ascends H.messages)
     (fits : FitsLine sum marks size (shown size None m (v ∷ vs) s) None (v ∷ vs) reach pins H A f U)
     (stays : (x : Message) → StaysFrom (logged H) (held_of fits.holds.begun) x → is_free (slot_at m (slot_with size x)).state ≡ false) where
   abbrev line : List SegmentView

@@ -111,8 +111,8 @@ module _ (size base : ℕ) (some : 256 ≤ size) (m m' : Machine) (changes : Kee
 -- own, the older ones are whole, the mark that joined stands, and the file has besides what it may have. No table needs anything of the slots that lose their
 -- segments, from where what is held counts, and what stays lies in none of them.
 module _ (sum : List ℕ → ℕ) (marks : JoinedMarks) (size base : ℕ) (some : 256 ≤ size) (m m' : Machine)
-    (long : length m'.slots ≡ length m.slots) (changes : KeepOrLose size base m m') (v : SegmentView) (vs : List SegmentView) (taken : All (HasSlot size m) (v ∷ vs))
-    (low : (u : SegmentView) → Contains (v ∷ vs) u → base ≤ u.parts.site.place)
+    (long : length m'.slots ≡ length m.slots) (changes : KeepOrLose size base m m') (v : SegmentView) (vs : List SegmentView)
+    (taken : All (HasSlot size m) (v ∷ vs)) (low : (u : SegmentView) → Contains (v ∷ vs) u → base ≤ u.parts.site.place)
     (rise : EndsRise v.parts.written_len v.parts.sealed size) (end : ℕ) (own : HaveOwn size end m) (s : State) (reach pins : ℕ) (H : History) (A f : ℕ)
     (U : List Message) (order : Ascends H.messages) (fits : FitsLine sum marks size (shown size None m (v ∷ vs) s) None (v ∷ vs) reach pins H A f U)
     (stays : (x : Message) → StaysFrom (logged H) (held_of fits.holds.begun) x → (k : ℕ) → LosesSegment size base (slot_at m k) (slot_at m' k)

@@ -225,8 +225,8 @@ fits_removed sum marks noted size fault line m pins H A f U place some order p s
           (items, left)
 
 -- So it does along the removal of all blobs that go with a segment which ends there.
-pub fits_outdated_goes : (sum : List ℕ → ℕ) (marks : JoinedMarks) (noted : List Batch) (size : ℕ) (fault : Option IoError) (line : List SegmentView) (m : Machine)
-    (pins : ℕ) (H : History) (A f : ℕ) (U : List Message)
+pub fits_outdated_goes : (sum : List ℕ → ℕ) (marks : JoinedMarks) (noted : List Batch) (size : ℕ) (fault : Option IoError) (line : List SegmentView)
+    (m : Machine) (pins : ℕ) (H : History) (A f : ℕ) (U : List Message)
     → 0 < size → Ascends H.messages → (k : ℕ) (device : State) → FitsPast sum marks noted size fault line m pins H A f U ((slot_at m k).lsn + size) device
     → Along (FitsPast sum marks noted size fault line m pins H A f U ((slot_at m k).lsn + size)) (removing_blobs (slot_at m k).blobs) device
 fits_outdated_goes sum marks noted size fault line m pins H A f U some order k device has =

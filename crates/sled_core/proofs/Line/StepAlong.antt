@@ -1,6 +1,7 @@
 -- The calls of a step of the accountant, over the slots as they are behind it: a log at rest fits what it fitted behind each blob that is removed, and behind
--- each cut with its sync. So what a crash leaves at each moment of them can be recovered, and lasts; and where a failure is kept from one on, it fits that, too.
-use Rattle.std.proofs.Common.{◌≡◌, ◌≢◌, ◌*◌, ◌/◌, ◌<◌, ◌≤◌, ℕ, ℤ, pos, true, false, Bool, List, [], ◌∷◌, length, None, Some, refl, sym, subst, arith, inl, inr}
+-- each cut with its sync. So what a crash leaves at each moment of them can be recovered, and lasts; and a log that keeps a failure from
+-- then on fits the history.
+use Rattle.std.proofs.Common.{◌≡◌, ◌≢◌, ◌∙◌, ◌*◌, ◌/◌, ◌<◌, ◌≤◌, ℕ, ℤ, pos, true, false, Bool, List, [], ◌∷◌, length, None, Some, refl, sym, subst, arith, inl, inr}
 use Rattle.std.proofs.Math.Nat.{mul-mod_left}
 use Rattle.std.specs.declared.io.Error.{Error as IoError}
 use Rattle.std.proofs.lemmas.Bool.{cases_lt}
@@ -55,7 +56,7 @@ use Rattle.sled_core.proofs.Line.ShownParts.{file_among, file_low, file_own, fil
 use Rattle.sled_core.proofs.Line.StepFits.{line_rise, step_fits}
 use Rattle.sled_core.proofs.Logged.Messages.{logged_twice}
 use Rattle.sled_core.proofs.Numbers.HidesAs.{from_names}
-use Rattle.sled_core.proofs.Numbers.OwnLess.{less_cut}
+use Rattle.sled_core.proofs.Numbers.OwnLess.{OwnLess, less_cut, less_same, less_synced}
 use Rattle.sled_core.proofs.Numbers.Stay.{numbers_less}
 use Rattle.sled_core.proofs.Numbers.Stood.{header_stood, record_stood}
 use Rattle.sled_core.proofs.Torn.AlikeSlots.{found_same, slot_found}
@@ -73,6 +74,33 @@ pub record StopsWell (sum : List ℕ → ℕ) (marks : JoinedMarks) (noted : Lis
     (H : History) (A f : ℕ) (U : List Message) (s : State) : Type 0 where
   pub lasts : IsLasting sum size s H A f
   pub fits : (e : IoError) → FitsShown sum marks noted size s (Some e) line m pins H A f U
+
+-- Since a state of the device nothing became the log's own, and the snapshots are the same.
+pub record IsSince (sum : List ℕ → ℕ) (size : ℕ) (s t : State) : Type 0 where
+  pub less : OwnLess sum size t s
+  pub snapshots : t.snapshots ≡ s.snapshots
+
+module _ (sum : List ℕ → ℕ) (size : ℕ) (s t : State) (since : IsSince sum size s t) where
+  -- So it is behind a call behind which less is own.
+  since_then : (u : State) → OwnLess sum size u t → u.snapshots ≡ t.snapshots → IsSince sum size s u
+  since_then u less same = record {
+    less = record {
+      records = λ number at text own. since.less.records number at text (less.records number at text own);
+      headers = λ k place mark own. since.less.headers k place mark (less.headers k place mark own);
+    };
+    snapshots = same ∙ since.snapshots;
+  }
+
+  since_removed : (p : ℤ) (done : Bool) → IsSince sum size s (step (BlobRemoved p done) t)
+  since_removed p done = since_then (step (BlobRemoved p done) t) (less_same sum size (step (BlobRemoved p done) t) t refl) refl
+
+  since_during : (to now : ℕ) → IsSince sum size s (step (Cut to now) t)
+  since_during to now = since_then (step (Cut to now) t) (less_cut sum size to now t) refl
+
+since_cut : (sum : List ℕ → ℕ) (size : ℕ) (s t : State) (to : ℕ) → IsSince sum size s t → IsSince sum size s (step Synced (step (Cut to to) t))
+since_cut sum size s t to since =
+    since_then sum size s (step (Cut to to) t) (since_during sum size s t since to to) (step Synced (step (Cut to to) t))
+    (less_synced sum size (step (Cut to to) t)) refl
 
 module _ (sum : List ℕ → ℕ) (marks : JoinedMarks) (noted : List Batch) (size : ℕ) (big : 256 ≤ size) (m : Machine) (pins : ℕ) (H : History) (A f : ℕ)
     (U : List Message) (order : Ascends H.messages) (v : SegmentView) (vs : List SegmentView) (are : AreSegments size v.parts.site.place (v ∷ vs)) where
@@ -258,37 +286,63 @@ module _ (sum : List ℕ → ℕ) (marks : JoinedMarks) (noted : List Batch) (si
     }
 
   -- So it is at each moment of calls each of which removes such a blob, or cuts slots off that are free, and syncs that; and behind all of them.
-  pub along_calls : (calls : List Event) → AreStepCalls size (IsSpent size base H) (AreFreeFrom m.slots) calls → (s : State) → FitsNow s
-      → Along StopsNow calls s × EndsIn FitsNow calls s
-  along_calls calls made s its = (
-    along_step_calls size (IsSpent size base H) (AreFreeFrom m.slots) FitsNow StopsNow stops_now removed_at
-        (λ k free now next less has. during_cut k free now has next less) (λ k free now has. cut_at k free now has) calls made s its,
-    ends_step_calls size (IsSpent size base H) (AreFreeFrom m.slots) FitsNow StopsNow stops_now removed_at
-        (λ k free now next less has. during_cut k free now has next less) (λ k free now has. cut_at k free now has) calls made s its,
-  )
+  module _ (calls : List Event) (made : AreStepCalls size (IsSpent size base H) (AreFreeFrom m.slots) calls) (s : State) (its : FitsNow s) where
+    abbrev Stops : State → Type 0
+    Stops t = StopsNow t × IsSince sum size s t
+
+    abbrev Holds : State → Type 0
+    Holds t = FitsNow t × IsSince sum size s t
+
+    here : Holds s
+    here = (its, record { less = less_same sum size s s refl; snapshots = refl })
+
+    removes : (p : ℤ) → IsSpent size base H p → (t : State) (done : Bool) → Holds t → Holds (step (BlobRemoved p done) t)
+    removes p spent t done has = (removed_at p spent t done has.0, since_removed sum size s t has.1 p done)
+
+    during : (k : ℕ) → AreFreeFrom m.slots k → (t : State) (to : ℕ) → k * size ≤ to → Holds t → Stops (step (Cut (k * size) to) t)
+    during k free t to less has = (during_cut k free t has.0 to less, since_during sum size s t has.1 (k * size) to)
+
+    cuts_off : (k : ℕ) → AreFreeFrom m.slots k → (t : State) → Holds t → Holds (step Synced (step (Cut (k * size) (k * size)) t))
+    cuts_off k free t has = (cut_at k free t has.0, since_cut sum size s t (k * size) has.1)
+
+    pub along_calls : Along Stops calls s
+    along_calls =
+        along_step_calls size (IsSpent size base H) (AreFreeFrom m.slots) Holds Stops (λ t has. (stops_now t has.0, has.1)) removes during cuts_off calls made s here
+
+    pub behind_calls : EndsIn Holds calls s
+    behind_calls =
+        ends_step_calls size (IsSpent size base H) (AreFreeFrom m.slots) Holds Stops (λ t has. (stops_now t has.0, has.1)) removes during cuts_off calls made s here
 
 -- Along a step of the accountant for the mark that joined, where all messages are marked, or nothing is due.
-pub step_along : (sum : List ℕ → ℕ) (marks : JoinedMarks) (noted : List Batch) (size : ℕ) → 256 ≤ size → (s : State) (m : Machine) (pins : ℕ) (H : History)
-    (A f : ℕ) → Ascends H.messages → (v : SegmentView) (vs : List SegmentView) → AreSegments size v.parts.site.place (v ∷ vs) → (U : List Message)
-    → (U ≢ [] → NoneDue size marks.joined m) → FitsAt sum marks noted size (v ∷ vs) m pins H A f U s
-    → Along (StopsWell sum marks noted size (v ∷ vs) (stabilized size marks.joined m).machine pins H A f U) (stabilized size marks.joined m).calls s
-    × EndsIn (FitsAt sum marks noted size (v ∷ vs) (stabilized size marks.joined m).machine pins H A f U) (stabilized size marks.joined m).calls s
-step_along sum marks noted size big s m pins H A f order v vs are U idle its =
-    along_calls sum marks noted size big (stabilized size marks.joined m).machine pins H A f U order v vs are (stabilized size marks.joined m).calls made s
-    (record {
-      fits = now.0;
-      past = subst (λ reach. begins_from size marks.joined ≤ stable_below reach H.batches) (sym now.1) its.past;
-      headers = its.headers;
-      records = its.records;
-    }) where
-      now : (now : FitsShown sum marks noted size s None (v ∷ vs) (stabilized size marks.joined m).machine pins H A f U)
-          × (now.shows.reach ≡ its.fits.shows.reach)
-      now = step_fits sum marks noted size big s m pins H A f order v vs are U idle its.fits
+module _ (sum : List ℕ → ℕ) (marks : JoinedMarks) (noted : List Batch) (size : ℕ) (big : 256 ≤ size) (s : State) (m : Machine) (pins : ℕ) (H : History)
+    (A f : ℕ) (order : Ascends H.messages) (v : SegmentView) (vs : List SegmentView) (are : AreSegments size v.parts.site.place (v ∷ vs)) (U : List Message)
+    (idle : U ≢ [] → NoneDue size marks.joined m) (its : FitsAt sum marks noted size (v ∷ vs) m pins H A f U s) where
+  abbrev after : Machine
+  after = (stabilized size marks.joined m).machine
 
-      made : AreStepCalls size (IsSpent size (begins_from size marks.joined) H) (AreFreeFrom (stabilized size marks.joined m).machine.slots)
-          (stabilized size marks.joined m).calls
-      made =
-          step_calls_more size (GoesWith (IsDueFor size marks.joined m) m.slots) (AreFreeFrom (stabilized size marks.joined m).machine.slots)
-          (IsSpent size (begins_from size marks.joined) H) (AreFreeFrom (stabilized size marks.joined m).machine.slots)
-          (goes_spent size (begins_from size marks.joined) H m marks.joined its.fits.shows.account.outdated (due_ends size marks.joined)) (λ k free. free)
-          (stabilized size marks.joined m).calls (stabilized_made size marks.joined m its.fits.shows.account.account.cut_off).calls
+  abbrev calls : List Event
+  calls = (stabilized size marks.joined m).calls
+
+  now : (fits : FitsShown sum marks noted size s None (v ∷ vs) after pins H A f U) × (fits.shows.reach ≡ its.fits.shows.reach)
+  now = step_fits sum marks noted size big s m pins H A f order v vs are U idle its.fits
+
+  fits_behind : FitsAt sum marks noted size (v ∷ vs) after pins H A f U s
+  fits_behind = record {
+    fits = now.0;
+    past = subst (λ reach. begins_from size marks.joined ≤ stable_below reach H.batches) (sym now.1) its.past;
+    headers = its.headers;
+    records = its.records;
+  }
+
+  made : AreStepCalls size (IsSpent size (begins_from size marks.joined) H) (AreFreeFrom after.slots) calls
+  made =
+      step_calls_more size (GoesWith (IsDueFor size marks.joined m) m.slots) (AreFreeFrom after.slots)
+      (IsSpent size (begins_from size marks.joined) H) (AreFreeFrom after.slots)
+      (goes_spent size (begins_from size marks.joined) H m marks.joined its.fits.shows.account.outdated (due_ends size marks.joined)) (λ k free. free)
+      calls (stabilized_made size marks.joined m its.fits.shows.account.account.cut_off).calls
+
+  pub step_along : Along (λ t. StopsWell sum marks noted size (v ∷ vs) after pins H A f U t × IsSince sum size s t) calls s
+  step_along = along_calls sum marks noted size big after pins H A f U order v vs are calls made s fits_behind
+
+  pub step_ends : EndsIn (λ t. FitsAt sum marks noted size (v ∷ vs) after pins H A f U t × IsSince sum size s t) calls s
+  step_ends = behind_calls sum marks noted size big after pins H A f U order v vs are calls made s fits_behind
