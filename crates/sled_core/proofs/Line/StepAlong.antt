@@ -1,7 +1,8 @@
 -- The calls of a step of the accountant, over the slots as they are behind it: a log at rest fits what it fitted behind each blob that is removed, and behind
 -- each cut with its sync. So what a crash leaves at each moment of them can be recovered, and lasts; and a log that keeps a failure from
 -- then on fits the history.
-use Rattle.std.proofs.Common.{◌≡◌, ◌≢◌, ◌∙◌, ◌*◌, ◌/◌, ◌<◌, ◌≤◌, ℕ, ℤ, pos, true, false, Bool, List, [], ◌∷◌, length, None, Some, refl, sym, subst, arith, inl, inr}
+use Rattle.std.proofs.Common.{◌≡◌, ◌≢◌, ◌∙◌, ◌*◌, ◌/◌, ◌<◌, ◌≤◌, ℕ, ℤ, pos, true, false, Bool, List, [], ◌∷◌, length, None, Some, refl, sym}
+use Rattle.std.proofs.Common.{subst, arith, inl, inr}
 use Rattle.std.proofs.Math.Nat.{mul-mod_left}
 use Rattle.std.specs.declared.io.Error.{Error as IoError}
 use Rattle.std.proofs.lemmas.Bool.{cases_lt}
@@ -296,6 +297,9 @@ module _ (sum : List ℕ → ℕ) (marks : JoinedMarks) (noted : List Batch) (si
     here : Holds s
     here = (its, record { less = less_same sum size s s refl; snapshots = refl })
 
+    within : (t : State) → Holds t → Stops t
+    within t has = (stops_now t has.0, has.1)
+
     removes : (p : ℤ) → IsSpent size base H p → (t : State) (done : Bool) → Holds t → Holds (step (BlobRemoved p done) t)
     removes p spent t done has = (removed_at p spent t done has.0, since_removed sum size s t has.1 p done)
 
@@ -307,11 +311,11 @@ module _ (sum : List ℕ → ℕ) (marks : JoinedMarks) (noted : List Batch) (si
 
     pub along_calls : Along Stops calls s
     along_calls =
-        along_step_calls size (IsSpent size base H) (AreFreeFrom m.slots) Holds Stops (λ t has. (stops_now t has.0, has.1)) removes during cuts_off calls made s here
+        along_step_calls size (IsSpent size base H) (AreFreeFrom m.slots) Holds Stops within removes during cuts_off calls made s here
 
     pub behind_calls : EndsIn Holds calls s
     behind_calls =
-        ends_step_calls size (IsSpent size base H) (AreFreeFrom m.slots) Holds Stops (λ t has. (stops_now t has.0, has.1)) removes during cuts_off calls made s here
+        ends_step_calls size (IsSpent size base H) (AreFreeFrom m.slots) Holds Stops within removes during cuts_off calls made s here
 
 -- Along a step of the accountant for the mark that joined, where all messages are marked, or nothing is due.
 module _ (sum : List ℕ → ℕ) (marks : JoinedMarks) (noted : List Batch) (size : ℕ) (big : 256 ≤ size) (s : State) (m : Machine) (pins : ℕ) (H : History)

@@ -1,9 +1,9 @@
 -- The device fails within a step of the accountant, and the slots are on the way: each has the segment that it had, or has lost one that ends at the mark's or
 -- below, and they are the account of what is marked. A log that keeps the failure fits what it fitted, with these slots.
 use Rattle.std.specs.declared.io.Error.{Error as IoError}
-use Rattle.std.proofs.Common.{◌≡◌, ◌<◌, ◌≤◌, ℕ, List, [], ◌∷◌, None, Some, refl, sym, ap, subst, arith}
+use Rattle.std.proofs.Common.{◌≡◌, ◌<◌, ◌≤◌, ℕ, List, [], ◌∷◌, None, Some, refl, sym, subst, arith}
 use Rattle.std.specs.List.{Contains}
-use Rattle.sled_codec.specs.History.{Batch, History, Message}
+use Rattle.sled_codec.specs.History.{Batch, History}
 use Rattle.sled_codec.specs.Snapshots.{SnapshotModel}
 use Rattle.sled_store.specs.Device.{NamesState, State}
 use Rattle.sled_store.specs.SegmentStates.{Machine, slot_at}
