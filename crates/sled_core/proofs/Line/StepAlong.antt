@@ -1,15 +1,17 @@
 -- The calls of a step of the accountant, over the slots as they are behind it: a log at rest fits what it fitted behind each blob that is removed, and behind
 -- each cut with its sync. So what a crash leaves at each moment of them can be recovered, and lasts; and a log that keeps a failure from
 -- then on fits the history.
-use Rattle.std.proofs.Common.{◌≡◌, ◌≢◌, ◌∙◌, ◌*◌, ◌/◌, ◌<◌, ◌≤◌, ℕ, ℤ, pos, true, false, Bool, List, [], ◌∷◌, length, None, Some, refl, sym}
-use Rattle.std.proofs.Common.{subst, arith, inl, inr}
+use Rattle.std.proofs.Common.{◌≡◌, ◌≢◌, ◌⊎◌, ◌∙◌, ◌+◌, ◌*◌, ◌/◌, ◌<◌, ◌≤◌, ◌<ℤ◌, ◌≤ℤ◌, ℕ, ℤ, pos, true, false, Bool, List, [], ◌∷◌, length, None, Some, refl}
+use Rattle.std.proofs.Common.{sym, subst, arith, inl, inr}
 use Rattle.std.proofs.Math.Nat.{mul-mod_left}
+use Rattle.std.specs.List.{Contains}
 use Rattle.std.specs.declared.io.Error.{Error as IoError}
 use Rattle.std.proofs.lemmas.Bool.{cases_lt}
+use Rattle.std.proofs.lemmas.Int.{ints}
 use Rattle.sled_codec.specs.History.{Batch, History, Message}
 use Rattle.sled_codec.specs.Places.{part}
 use Rattle.sled_codec.specs.Record.{IsHeader}
-use Rattle.sled_codec.specs.Snapshots.{SnapshotModel}
+use Rattle.sled_codec.specs.Snapshots.{SnapshotModel, stable_place}
 use Rattle.sled_store.specs.Device.{BlobRemoved, Cut, Event, State, Synced, Trace, state_of, step}
 use Rattle.sled_store.specs.Foreign.{HeaderWasPlaced, RecordWasPlaced}
 use Rattle.sled_store.specs.Marks.{slot_with}
@@ -28,7 +30,8 @@ use Rattle.sled_core.specs.declared.logger.joined_marks.JoinedMarks.{JoinedMarks
 use Rattle.sled_core.specs.Begun.{SegmentView}
 use Rattle.sled_core.specs.LogFile.{StaysFrom}
 use Rattle.sled_core.specs.LogSegments.{begins_from}
-use Rattle.sled_core.specs.Logged.{logged}
+use Rattle.sled_core.specs.Fits.{IsBegunFrom}
+use Rattle.sled_core.specs.Logged.{in_log, logged}
 use Rattle.sled_core.specs.NoForeign.{NoHeaderOfZeros}
 use Rattle.sled_core.specs.OpenBatches.{stable_below}
 use Rattle.sled_core.specs.Tail.{least_place}
@@ -38,35 +41,41 @@ use Rattle.sled_core.specs.inside.Lasting.{IsLasting, LeavesRecovering}
 use Rattle.sled_core.specs.inside.LogSegments.{held_since}
 use Rattle.sled_core.specs.inside.MarksFit.{MarkStands, MarksFit}
 use Rattle.sled_core.specs.inside.Numbers.{HasNumbers}
+use Rattle.sled_core.specs.inside.OpenBatches.{IsOpenBatch}
 use Rattle.sled_core.specs.inside.Running.{FitsShown, FitsWith}
 use Rattle.sled_core.specs.inside.Shown.{shown}
 use Rattle.sled_core.proofs.Freed.CutHides.{hides_cut}
 use Rattle.sled_core.proofs.Freed.CutRecovers.{cut_recovers}
 use Rattle.sled_core.proofs.Freed.Known.{IsKnown}
 use Rattle.sled_core.proofs.Freed.LineCut.{cutting_leaves, fits_line_cut, numbers_cut, used_shown, whole_cut, zeros_new}
-use Rattle.sled_core.proofs.Freed.OutdatedGoes.{FitsPast, IsSpent, fits_removed, goes_spent}
+use Rattle.sled_core.proofs.Freed.OutdatedGoes.{FitsPast, IsSpent, ends_above, fits_removed, goes_spent, spent_passed}
 use Rattle.sled_core.proofs.Freed.PlacedCut.{placed_cut}
 use Rattle.sled_core.proofs.Freed.SameSlots.{slot_in}
 use Rattle.sled_core.proofs.Freed.SlotsLost.{stays_used}
 use Rattle.sled_core.proofs.Freed.StepSlots.{due_ends}
 use Rattle.sled_core.proofs.Line.Faulty.{fits_shown_faulty, numbers_placed}
 use Rattle.sled_core.proofs.Line.LeftShown.{left_real}
+use Rattle.sled_core.proofs.Line.MarksJoin.{marks_base}
 use Rattle.sled_core.proofs.Line.NumbersKept.{stays_in}
 use Rattle.sled_core.proofs.Line.Segments.{AreSegments}
 use Rattle.sled_core.proofs.Line.ShownParts.{file_among, file_low, file_own, file_reads}
 use Rattle.sled_core.proofs.Line.StepFits.{line_rise, step_fits}
-use Rattle.sled_core.proofs.Logged.Messages.{logged_twice}
+use Rattle.sled_core.proofs.Logged.Messages.{logged_there, logged_twice}
 use Rattle.sled_core.proofs.Numbers.HidesAs.{from_names}
 use Rattle.sled_core.proofs.Numbers.OwnLess.{OwnLess, less_cut, less_same, less_synced}
 use Rattle.sled_core.proofs.Numbers.Stay.{numbers_less}
 use Rattle.sled_core.proofs.Numbers.Stood.{header_stood, record_stood}
+use Rattle.sled_core.proofs.Reached.StableBelow.{stable_is}
+use Rattle.sled_core.proofs.Tail.MarkPlaces.{begins_under}
 use Rattle.sled_core.proofs.Torn.AlikeSlots.{found_same, slot_found}
 
--- A log that keeps no failure fits a history over a device. All up to the segment of the mark that joined is stable, and what was placed stands in the file.
+-- A log that keeps no failure fits a history over a device. What lies below the segment of the mark that joined is stable, and what was placed stands in the
+-- file.
 pub record FitsAt (sum : List ℕ → ℕ) (marks : JoinedMarks) (noted : List Batch) (size : ℕ) (line : List SegmentView) (m : Machine) (pins : ℕ) (H : History)
     (A f : ℕ) (U : List Message) (s : State) : Type 0 where
   pub fits : FitsShown sum marks noted size s None line m pins H A f U
-  pub past : begins_from size marks.joined ≤ stable_below fits.shows.reach H.batches
+  pub past : (x : Message) → Contains H.messages x → x.place / size * size + size ≤ begins_from size marks.joined
+      → x.place < stable_below fits.shows.reach H.batches
   pub headers : (at : ℕ) (text : List ℕ) → HeaderWasPlaced s.placed at text → part s.log.bytes at (length text) ≡ text
   pub records : (number at : ℕ) (text : List ℕ) → RecordWasPlaced sum size s.placed number at text → part s.log.bytes at (length text) ≡ text
 
@@ -114,15 +123,19 @@ module _ (sum : List ℕ → ℕ) (marks : JoinedMarks) (noted : List Batch) (si
   abbrev FitsNow : State → Type 0
   FitsNow = FitsAt sum marks noted size line m pins H A f U
 
+  -- what lies below the mark's segment is stable, where a reader comes so far
+  abbrev Passes : ℕ → Type 0
+  Passes reach = (x : Message) → Contains H.messages x → x.place / size * size + size ≤ base → x.place < stable_below reach H.batches
+
   abbrev StopsNow : State → Type 0
   StopsNow = StopsWell sum marks noted size line m pins H A f U
 
   some : 0 < size
   some = omega (arith, big)
 
-  -- What is placed stands in a file at rest. Where zeros are no header, the mark is stable.
+  -- What is placed stands in a file at rest. Where zeros are no header what lies below the mark is stable.
   pub fits_at : (t : Trace) (fits : FitsShown sum marks noted size (state_of t) None line m pins H A f U)
-      → base ≤ stable_below fits.shows.reach H.batches → FitsNow (state_of t)
+      → Passes fits.shows.reach → FitsNow (state_of t)
   fits_at t fits past = record {
     fits = fits;
     past = past;
@@ -130,10 +143,54 @@ module _ (sum : List ℕ → ℕ) (marks : JoinedMarks) (noted : List Batch) (si
     records = record_stood sum size t (state_of t).log.bytes (fits.rests refl);
   }
 
-  pub mark_stable : (s : State) (fits : FitsShown sum marks noted size s None line m pins H A f U) → NoHeaderOfZeros sum
-      → base ≤ stable_below fits.shows.reach H.batches
-  mark_stable s fits zeros =
-      let up = (fits.shows.in_slots fits.shows.account.first fits.shows.account.begins).not_above zeros in omega (arith, up)
+  pub passes_zeros : (s : State) (fits : FitsShown sum marks noted size s None line m pins H A f U) → NoHeaderOfZeros sum → Passes fits.shows.reach
+  passes_zeros s fits zeros x there ends =
+      let up = (fits.shows.in_slots fits.shows.account.first fits.shows.account.begins).not_above zeros in
+      let under = ends_above size base some x ends in
+      omega (arith, up, under)
+
+  -- So it is where the mark lies below what is written, and in no batch: or is the place with which the log began.
+  pub passes_apart : (s : State) (fits : FitsShown sum marks noted size s None line m pins H A f U)
+      → (marks.joined ≡ pos (stable_place fits.shows.parts.holds.begun.first.stable))
+      ⊎ ((marks.joined <ℤ pos (v.parts.site.place + v.parts.written_len))
+      × ((b : Batch) → Contains H.batches b → (marks.joined <ℤ pos b.low) ⊎ (pos b.peg ≤ℤ marks.joined)))
+      → Passes fits.shows.reach
+  passes_apart s fits how x there ends = elim (stable_is fits.shows.reach H.batches) [
+    | inl all ↦ omega (arith, all, read)
+    | inr (b, known, at, is_open) ↦ elim (cases_lt x.place b.low) [
+      | inl front ↦ omega (arith, front, at)
+      | inr within ↦ absurd (elim how [
+        | inl began ↦ (
+            let start : ℕ = stable_place begun.first.stable in
+            let low : base ≤ start = begins_under size marks.joined start (omega (arith, ints, began)) in
+            let closed = begun.fits.batches b known (omega (arith, within, under, low)) in
+            let up = begun.reached in
+            not_within b known is_open (omega (arith, closed, up)))
+        | inr (written, apart) ↦ elim (apart b known) [
+          | inl before ↦ (
+              let low : base ≤ b.low = begins_under size marks.joined b.low (omega (arith, ints, before)) in
+              omega (arith, low, within, under))
+          | inr behind ↦ not_within b known is_open (omega (arith, ints, behind, written))
+        ]
+      ])
+    ]
+  ] where
+    begun : IsBegunFrom sum marks.joined marks.durable size s.snapshots.file v.parts.site v.parts.written_len (logged H)
+    begun = fits.shows.parts.holds.begun
+
+    under : x.place < base
+    under = ends_above size base some x ends
+
+    read : x.place < fits.shows.reach
+    read =
+        let low = marks_base sum marks size big (shown size None m line s) None line (logged H) fits.shows.parts.holds in
+        (fits.shows.parts.reached.ends (in_log x) (logged_there H x there) (omega (arith, under, low))).0
+
+    not_within : (b : Batch) → Contains H.batches b → IsOpenBatch fits.shows.reach b → b.peg < v.parts.site.place + v.parts.written_len → ⊥
+    not_within b known is_open short = elim (fits.shows.parts.reached.no_end b known) [
+      | inl read_all ↦ (let high = is_open.1 in omega (arith, read_all, high))
+      | inr far ↦ omega (arith, far, short)
+    ]
 
   -- A blob is removed, or may be, of which each message that names it is replaced below the mark's segment.
   pub removed_at : (p : ℤ) → IsSpent size base H p → (s : State) (done : Bool) → FitsNow s → FitsNow (step (BlobRemoved p done) s)
@@ -144,13 +201,16 @@ module _ (sum : List ℕ → ℕ) (marks : JoinedMarks) (noted : List Batch) (si
       hides = λ none zeros. from_names sum size s (step (BlobRemoved p done) s) m line (logged H) refl refl refl (its.fits.hides none zeros);
       marked = its.fits.marked;
     };
-    past = now.past;
+    past = λ x there ends. let low = its.past x there ends in let up = now.past in omega (arith, low, up);
     headers = its.headers;
     records = its.records;
   } where
-    now : FitsPast sum marks noted size None line m pins H A f U base (shown size None m line (step (BlobRemoved p done) s))
-    now = fits_removed sum marks noted size None line m pins H A f U base some order p spent (shown size None m line s) done
-        (record { fits = its.fits.shows; past = its.past })
+    stable_now : ℕ
+    stable_now = stable_below its.fits.shows.reach H.batches
+
+    now : FitsPast sum marks noted size None line m pins H A f U stable_now (shown size None m line (step (BlobRemoved p done) s))
+    now = fits_removed sum marks noted size None line m pins H A f U stable_now order p (spent_passed size base stable_now H p its.past spent)
+        (shown size None m line s) done (record { fits = its.fits.shows; past = omega arith })
 
   -- What a crash leaves then can be recovered, and lasts; so it is where a failure is kept.
   numbers_at : (s : State) → FitsNow s → NoHeaderOfZeros sum → HasNumbers sum size base s m (line_end size line)
@@ -333,7 +393,7 @@ module _ (sum : List ℕ → ℕ) (marks : JoinedMarks) (noted : List Batch) (si
   fits_behind : FitsAt sum marks noted size (v ∷ vs) after pins H A f U s
   fits_behind = record {
     fits = now.0;
-    past = subst (λ reach. begins_from size marks.joined ≤ stable_below reach H.batches) (sym now.1) its.past;
+    past = λ x there ends. subst (λ reach. x.place < stable_below reach H.batches) (sym now.1) (its.past x there ends);
     headers = its.headers;
     records = its.records;
   }
