@@ -98,6 +98,9 @@ pub mod Shows
 pub mod Slots
 pub mod Spans
 pub mod StandsThere
+pub mod StepAlong
+pub mod StepBetween
+pub mod StepFits
 pub mod Targets
 pub mod TicketEnds
 pub mod TornLine

@@ -1,4 +1,6 @@
 pub mod AddedBatch
+pub mod AlikeStands
+pub mod AmongRaised
 pub mod BufferPath
 pub mod BufferStands
 pub mod ByPlace

@@ -9,10 +9,13 @@ pub mod MarkedLemmas
 pub mod OutdatedSteps
 pub mod ReplaceSteps
 pub mod SameSlots
+pub mod SlotBySlot
 pub mod SlotLemmas
+pub mod SlotMoves
 pub mod StabilizeSteps
 pub mod StableSteps
 pub mod StandingSums
+pub mod StepCalls
 pub mod TableLemmas
 pub mod Tracked
 pub mod UnmarkedSteps

@@ -1,6 +1,7 @@
 -- The blobs that go with a segment are removed: nothing needs them from where it ends on. So where that is stable, what a crash leaves of the blobs has all
 -- that it had to, behind each removal, done or not.
-use Rattle.std.proofs.Common.{◌≡◌, ◌⊎◌, ◌∙◌, ◌&&◌, ◌+◌, ◌<◌, ◌≤◌, ◌++◌, is_some, if◌then◌else◌, ℕ, ℤ, Bool, true, false, List, [], ◌∷◌, Option, Some, None, refl, sym, ap, subst, arith, inl, inr}
+use Rattle.std.proofs.Common.{◌≡◌, ◌⊎◌, ◌∙◌, ◌&&◌, ◌+◌, ◌*◌, ◌/◌, ◌<◌, ◌≤◌, ◌++◌, is_some, if◌then◌else◌, ℕ, ℤ, Bool, true, false, List, [], ◌∷◌, Option, Some}
+use Rattle.std.proofs.Common.{None, refl, sym, ap, subst, arith, inl, inr}
 use Rattle.std.specs.List.{Contains}
 use Rattle.std.specs.declared.io.Error.{Error as IoError}
 use Rattle.std.specs.Ordering.{int_eq}
@@ -9,17 +10,19 @@ use Rattle.std.proofs.lemmas.Nat.{div-add-mod', mod_below}
 use Rattle.sled_codec.specs.declared.result.DiskPtr.{DiskPtr}
 use Rattle.sled_codec.specs.declared.result.DiskPtr.TheVariants.{Inline, Blob}
 use Rattle.sled_codec.specs.declared.serialization.message.MessageKind.{MessageKind}
-use Rattle.sled_codec.specs.History.{Batch, History, Message, table}
+use Rattle.sled_codec.specs.History.{Batch, History, Message, begins_page, table}
 use Rattle.sled_codec.specs.Kinds.{kind_written}
 use Rattle.sled_store.specs.Blobs.{IsDamagedFor, removing_blobs}
 use Rattle.sled_store.specs.Device.{BlobRemoved, Content, Event, LeavesName, NamesState, State, renamed, settled_file, step, unnamed}
 use Rattle.sled_store.specs.Foreign.{NoForeignNames}
 use Rattle.sled_store.specs.Marks.{IsSuperseded}
 use Rattle.sled_store.specs.Outdated.{AreOutdated, NamesBlob}
-use Rattle.sled_store.specs.SegmentStates.{Machine, slot_at}
+use Rattle.sled_store.specs.SegmentStates.{Machine, is_due, slot_at}
 use Rattle.sled_store.specs.inside.Script.{Along}
 use Rattle.sled_store.proofs.Histories.Ascending.{Ascends}
-use Rattle.sled_store.proofs.Marks.MarkedLemmas.{not_superseded, superseded_more}
+use Rattle.sled_store.proofs.Marks.MarkedLemmas.{superseded_more}
+use Rattle.sled_store.proofs.Marks.SlotMoves.{GoesWith, IsDueFor}
+use Rattle.sled_store.proofs.Marks.TableLemmas.{entry_above}
 use Rattle.sled_store.proofs.Names.NamesLemmas.{after_unnamed}
 use Rattle.sled_store.proofs.Segments.Elements.{in_first, in_rest}
 use Rattle.sled_store.proofs.Segments.TableEntries.{from_table}
@@ -59,18 +62,50 @@ own_before s p done n bytes = by (is_some (s.file p)) where
 abbrev pub IsSpent : ℕ → ℕ → History → ℤ → Type 0
 IsSpent size place H blob = (m : Message) → Contains H.messages m → NamesBlob m blob → IsSuperseded size place H m
 
+-- A later message below a place gives the page of this one a new beginning.
+pub record IsReplaced (place : ℕ) (H : History) (e : Message) : Type 0 where
+  pub message : Message
+  pub there : Contains H.messages message
+  pub same_page : message.page ≡ e.page
+  pub begins : begins_page message.kind ≡ true
+  pub later : e.place < message.place
+  pub below : message.place < place
+
+-- So it is with each message that names a blob.
+abbrev pub IsPassed : ℕ → History → ℤ → Type 0
+IsPassed place H blob = (m : Message) → Contains H.messages m → NamesBlob m blob → IsReplaced place H m
+
+-- It is so below a place where each message of a segment that ends at another one, or below, lies below it.
+pub spent_passed : (size base place : ℕ) (H : History) (p : ℤ)
+    → ((x : Message) → Contains H.messages x → x.place / size * size + size ≤ base → x.place < place) → IsSpent size base H p → IsPassed place H p
+spent_passed size base place H p under spent e there names =
+    let by = spent e there names in
+    record {
+      message = by.message;
+      there = by.there;
+      same_page = by.same_page;
+      begins = by.begins;
+      later = by.later;
+      below = under by.message by.there by.ends;
+    }
+
+-- A message lies below the end of its segment.
+pub ends_above : (size place : ℕ) → 0 < size → (x : Message) → x.place / size * size + size ≤ place → x.place < place
+ends_above size place some x ends = omega (arith, ends, div-add-mod' x.place size, mod_below x.place size some)
+
 -- One of these is removed, or may be.
-module _ (sum : List ℕ → ℕ) (size : ℕ) (some : 0 < size) (H : History) (order : Ascends H.messages) (place : ℕ) (p : ℤ) (spent : IsSpent size place H p) where
+module _ (sum : List ℕ → ℕ) (size : ℕ) (H : History) (order : Ascends H.messages) (place : ℕ) (p : ℤ) (passed : IsPassed place H p) where
   -- no entry of a table from there on names it,
   pub entry_beside : (cut page : ℕ) (m : Message) → place ≤ cut → Contains (table H cut page) m → IsBeside (Some p) m
   entry_beside cut page m le entry lid q is same =
-      not_superseded size place H cut page m some order entry le (spent m (from_table H cut page m entry).0 (lid, is ∙ ap (λ (z : ℤ). Blob lid z) same))
+      let by = passed m (from_table H cut page m entry).0 (lid, is ∙ ap (λ (z : ℤ). Blob lid z) same) in
+      let lt : by.message.place < cut = (let below = by.below in omega (arith, below, le)) in
+      omega (arith, entry_above H cut page m order entry by.message by.there by.same_page by.begins lt, by.later)
 
   -- nor does a message from there on
   pub later_beside : (m : Message) → Contains H.messages m → place ≤ m.place → IsBeside (Some p) m
   later_beside m there above lid q is same =
-      let by : IsSuperseded size place H m = spent m there (lid, is ∙ ap (λ (z : ℤ). Blob lid z) same) in
-      omega (arith, above, by.later, by.ends, div-add-mod' by.message.place size, mod_below by.message.place size some)
+      let by = passed m there (lid, is ∙ ap (λ (z : ℤ). Blob lid z) same) in omega (arith, above, by.later, by.below)
 
   -- where it is missing, and the others are as they were, those that a table from there on needs are there
   module _ (was now : ℤ → Option (List ℕ)) (others : (n : ℤ) → int_eq p n ≡ false → now n ≡ was n) (gone : now p ≡ None) where
@@ -176,17 +211,18 @@ pub outdated_goes : (sum : List ℕ → ℕ) (size : ℕ) → 0 < size → (H : 
     → HasNeeded sum size H stable f device → Along (HasNeeded sum size H stable f) (removing_blobs (slot_at m k).blobs) device
 outdated_goes sum size some H order m are k stable f ends device has =
     removing_all_keep (HasNeeded sum size H stable f) (slot_at m k).blobs keeps device has where
-      spent : (p : ℤ) → Contains (slot_at m k).blobs p → IsSpent size stable H p
-      spent p among e there names =
-          superseded_more size ((slot_at m k).lsn + size) stable H H e (λ x found. found) ends ((are k p among).superseded e there names)
+      passed : (p : ℤ) → Contains (slot_at m k).blobs p → IsPassed stable H p
+      passed p among =
+          spent_passed size ((slot_at m k).lsn + size) stable H p
+          (λ x there low. let under = ends_above size ((slot_at m k).lsn + size) some x low in omega (arith, under, ends)) (are k p among).superseded
 
       keeps : (p : ℤ) → Contains (slot_at m k).blobs p → (s : State) (done : Bool) → HasNeeded sum size H stable f s
           → HasNeeded sum size H stable f (step (BlobRemoved p done) s)
       keeps p among s done its = record {
-        blobs = removed_fit sum size some H order stable p (spent p among) s.blobs done stable (omega arith) its.blobs;
-        stored = removed_items sum size some H order stable p (spent p among) s.blobs done stable (omega arith) its.stored;
-        entries = removed_entries sum size some H order stable p (spent p among) s.blobs done stable (omega arith) its.entries;
-        left = removed_leaves sum size some H order stable p (spent p among) stable f (omega arith) s done its.left;
+        blobs = removed_fit sum size H order stable p (passed p among) s.blobs done stable (omega arith) its.blobs;
+        stored = removed_items sum size H order stable p (passed p among) s.blobs done stable (omega arith) its.stored;
+        entries = removed_entries sum size H order stable p (passed p among) s.blobs done stable (omega arith) its.entries;
+        left = removed_leaves sum size H order stable p (passed p among) stable f (omega arith) s done its.left;
       }
 
 -- A log of this line and these slots fits a history over a device, and all up to a place is stable.
@@ -195,36 +231,49 @@ pub record FitsPast (sum : List ℕ → ℕ) (marks : JoinedMarks) (noted : List
   pub fits : FitsWith sum marks noted size s fault line m pins H A f U
   pub past : place ≤ stable_below fits.reach H.batches
 
+-- So it does once a blob is removed, or may be, of which each message that names it is replaced below that place.
+pub fits_removed : (sum : List ℕ → ℕ) (marks : JoinedMarks) (noted : List Batch) (size : ℕ) (fault : Option IoError) (line : List SegmentView) (m : Machine)
+    (pins : ℕ) (H : History) (A f : ℕ) (U : List Message) (place : ℕ)
+    → Ascends H.messages → (p : ℤ) → IsPassed place H p → (s : State) (done : Bool)
+    → FitsPast sum marks noted size fault line m pins H A f U place s
+    → FitsPast sum marks noted size fault line m pins H A f U place (step (BlobRemoved p done) s)
+fits_removed sum marks noted size fault line m pins H A f U place order p passed s done its =
+    record { fits = now.0; past = subst (λ reach. place ≤ stable_below reach H.batches) (sym now.1) its.past } where
+      stable : ℕ
+      stable = stable_below its.fits.reach H.batches
+
+      items : HaveItems sum s.blobs H stable → HaveItems sum (unnamed s.blobs p done) H stable
+      items have = record {
+        blobs = removed_fit sum size H order place p passed s.blobs done stable its.past have.blobs;
+        stored = removed_items sum size H order place p passed s.blobs done stable its.past have.stored;
+        entries = removed_entries sum size H order place p passed s.blobs done stable its.past have.entries;
+        below = have.below;
+      }
+
+      left : LeavesRecovering sum size H stable f s → LeavesRecovering sum size H stable f (step (BlobRemoved p done) s)
+      left = removed_leaves sum size H order place p passed stable f its.past s done
+
+      now : (fits : FitsWith sum marks noted size (step (BlobRemoved p done) s) fault line m pins H A f U) × (fits.reach ≡ its.fits.reach)
+      now = fits_over_blobs sum size s (unnamed s.blobs p done) s.snapshots fault refl H A f U
+          (λ first named. record { names = named.names; own_names = λ none. own_removing sum p done s (named.own_names none) }) noted line m pins its.fits
+          (items, left)
+
 -- So it does along the removal of all blobs that go with a segment which ends there.
-pub fits_outdated_goes : (sum : List ℕ → ℕ) (marks : JoinedMarks) (noted : List Batch) (size : ℕ) (fault : Option IoError) (line : List SegmentView) (m : Machine) (pins : ℕ)
-    (H : History) (A f : ℕ) (U : List Message)
+pub fits_outdated_goes : (sum : List ℕ → ℕ) (marks : JoinedMarks) (noted : List Batch) (size : ℕ) (fault : Option IoError) (line : List SegmentView)
+    (m : Machine) (pins : ℕ) (H : History) (A f : ℕ) (U : List Message)
     → 0 < size → Ascends H.messages → (k : ℕ) (device : State) → FitsPast sum marks noted size fault line m pins H A f U ((slot_at m k).lsn + size) device
     → Along (FitsPast sum marks noted size fault line m pins H A f U ((slot_at m k).lsn + size)) (removing_blobs (slot_at m k).blobs) device
 fits_outdated_goes sum marks noted size fault line m pins H A f U some order k device has =
-    removing_all_keep (FitsPast sum marks noted size fault line m pins H A f U ((slot_at m k).lsn + size)) (slot_at m k).blobs keeps device has where
-      keeps : (p : ℤ) → Contains (slot_at m k).blobs p → (s : State) (done : Bool)
-          → FitsPast sum marks noted size fault line m pins H A f U ((slot_at m k).lsn + size) s
-          → FitsPast sum marks noted size fault line m pins H A f U ((slot_at m k).lsn + size) (step (BlobRemoved p done) s)
-      keeps p among s done its =
-          record { fits = now.0; past = subst (λ reach. (slot_at m k).lsn + size ≤ stable_below reach H.batches) (sym now.1) its.past } where
-            stable : ℕ
-            stable = stable_below its.fits.reach H.batches
+    removing_all_keep (FitsPast sum marks noted size fault line m pins H A f U ((slot_at m k).lsn + size)) (slot_at m k).blobs
+    (λ p among s done its.
+    fits_removed sum marks noted size fault line m pins H A f U ((slot_at m k).lsn + size) order p
+    (spent_passed size ((slot_at m k).lsn + size) ((slot_at m k).lsn + size) H p (λ x there low. ends_above size ((slot_at m k).lsn + size) some x low)
+    (its.fits.account.outdated k p among).superseded) s done its)
+    device has
 
-            spent : IsSpent size ((slot_at m k).lsn + size) H p
-            spent = (its.fits.account.outdated k p among).superseded
-
-            items : HaveItems sum s.blobs H stable → HaveItems sum (unnamed s.blobs p done) H stable
-            items have = record {
-              blobs = removed_fit sum size some H order ((slot_at m k).lsn + size) p spent s.blobs done stable its.past have.blobs;
-              stored = removed_items sum size some H order ((slot_at m k).lsn + size) p spent s.blobs done stable its.past have.stored;
-              entries = removed_entries sum size some H order ((slot_at m k).lsn + size) p spent s.blobs done stable its.past have.entries;
-              below = have.below;
-            }
-
-            left : LeavesRecovering sum size H stable f s → LeavesRecovering sum size H stable f (step (BlobRemoved p done) s)
-            left = removed_leaves sum size some H order ((slot_at m k).lsn + size) p spent stable f its.past s done
-
-            now : (fits : FitsWith sum marks noted size (step (BlobRemoved p done) s) fault line m pins H A f U) × (fits.reach ≡ its.fits.reach)
-            now = fits_over_blobs sum size s (unnamed s.blobs p done) s.snapshots fault refl H A f U
-                (λ first named. record { names = named.names; own_names = λ none. own_removing sum p done s (named.own_names none) }) noted line m pins its.fits
-                (items, left)
+-- A step of the accountant removes such blobs alone: those that go with segments which are due for its mark, where these end at a place or below it.
+pub goes_spent : (size base : ℕ) (H : History) (m : Machine) (mark : ℤ) → AreOutdated size H m
+    → ((place : ℕ) → is_due size mark place ≡ true → place + size ≤ base) → (p : ℤ) → GoesWith (IsDueFor size mark m) m.slots p → IsSpent size base H p
+goes_spent size base H m mark are below p goes e there names =
+    superseded_more size ((slot_at m goes.slot).lsn + size) base H H e (λ x found. found) (below (slot_at m goes.slot).lsn goes.due)
+    ((are goes.slot p goes.there).superseded e there names)

@@ -32,7 +32,7 @@ use Rattle.sled_core.proofs.OwnLog.Zeroed.{own_read}
 module _ (sum : List ℕ → ℕ) (marks : JoinedMarks) (noted : List Batch) (size : ℕ) (big : 256 ≤ size) (device : State) (fault : Option IoError) (m : Machine) (pins : ℕ)
     (H : History) (A f : ℕ) (U : List Message) where
   -- Where no failure is kept.
-  left_real : fault ≡ None → (place : ℕ) (line : List SegmentView) → AreSegments size place line
+  pub left_real : fault ≡ None → (place : ℕ) (line : List SegmentView) → AreSegments size place line
       → (fits : FitsShown sum marks noted size device fault line m pins H A f U)
       → LeavesRecovering sum size H (stable_below fits.shows.reach H.batches) f device
   left_real whole place [] are fits left leaves own_left = absurd fits.shows.parts

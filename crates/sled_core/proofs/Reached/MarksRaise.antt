@@ -86,5 +86,5 @@ module _ (sum : List ℕ → ℕ) (size : ℕ) (log : List ℕ) (some : 256 ≤ 
   ]
 
   -- so what is held counts from it, where it counted from no higher place.
-  pub marks_raise : is.from ≤ held_from size began mark → StandsTo sum size log H A first reach
+  abbrev pub marks_raise : is.from ≤ held_from size began mark → StandsTo sum size log H A first reach
   marks_raise up = held_higher sum size log some H A first reach is (held_from size began mark) up marks_high marks_tail
