@@ -6,6 +6,8 @@ pub mod MarkExample
 pub mod MarkLaws
 pub mod MarkSteps
 pub mod MarkedLemmas
+pub mod MovedSlots
+pub mod MovesMade
 pub mod OutdatedSteps
 pub mod ReplaceSteps
 pub mod SameSlots

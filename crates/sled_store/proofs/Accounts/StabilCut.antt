@@ -9,8 +9,7 @@ use Rattle.std.specs.BTreeMap.{is_at}
 use Rattle.std.specs.Set.{remove_key}
 use Rattle.sled_store.specs.Device.{Cut, Synced}
 use Rattle.sled_store.specs.SegmentStates.{SlotState, Machine, Step, slots_where, free_among, free_slot, is_free, left_after, cutting, may_be_cut, followed_by, without_calls}
-use Rattle.sled_store.specs.inside.Stabilizing.{MayCut, cutting_last, shorter}
-use Rattle.sled_store.specs.Stabilizing.{cut_back}
+use Rattle.sled_store.specs.Stabilizing.{cut_back, MayCut, cutting_last, shorter}
 use Rattle.sled_store.specs.declared.segment.accountant.SegmentAccountant.{SegmentAccountant}
 use Rattle.sled_store.specs.Accounts.{machine_of, IsAccountant, AreSlots}
 use Rattle.sled_store.proofs.Accounts.StabilSlots.{first_so, then_so}

@@ -64,7 +64,7 @@ blobs_set ss k s here = ⊎_elim (λ lt. blobs_changed ss k s (set ss k s) (set_
   }) (λ blob there. absurd (in_nothing blob there))
 
 -- a slot that is set and has no blobs
-set_without : (ss : List SlotState) (k : ℕ) (s : SlotState) → s.blobs ≡ [] → KeepsBlobs ss (set ss k s)
+pub set_without : (ss : List SlotState) (k : ℕ) (s : SlotState) → s.blobs ≡ [] → KeepsBlobs ss (set ss k s)
 set_without ss k s none = blobs_set ss k s (λ blob there. absurd (in_nothing blob (subst (λ (bs : List ℤ). Contains bs blob) none there)))
 
 -- Steps of the slots.
@@ -83,7 +83,7 @@ linked_blobs size pid info m =
     blobs_set m.slots k (linked_slot pid info.log_size (slot_at m k)) (λ blob there. record { there = there; active = λ is. is; lsn = refl })
 
 -- one that isn't active is drained
-drained_blobs : (m : Machine) (k : ℕ) → is_inactive (slot_at m k).state ≡ true → KeepsBlobs m.slots (drained k m).slots
+pub drained_blobs : (m : Machine) (k : ℕ) → is_inactive (slot_at m k).state ≡ true → KeepsBlobs m.slots (drained k m).slots
 drained_blobs m k inactive =
     blobs_set m.slots k (drained_slot (slot_at m k))
     (λ blob there. record { there = there; active = λ is. absurd (true≢false (sym is ∙ inactive_not_active (slot_at m k) inactive)); lsn = refl })

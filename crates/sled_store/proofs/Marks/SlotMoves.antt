@@ -84,10 +84,10 @@ pub record IsStepOf (size : ℕ) (Due : ℕ → Type 0) (old new : Machine) (mad
   pub calls : AreStepCalls size (GoesWith Due old.slots) (AreFreeFrom new.slots) made
 
 module _ (size : ℕ) (Due : ℕ → Type 0) where
-  made_same : (m : Machine) → AreFreeFrom m.slots m.tip → IsStepOf size Due m m []
+  pub made_same : (m : Machine) → AreFreeFrom m.slots m.tip → IsStepOf size Due m m []
   made_same m cut_off = record { slots = λ k. inl refl; long = refl; tip = omega arith; cut_off = cut_off; calls = no_call }
 
-  made_then : (m n o : Machine) (es fs : List Event) → IsStepOf size Due m n es → IsStepOf size Due n o fs → IsStepOf size Due m o (es ++ fs)
+  pub made_then : (m n o : Machine) (es fs : List Event) → IsStepOf size Due m n es → IsStepOf size Due n o fs → IsStepOf size Due m o (es ++ fs)
   made_then m n o es fs first second = record {
     slots = λ k. moved_then (Due k) (at m.slots k) (at n.slots k) (at o.slots k) (first.slots k) (second.slots k);
     long = second.long ∙ first.long;
@@ -124,7 +124,7 @@ module _ (size : ℕ) (Due : ℕ → Type 0) where
     left_free n free j le =
         ap (λ (x : SlotState). is_free x.state) (free_moved (Due j) (at m.slots j) (at (set m.slots k s) j) (left_moved j) (free j le)) ∙ free j le
 
-    left_made : (cleaner : List (ℕ × List ℕ)) (es : List Event) → AreFreeFrom m.slots m.tip
+    pub left_made : (cleaner : List (ℕ × List ℕ)) (es : List Event) → AreFreeFrom m.slots m.tip
         → AreStepCalls size (GoesWith Due m.slots) (AreFreeFrom (set m.slots k s)) es
         → IsStepOf size Due m (record { slots = set m.slots k s; tip = m.tip; cleaner = cleaner }) es
     left_made cleaner es cut_off calls =
@@ -198,7 +198,7 @@ module _ (size : ℕ) (Due : ℕ → Type 0) where
         subst (λ (i : ℕ). is_done (at m.slots i) ≡ true) is (waits_at (at m.slots has.index) w.0 has.has).0
 
   -- An inactive segment is drained.
-  drained_made : (m : Machine) (k : ℕ) → is_inactive (slot_at m k).state ≡ true → AreFreeFrom m.slots m.tip → IsStepOf size Due m (drained k m) []
+  pub drained_made : (m : Machine) (k : ℕ) → is_inactive (slot_at m k).state ≡ true → AreFreeFrom m.slots m.tip → IsStepOf size Due m (drained k m) []
   drained_made m k inactive cut_off = left_made m k (drained_slot (slot_at m k)) left (drained k m).cleaner [] cut_off no_call where
     left : WasLeft (Due k) (slot_at m k) (drained_slot (slot_at m k))
     left = record {
@@ -342,8 +342,8 @@ KeepOrLose size base m m' = (k : ℕ) → KeepsSegment (slot_at m k) (slot_at m'
 module _ (size base : ℕ) (mark : ℤ) (m : Machine) (cut_off : AreFreeFrom m.slots m.tip)
     (stable : (k : ℕ) → is_free (slot_at m k).state ≡ false → is_active (slot_at m k).state ≡ false → (slot_at m k).lsn + size ≤ base)
     (below : (place : ℕ) → is_due size mark place ≡ true → place + size ≤ base) where
-  pub stabilized_slots : KeepOrLose size base m (stabilized size mark m).machine
-  stabilized_slots k = elim ((stabilized_made size mark m cut_off).slots k) [
+  pub kept_or_lost : (new : Machine) → AreMoved (IsDueFor size mark m) m.slots new.slots → KeepOrLose size base m new
+  kept_or_lost new moved k = elim (moved k) [
     | inl same ↦ inl (record { free = ap (λ (s : SlotState). is_free s.state) same; lsn = ap (λ (s : SlotState). s.lsn) same })
     | inr left ↦ elim left.now [
       | inl there ↦ inl (record { free = there.0 ∙ sym left.taken; lsn = there.1 })
@@ -357,3 +357,6 @@ module _ (size base : ℕ) (mark : ℤ) (m : Machine) (cut_off : AreFreeFrom m.s
       })
     ]
   ]
+
+  pub stabilized_slots : KeepOrLose size base m (stabilized size mark m).machine
+  stabilized_slots = kept_or_lost (stabilized size mark m).machine (stabilized_made size mark m cut_off).slots

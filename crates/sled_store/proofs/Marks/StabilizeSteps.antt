@@ -38,10 +38,10 @@ module _ (size base : ℕ) (H : History) (Spent : Message → Type 0) (some : 0 
     by false lean = t
 
   -- A segment that is to be deactivated: it is active, and lies below the base.
-  record IsDue (ss : List SlotState) (a : ℕ × ℕ) : Type 0 where
-    active : is_active (at ss a.1).state ≡ true
-    lsn : (at ss a.1).lsn ≡ a.0
-    below : a.0 + size ≤ base
+  pub record IsDue (ss : List SlotState) (a : ℕ × ℕ) : Type 0 where
+    pub active : is_active (at ss a.1).state ≡ true
+    pub lsn : (at ss a.1).lsn ≡ a.0
+    pub below : a.0 + size ≤ base
 
   active_is_taken : (s : SlotState) → is_active s.state ≡ true → is_free s.state ≡ false
   active_is_taken s is = by s.state is where
@@ -52,7 +52,7 @@ module _ (size base : ℕ) (H : History) (Spent : Message → Type 0) (some : 0 
     by Draining is = refl
 
   module _ (m : Machine) (t : Tracks size base H Spent m) (a : ℕ × ℕ) (due : IsDue m.slots a) where
-    inactive_tracks : Tracks size base H Spent (with_slot a.1 (inactive_slot (slot_at m a.1)) m)
+    pub inactive_tracks : Tracks size base H Spent (with_slot a.1 (inactive_slot (slot_at m a.1)) m)
     inactive_tracks =
         let s : SlotState = slot_at m a.1 in
         set_tracks size base H Spent m.slots m.tip a.1 (inactive_slot s) t (active_is_taken s due.active) (record {

@@ -1,17 +1,15 @@
 -- What proofs, and functions that no user calls, need beside `specs/Stabilizing.antt`. No public contract names it.
-use Rattle.std.specs.Prelude.{◌≡◌, ◌≢◌, ◌==◌, ◌-◌, ◌*◌, ◌<◌, ℕ, true, List, [], ◌∷◌, map, filter, set, Option, None, Some, Result, OnOk, IfErr}
-use Rattle.std.specs.Ordering.{nat_cmp}
+use Rattle.std.specs.Prelude.{◌≡◌, ◌≢◌, ◌==◌, ℕ, List, map, filter, Option, None, Some, Result, OnOk, IfErr}
 use Rattle.std.specs.BTreeMap.{is_at}
-use Rattle.std.specs.Map.{remove_entry}
 use Rattle.std.specs.Set.{remove_key}
 use Rattle.sled_codec.specs.declared.result.Error.{Error}
 use Rattle.sled_codec.specs.declared.result.Error.TheVariants.{OutOfMemory}
 use Rattle.sled_store.specs.Accounts.{IsAccountant, machine_of}
 use Rattle.sled_store.specs.Blobs.{RemoveAnswers}
-use Rattle.sled_store.specs.Device.{Event, Trace, Cut, Synced}
+use Rattle.sled_store.specs.Device.{Trace}
 use Rattle.sled_store.specs.Script.{Performs, after_all}
 use Rattle.sled_store.specs.declared.segment.accountant.SegmentAccountant.{SegmentAccountant}
-use Rattle.sled_store.specs.SegmentStates.{Machine, Step, free_slot, by_place, may_be_cut, waiting_for, in_turn, freed}
+use Rattle.sled_store.specs.SegmentStates.{Machine, Step, by_place, waiting_for, in_turn, freed}
 
 -- the slots that are there behind a place
 abbrev pub slots_at : ℕ → List (ℕ × ℕ) → List ℕ
@@ -25,23 +23,6 @@ not_beside (Some place) k ps = remove_key (is_at (by_place (place, k))) ps
 -- the slots that waited for the segment at a place are freed, one after another
 abbrev pub waiting_freed : ℕ → ℕ → Machine → Step
 waiting_freed size place m = in_turn (freed size) (waiting_for place m) m
-
--- no segment is in a slot any more, and what the cleaner still has of it is forgotten
-abbrev pub emptied : ℕ → Machine → Machine
-emptied k m = record { slots = set m.slots k free_slot; tip = m.tip; cleaner = remove_entry (is_at (nat_cmp k)) m.cleaner }
-
--- the last slot may be cut off
-pub record MayCut (m : Machine) : Type 0 where
-  pub some : 0 < m.tip
-  pub may : may_be_cut (m.tip - 1) m.slots ≡ true
-
--- the last slot is cut off
-abbrev pub shorter : Machine → Machine
-shorter m = record m { tip = m.tip - 1 }
-
--- the calls that cut it off
-abbrev pub cutting_last : ℕ → Machine → List Event
-cutting_last size m = Cut ((m.tip - 1) * size) ((m.tip - 1) * size) ∷ Synced ∷ []
 
 -- A step of the machine was made, with all of its calls; where the device failed, the first of those calls were made. The accountant stays one then, too.
 pub record MakesStep {T : Type 0} (size : ℕ) (step : Step) (result : Result T Error) (old new : Trace) (faults faults_then : ℕ)

@@ -2,14 +2,14 @@
 //!
 //! Each function makes one step of the machine: its state afterwards, and the calls of the device that were due, in
 //! order. Where the device fails, the first of those calls were made.
-ghost use Rattle.std.specs.Prelude.{◌≡◌, ◌≢◌, ◌&&◌, ◌↔◌, ◌<◌, not, true, slice_get, Some, length, IsTrue, OnOk, IfErr};
+ghost use Rattle.std.specs.Prelude.{◌≡◌, ◌≢◌, ◌&&◌, ◌↔◌, ◌<◌, ℤ, not, true, slice_get, Some, length, IsTrue, OnOk, IfErr};
 ghost use Rattle.std.specs.BTreeMap.{is_at};
 ghost use Rattle.std.specs.Set.{remove_key};
 ghost use Rattle.sled_store.specs.Blobs.{RemoveAnswers, removing_blobs};
 ghost use Rattle.sled_store.specs.Script.{Performs, after_all};
-ghost use Rattle.sled_store.specs.SegmentStates.{slot_at, active_place, by_place, with_slot, inactive_slot, stabilized, deactivated, freed, tested, freed_if_done, is_done, is_active_place, is_wasteful, drained_if_sparse, drained_if_wasteful};
-ghost use Rattle.sled_store.specs.inside.Stabilizing.{not_beside, slots_at, waiting_freed, emptied, MayCut, shorter, cutting_last, MakesStep};
-ghost use Rattle.sled_store.specs.Stabilizing.{cut_back};
+ghost use Rattle.sled_store.specs.SegmentStates.{slot_at, active_place, by_place, is_due, with_slot, inactive_slot, stabilized, deactivated, freed, tested, freed_if_done, is_done, is_active_place, is_wasteful, drained_if_sparse, drained_if_wasteful};
+ghost use Rattle.sled_store.specs.inside.Stabilizing.{not_beside, slots_at, waiting_freed, MakesStep};
+ghost use Rattle.sled_store.specs.Stabilizing.{cut_back, emptied, HasEnded, MayCut, MovesSlots, shorter, cutting_last};
 ghost use Rattle.sled_store.specs.Accounts.{IsAccountant, machine_of, size_of};
 
 use crate::segment::accountant::SegmentAccountant;
@@ -37,6 +37,8 @@ impl SegmentAccountant {
             ≡ after_all (stabilized config.old.config.segment_size mark (machine_of self.old)).calls (D.trace config.old.device)) }
         ensures calls { Performs (stabilized config.old.config.segment_size mark (machine_of self.old)).calls
             (D.trace config.old.device) (D.trace config.new.device) }
+        ensures moves { MovesSlots config.old.config.segment_size mark result (machine_of self.old) (machine_of self.new)
+            (D.trace config.old.device) (D.trace config.new.device) }
         ensures answers { RemoveAnswers result (D.faults config.old.device) (D.faults config.new.device) }
         ensures memory { IfErr result (λ e. e ≢ Error.OutOfMemory) }
         ensures account { IsAccountant config.old.config.segment_size self.new }
@@ -63,6 +65,8 @@ impl SegmentAccountant {
         requires active { active_place (slot_at (machine_of self.old) slot) ≡ Some place }
         ensures step { MakesStep (size_of self.old) (deactivated (size_of self.old) (place, slot) (machine_of self.old)) result
             (D.trace device.old) (D.trace device.new) (D.faults device.old) (D.faults device.new) self.new }
+        ensures moves { (mark : ℤ) → is_due (size_of self.old) mark place ≡ true
+            → MovesSlots (size_of self.old) mark result (machine_of self.old) (machine_of self.new) (D.trace device.old) (D.trace device.new) }
         ensures active { OnOk result (self.new.active.0 ≡ remove_key (is_at (by_place (place, slot))) self.old.active.0) }
     {
         let s = &self.slots[slot as usize];
@@ -94,6 +98,8 @@ impl SegmentAccountant {
         requires { IsAccountant (size_of self.old) self.old }
         ensures step { MakesStep (size_of self.old) (waiting_freed (size_of self.old) place (machine_of self.old)) result
             (D.trace device.old) (D.trace device.new) (D.faults device.old) (D.faults device.new) self.new }
+        ensures moves { (mark : ℤ) → is_due (size_of self.old) mark place ≡ true
+            → MovesSlots (size_of self.old) mark result (machine_of self.old) (machine_of self.new) (D.trace device.old) (D.trace device.new) }
         ensures active { self.new.active ≡ self.old.active }
         ensures count { OnOk result (length (machine_of self.new).slots ≡ length (machine_of self.old).slots) }
     {
@@ -109,6 +115,8 @@ impl SegmentAccountant {
         requires slot { slot < length (machine_of self.old).slots }
         ensures step { MakesStep (size_of self.old) (tested (size_of self.old) slot (machine_of self.old)) result
             (D.trace device.old) (D.trace device.new) (D.faults device.old) (D.faults device.new) self.new }
+        ensures moves { (mark : ℤ) → MovesSlots (size_of self.old) mark result (machine_of self.old) (machine_of self.new)
+            (D.trace device.old) (D.trace device.new) }
         ensures active { self.new.active ≡ self.old.active }
     {
         self.drain_if_sparse(slot);
@@ -136,6 +144,8 @@ impl SegmentAccountant {
         requires slot { slot < length (machine_of self.old).slots }
         ensures step { MakesStep (size_of self.old) (freed_if_done (size_of self.old) slot (machine_of self.old)) result
             (D.trace device.old) (D.trace device.new) (D.faults device.old) (D.faults device.new) self.new }
+        ensures moves { (mark : ℤ) → MovesSlots (size_of self.old) mark result (machine_of self.old) (machine_of self.new)
+            (D.trace device.old) (D.trace device.new) }
         ensures active { self.new.active ≡ self.old.active }
     {
         if !self.may_be_freed(slot) {
@@ -173,6 +183,8 @@ impl SegmentAccountant {
         requires done { is_done (slot_at (machine_of self.old) slot) ≡ true }
         ensures step { MakesStep (size_of self.old) (freed (size_of self.old) slot (machine_of self.old)) result
             (D.trace device.old) (D.trace device.new) (D.faults device.old) (D.faults device.new) self.new }
+        ensures moves { (mark : ℤ) → HasEnded (size_of self.old) mark (machine_of self.old) (slot_at (machine_of self.old) slot).latest
+            → MovesSlots (size_of self.old) mark result (machine_of self.old) (machine_of self.new) (D.trace device.old) (D.trace device.new) }
         ensures active { self.new.active ≡ self.old.active }
         ensures waiting { self.new.waiting.0 ≡ not_beside (slot_at (machine_of self.old) slot).latest slot self.old.waiting.0 }
     {
@@ -203,6 +215,8 @@ impl SegmentAccountant {
         requires { IsAccountant (size_of self.old) self.old }
         ensures step { MakesStep (size_of self.old) (cut_back (size_of self.old) (machine_of self.old)) result
             (D.trace device.old) (D.trace device.new) (D.faults device.old) (D.faults device.new) self.new }
+        ensures moves { (mark : ℤ) → MovesSlots (size_of self.old) mark result (machine_of self.old) (machine_of self.new)
+            (D.trace device.old) (D.trace device.new) }
         ensures active { self.new.active ≡ self.old.active }
         ensures waiting { self.new.waiting ≡ self.old.waiting }
     {

@@ -1,9 +1,10 @@
 -- Blobs go, the segment is inactive, slots that waited are freed, it is tested, and one more is drained where much is free.
-use Rattle.std.proofs.Common.{rules, ◌≡◌, ◌∙◌, ◌<◌, ℕ, ℤ, List, length, get_or, refl, sym, ap, subst, arith, length-set}
+use Rattle.std.proofs.Common.{rules, ◌≡◌, ◌∙◌, ◌<◌, ℕ, ℤ, List, length, get_or, refl, sym, ap, subst, arith, length-set, Some, true}
 use Rattle.sled_store.specs.Device.{Trace}
 use Rattle.sled_store.specs.Blobs.{removing_blobs}
 use Rattle.sled_store.specs.Script.{Performs, after_all}
-use Rattle.sled_store.specs.SegmentStates.{SlotState, Machine, Step, slot_at, with_slot, inactive_slot, followed_by, without_calls, deactivated, tested, drained_if_wasteful}
+use Rattle.sled_store.specs.SegmentStates.{SlotState, Machine, Step, active_place, is_due, slot_at, with_slot, inactive_slot, followed_by, without_calls, deactivated, tested, drained_if_wasteful}
+use Rattle.sled_store.specs.Stabilizing.{deactivates, removes}
 use Rattle.sled_store.specs.inside.Stabilizing.{waiting_freed}
 use Rattle.sled_store.specs.declared.segment.slot.Slot.{Slot}
 use Rattle.sled_store.specs.declared.segment.accountant.SegmentAccountant.{SegmentAccountant}
@@ -11,6 +12,7 @@ use Rattle.sled_store.specs.Accounts.{IsAccountant, machine_of, size_of}
 use Rattle.sled_store.proofs.Traces.ScriptLemmas.{performs_whole}
 use Rattle.sled_store.proofs.Accounts.StabilSlots.{slot_is}
 use Rattle.sled_store.proofs.Accounts.StabilSteps.{IsMade, made_same, calls_same, made_next, failed_first, failed_next}
+use Rattle.sled_store.proofs.Marks.MovesMade.{Moved, exit_begun, exit_failed, exit_moved, left_behind, moves_same, none_moved, one_moved, then_moved, wasteful_moved, whole_moved}
 use Rattle.sled_store.proofs.segment.accountant.SegmentAccountant.deactivate.Goals as goal
 
 own : (size : ℕ) (a : SegmentAccountant) → IsAccountant size a → IsAccountant (size_of a) a
@@ -141,3 +143,86 @@ returns-clause-step g c =
 pub returns-clause-active : goal.returns-clause-active
 returns-clause-active g c =
     ap (λ (s : List (ℕ × ℕ) × ℕ). s.0) (c.drain_if_wasteful.ensures.active ∙ c.test.ensures.active ∙ c.free_waiting.ensures.active) ∙ c.make_inactive.ensures.active
+
+-- The segment is inactive, and its blobs went before.
+first_moved : (size : ℕ) (mark : ℤ) (place k : ℕ) (a : SegmentAccountant) (n : Machine) (s : Slot) (keys : List ℤ) (old new : Trace)
+    → k < length (machine_of a).slots → s ≡ get_or a.slots.items k s → keys ≡ s.blobs.0 → active_place (slot_at (machine_of a) k) ≡ Some place
+    → is_due size mark place ≡ true → n ≡ with_slot k (inactive_slot (slot_at (machine_of a) k)) (machine_of a) → new ≡ after_all (removing_blobs keys) old
+    → Moved size mark (machine_of a) n old new
+first_moved size mark place k a n s keys old new lt at is active due now came =
+    one_moved size mark (machine_of a) n (removing_blobs keys) old new
+    (deactivates k (left_behind size mark (machine_of a) k place active due) now (ap removing_blobs (blobs_are a k s keys lt at is))) came
+
+pub returns-in_err-remove_blobs-clause-moves : goal.returns-in_err-remove_blobs-clause-moves
+returns-in_err-remove_blobs-clause-moves g c mark due =
+    let size : ℕ = c.args.self.now.size in
+    let m : Machine = machine_of c.args.self.now in
+    let old : Trace = g.D.Device.trace c.args.device.now in
+    let new : Trace = g.D.Device.trace c.remove_blobs.new.device in
+    let blobs = blobs_are c.args.self.now c.args.slot c.index-s.result.now c.keys.result.now c.requires.slot c.index-s.ensures c.keys.ensures in
+    exit_begun size mark c.from_residual.result m m m old old new (λ P. search rules) (none_moved size mark m m old old refl refl)
+    (removes c.args.slot (left_behind size mark m c.args.slot c.args.place c.requires.active due) refl
+    (subst (λ (l : List ℤ). Performs (removing_blobs l) old new) blobs c.remove_blobs.ensures.calls))
+
+pub returns-in_err-free_waiting-clause-moves : goal.returns-in_err-free_waiting-clause-moves
+returns-in_err-free_waiting-clause-moves g c mark due =
+    let size : ℕ = c.args.self.now.size in
+    let m : Machine = machine_of c.args.self.now in
+    let old : Trace = g.D.Device.trace c.args.device.now in
+    let h1 : Trace = g.D.Device.trace c.remove_blobs.new.device in
+    let m1 : Machine = machine_of c.make_inactive.new.self in
+    let m2 : Machine = machine_of c.free_waiting.new.self in
+    let h2 : Trace = g.D.Device.trace c.free_waiting.new.device in
+    let same = c.make_inactive.ensures.account.size_is in
+    let first = first_moved size mark c.args.place c.args.slot c.args.self.now m1 c.index-s.result.now c.keys.result.now old h1 c.requires.slot
+    c.index-s.ensures
+    c.keys.ensures c.requires.active due c.make_inactive.ensures.machine c.in_ok-remove_blobs.ensures.made in
+    exit_failed size mark c.from_residual-in_err-free_waiting.result m m1 m2 old h1 h2 (λ P. search rules) first c.free_waiting.result
+    (moves_same size c.make_inactive.new.self.size mark c.free_waiting.result m1 m2 h1 h2 same
+    (c.free_waiting.ensures.moves mark (ap (λ n. is_due n mark c.args.place) same ∙ due)))
+
+pub returns-in_err-test-clause-moves : goal.returns-in_err-test-clause-moves
+returns-in_err-test-clause-moves g c mark due =
+    let size : ℕ = c.args.self.now.size in
+    let m : Machine = machine_of c.args.self.now in
+    let old : Trace = g.D.Device.trace c.args.device.now in
+    let h1 : Trace = g.D.Device.trace c.remove_blobs.new.device in
+    let m1 : Machine = machine_of c.make_inactive.new.self in
+    let h2 : Trace = g.D.Device.trace c.free_waiting.new.device in
+    let m2 : Machine = machine_of c.free_waiting.new.self in
+    let h3 : Trace = g.D.Device.trace c.test.new.device in
+    let m3 : Machine = machine_of c.test.new.self in
+    let same = c.make_inactive.ensures.account.size_is in
+    let first = first_moved size mark c.args.place c.args.slot c.args.self.now m1 c.index-s.result.now c.keys.result.now old h1 c.requires.slot
+    c.index-s.ensures
+    c.keys.ensures c.requires.active due c.make_inactive.ensures.machine c.in_ok-remove_blobs.ensures.made in
+    let second = whole_moved size mark _ m1 m2 h1 h2 (moves_same size c.make_inactive.new.self.size mark _ m1 m2 h1 h2 same
+    (c.in_ok-free_waiting.ensures.moves mark (ap (λ n. is_due n mark c.args.place) same ∙ due))) in
+    exit_failed size mark c.from_residual-in_err-test.result m m2 m3 old h2 h3 (λ P. search rules)
+    (then_moved size mark m m1 m2 old h1 h2 first second) c.test.result
+    (moves_same size c.free_waiting.new.self.size mark c.test.result m2 m3 h2 h3 (c.in_ok-free_waiting.ensures.step.account.size_is ∙ same)
+    (c.test.ensures.moves mark))
+
+pub returns-clause-moves : goal.returns-clause-moves
+returns-clause-moves g c mark due =
+    let size : ℕ = c.args.self.now.size in
+    let m : Machine = machine_of c.args.self.now in
+    let old : Trace = g.D.Device.trace c.args.device.now in
+    let h1 : Trace = g.D.Device.trace c.remove_blobs.new.device in
+    let m1 : Machine = machine_of c.make_inactive.new.self in
+    let h2 : Trace = g.D.Device.trace c.free_waiting.new.device in
+    let m2 : Machine = machine_of c.free_waiting.new.self in
+    let h3 : Trace = g.D.Device.trace c.test.new.device in
+    let m3 : Machine = machine_of c.test.new.self in
+    let m4 : Machine = machine_of c.drain_if_wasteful.new.self in
+    let same = c.make_inactive.ensures.account.size_is in
+    let first = first_moved size mark c.args.place c.args.slot c.args.self.now m1 c.index-s.result.now c.keys.result.now old h1 c.requires.slot
+    c.index-s.ensures
+    c.keys.ensures c.requires.active due c.make_inactive.ensures.machine c.in_ok-remove_blobs.ensures.made in
+    let second = whole_moved size mark _ m1 m2 h1 h2 (moves_same size c.make_inactive.new.self.size mark _ m1 m2 h1 h2 same
+    (c.in_ok-free_waiting.ensures.moves mark (ap (λ n. is_due n mark c.args.place) same ∙ due))) in
+    let third = whole_moved size mark _ m2 m3 h2 h3 (moves_same size c.free_waiting.new.self.size mark _ m2 m3 h2 h3
+    (c.in_ok-free_waiting.ensures.step.account.size_is ∙ same) (c.in_ok-test.ensures.moves mark)) in
+    exit_moved size mark _ m m m4 old old h3
+    (then_moved size mark m m1 m4 old h1 h3 first (then_moved size mark m1 m2 m4 h1 h2 h3 second
+    (then_moved size mark m2 m3 m4 h2 h3 h3 third (wasteful_moved size mark m3 m4 h3 c.drain_if_wasteful.ensures.machine))))

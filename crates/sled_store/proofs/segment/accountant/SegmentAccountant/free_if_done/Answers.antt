@@ -7,6 +7,8 @@ use Rattle.sled_store.proofs.Traces.ScriptLemmas.{performs_whole}
 use Rattle.sled_store.proofs.Accounts.StabilSlots.{first_so}
 use Rattle.sled_store.specs.Device.{Trace}
 use Rattle.sled_store.proofs.Accounts.StabilSteps.{step_is}
+use Rattle.std.proofs.lemmas.Bool.{and_parts, not-true}
+use Rattle.sled_store.proofs.Marks.MovesMade.{ended_idle, exit_moved, none_moved}
 use Rattle.sled_store.proofs.segment.accountant.SegmentAccountant.free_if_done.Goals as goal
 
 module _ (size k : ℕ) (m : Machine) (may : Bool) (is : may ≡ (is_done (slot_at m k) && not (is_active_place m (slot_at m k).latest))) where
@@ -40,3 +42,16 @@ free-requires-clause-done g c =
 
 pub returns-clause-step : goal.returns-clause-step
 returns-clause-step g c = step_is refl (goes c.args.self.now.size c.args.slot (machine_of c.args.self.now) c.may_be_freed.result c.may_be_freed.ensures c.if-not-may_be_freed.false) c.free.ensures.step
+
+pub returns-then-not-may_be_freed-clause-moves : goal.returns-then-not-may_be_freed-clause-moves
+returns-then-not-may_be_freed-clause-moves g c mark =
+    let m : Machine = machine_of c.args.self.now in
+    let old : Trace = g.D.Device.trace c.args.device.now in
+    exit_moved c.args.self.now.size mark _ m m m old old old (none_moved c.args.self.now.size mark m m old old refl refl)
+
+pub returns-clause-moves : goal.returns-clause-moves
+returns-clause-moves g c mark =
+    let m : Machine = machine_of c.args.self.now in
+    let latest = (slot_at m c.args.slot).latest in
+    let parts = and_parts (is_done (slot_at m c.args.slot)) (not (is_active_place m latest)) (sym c.may_be_freed.ensures ∙ c.if-not-may_be_freed.false) in
+    c.free.ensures.moves mark (ended_idle c.args.self.now.size mark m latest (not-true (is_active_place m latest) parts.1))

@@ -12,7 +12,8 @@ use Rattle.sled_store.proofs.Traces.ScriptLemmas.{performs_whole}
 use Rattle.sled_store.proofs.Accounts.StabilIndex.{HasPlace, have_places}
 use Rattle.sled_store.proofs.Accounts.StabilSlots.{waits_at}
 use Rattle.sled_store.proofs.Accounts.StabilFirst.{first_has, first_taken, first_and_rest, none_first}
-use Rattle.sled_store.proofs.Accounts.StabilSteps.{made_same, calls_same, turn_on, turn_failed, turns_done}
+use Rattle.sled_store.proofs.Accounts.StabilSteps.{made_same, calls_same, leads_itself, turn_on, turn_failed, turns_done}
+use Rattle.sled_store.proofs.Marks.MovesMade.{ended_due, exit_failed, exit_moved, moves_same, none_moved, then_moved, whole_moved}
 use Rattle.sled_store.proofs.segment.accountant.SegmentAccountant.free_waiting.Goals as goal
 
 -- the first slot that waits
@@ -48,6 +49,20 @@ module _ (size place k : ℕ) (a : SegmentAccountant) (is : IsAccountant size a)
     left_over : IsAccountant size b → waiting_for place (machine_of b) ≡ drop 1 (slots_at place a.waiting.0)
     left_over account = ap (slots_at place) (sym account.indexes.waiting_is ∙ taken_out) ∙ (first_taken place k (drop 1 (slots_at place a.waiting.0)) a.waiting.0 kept_list).left
 
+pub loop-slot-init : goal.loop-slot-init
+loop-slot-init g c =
+    let size : ℕ = c.args.self.now.size in
+    let m : Machine = machine_of c.args.self.now in
+    let old : Trace = g.D.Device.trace c.args.device.now in
+    record {
+      account = c.requires;
+      leads = leads_itself (waiting_freed size c.args.place m) old;
+      moves = λ mark due. none_moved size mark m m old old refl refl;
+      faults = refl;
+      active = refl;
+      count = refl;
+    }
+
 pub free-requires-clause-slot : goal.free-requires-clause-slot
 free-requires-clause-slot g c = there c.args.self.now.size c.args.place c.in-Some.slot c.loop-slot.self c.loop-slot.invariant.account c.in-Some.ensures
 
@@ -67,6 +82,14 @@ loop-slot-preserved g c =
       account = account;
       leads = turn_on (freed size) _ m _ _ _ c.loop-slot.invariant.leads k _ (waiting_for c.args.place (machine_of c.free.new.self)) (machine_of c.free.new.self) (g.D.Device.trace c.free.new.device)
           (listed size c.args.place k c.loop-slot.self c.loop-slot.invariant.account c.in-Some.ensures) made left;
+      moves = λ mark due.
+          let n : Machine = machine_of c.free.new.self in
+          let mid : Trace = g.D.Device.trace c.loop-slot.device in
+          let ended = ended_due size c.loop-slot.self.size mark m c.args.place (slot_at m k).latest same
+          (waits size c.args.place k c.loop-slot.self c.loop-slot.invariant.account c.in-Some.ensures).1 due in
+          then_moved size mark _ m n _ mid (g.D.Device.trace c.free.new.device) (c.loop-slot.invariant.moves mark due)
+          (whole_moved size mark _ m n mid (g.D.Device.trace c.free.new.device)
+          (moves_same size c.loop-slot.self.size mark _ m n mid (g.D.Device.trace c.free.new.device) same (c.in_ok-free.ensures.moves mark ended)));
       faults = c.in_ok-free.ensures.step.answers ∙ c.loop-slot.invariant.faults;
       active = c.free.ensures.active ∙ c.loop-slot.invariant.active;
       count = ap (λ (n : Machine). length n.slots) c.in_ok-free.ensures.step.done ∙ length-set m.slots k free_slot ∙ c.loop-slot.invariant.count;
@@ -110,3 +133,22 @@ returns-clause-step g c =
       memory = search rules;
       account = c.loop-slot.invariant.account;
     }
+
+pub returns-in_err-free-clause-moves : goal.returns-in_err-free-clause-moves
+returns-in_err-free-clause-moves g c mark due =
+    let size : ℕ = c.args.self.now.size in
+    let k : ℕ = c.in-Some.slot in
+    let m : Machine = machine_of c.loop-slot.self in
+    let n : Machine = machine_of c.free.new.self in
+    let mid : Trace = g.D.Device.trace c.loop-slot.device in
+    let same = c.loop-slot.invariant.account.size_is in
+    let ended = ended_due size c.loop-slot.self.size mark m c.args.place (slot_at m k).latest same
+    (waits size c.args.place k c.loop-slot.self c.loop-slot.invariant.account c.in-Some.ensures).1 due in
+    exit_failed size mark c.from_residual.result _ m n _ mid (g.D.Device.trace c.free.new.device) (λ P. search rules) (c.loop-slot.invariant.moves mark due)
+    c.free.result (moves_same size c.loop-slot.self.size mark c.free.result m n mid (g.D.Device.trace c.free.new.device) same (c.free.ensures.moves mark ended))
+
+pub returns-clause-moves : goal.returns-clause-moves
+returns-clause-moves g c mark due =
+    let old : Machine = machine_of c.args.self.now in
+    let before : Trace = g.D.Device.trace c.args.device.now in
+    exit_moved c.args.self.now.size mark _ old old (machine_of c.loop-slot.self) before before (g.D.Device.trace c.loop-slot.device) (c.loop-slot.invariant.moves mark due)
