@@ -70,6 +70,7 @@ pub mod OpenSeen
 pub mod Outcomes
 pub mod OwnSlots
 pub mod PlacedWrite
+pub mod PassedMarks
 pub mod Pinned
 pub mod PinnedWrites
 pub mod Places

@@ -12,14 +12,14 @@ use Rattle.sled_core.specs.Begun.{SegmentParts, SegmentView}
 use Rattle.sled_core.specs.Fits.{held_of}
 use Rattle.sled_core.specs.declared.logger.joined_marks.JoinedMarks.{JoinedMarks}
 use Rattle.sled_core.specs.inside.Cleared.{cleared}
-use Rattle.sled_core.specs.inside.Fits.{HoldBehind, HoldsIn, HoldsLine, HoldsSegment, HoldsShown, HoldsWith, log_parts, parts_in}
+use Rattle.sled_core.specs.inside.Fits.{HoldBehind, HoldsIn, HoldsLine, HoldsSegment, HoldsShown, HoldsWith, log_parts, parts_in, written_to}
 use Rattle.sled_core.specs.inside.LogFile.{StaysBelow}
 use Rattle.sled_core.specs.LogFile.{StaysFrom}
 use Rattle.sled_core.specs.Logged.{logged}
 use Rattle.sled_core.specs.OpenBatches.{stable_below}
 use Rattle.sled_core.specs.inside.Begun.{line_end}
 use Rattle.sled_core.specs.inside.Lasting.{LeavesRecovering}
-use Rattle.sled_core.specs.inside.MarksFit.{MarksFitFrom}
+use Rattle.sled_core.specs.inside.MarksFit.{ArePassedFrom, MarksFitFrom}
 use Rattle.sled_core.specs.inside.Numbers.{HaveSlotsFrom}
 use Rattle.sled_core.specs.inside.Running.{FitsIn, FitsLine, FitsShown, FitsWith, HaveItems, HaveNames}
 use Rattle.sled_core.specs.inside.Shown.{shown}
@@ -191,4 +191,6 @@ module _ (sum : List ℕ → ℕ) (size : ℕ) (device : State) (blobs snapshots
             from_names sum size device (with_names device blobs snapshots) m line (logged H) refl refl changes.same_files (fits.hides none zeros);
         marked = λ none zeros. subst (λ (file : ℤ → Option (List ℕ)). MarksFitFrom sum size file (cleared size m line device.log.bytes) marks)
             (sym changes.same_files) (fits.marked none zeros);
+        passed = λ none. subst (λ (file : ℤ → Option (List ℕ)). ArePassedFrom sum file (written_to line) H.batches marks) (sym changes.same_files)
+            (fits.passed none);
       }

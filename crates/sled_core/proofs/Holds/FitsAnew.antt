@@ -28,4 +28,5 @@ module _ {sum : List ℕ → ℕ} {marks : JoinedMarks} {noted : List Batch} {si
     rests = fits.rests;
     hides = fits.hides;
     marked = fits.marked;
+    passed = fits.passed;
   }

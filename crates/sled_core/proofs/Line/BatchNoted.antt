@@ -44,6 +44,10 @@ use Rattle.sled_core.proofs.Line.LogSpans.{ended_buffers}
 use Rattle.sled_core.proofs.Line.LineEnds.{end_set}
 use Rattle.sled_core.proofs.Numbers.HidesAs.{from_as}
 use Rattle.sled_core.proofs.Line.Moves.{fits_as, holds_as}
+use Rattle.sled_core.proofs.Line.PassedMarks.{passed_further}
+use Rattle.sled_core.proofs.Line.Ends.{written_set}
+use Rattle.sled_core.proofs.Reached.AddedBatch.{was_or_batch}
+use Rattle.sled_core.specs.inside.Fits.{written_to}
 use Rattle.sled_core.proofs.Reached.ByPlace.{stable_with_batch}
 use Rattle.sled_core.proofs.Reserve.Ranges.{at_there}
 use Rattle.sled_core.proofs.Line.Places.{reserved_ends, reserved_in_reach}
@@ -259,5 +263,15 @@ module _ {D C : Type 0} (trace : D → Trace) (sum : List ℕ → ℕ) (old mid 
               (machine_of old.accountant) old.pins H A f' U fits (noted_history H b)
               (grows_noted sum size (shown_of trace old) old.fault.kept (line_of old) n v f.among old.segments.first.site.place (nth_facts old) i r f.there f.own.open_yet
               (of_manifest old ticket n index f manifest) peg (omega (arith, within, reach)) later (omega (arith, within, ends)) (machine_of old.accountant) (noted_in old)
-              (λ c known. elim (apart c known) [ inl front ↦ inl (omega (arith, ints, front, at)) | inr behind ↦ inr behind ]) (logged H)) whole zeros)) fits.marked now,
+              (λ c known. elim (apart c known) [ inl front ↦ inl (omega (arith, ints, front, at)) | inr behind ↦ inr behind ]) (logged H)) whole zeros)) fits.marked
+              (λ whole. passed_further (written_to (line_of old))
+              (written_to (set (line_of old) n (ended_now i r (marking sum v.parts.bytes r peg) Manifest v)))
+              (let same = written_set (line_of old) n v (ended_now i r (marking sum v.parts.bytes r peg) Manifest v) f.among (λ j. v.parts.site)
+              (λ j. v.parts.written_len) in omega (arith, same))
+              H.batches (noted_history H b).batches
+              (λ c there. elim (was_or_batch H (noted_history H b) b (noted_adds H b later) c there) [
+                | inl was ↦ inl was
+                | inr own ↦ inr (let low = low_unwritten in let same = ap (λ (d : Batch). d.low) own in omega (arith, low, same))
+              ])
+              sum (state_of (trace old.config.device)).snapshots.file old.marks (fits.passed whole)) now,
         )

@@ -1,5 +1,5 @@
 -- A further segment is begun: the one that was being filled is filled to its end and sealed, and the log holds and fits what it did.
-use Rattle.std.proofs.Common.{None, ◌≡◌, ◌∙◌, ◌<◌, ◌≤◌, ◌+◌, ◌-◌, ◌*◌, ◌/◌, ◌%◌, ◌^◌, ◌-ℤ◌, ap, sym, refl, arith, subst, inl, inr, ℕ, zero, suc, pos, List, [], ◌∷◌, ◌++◌, length, map, Option, Some, false, if◌then◌else◌, Bool}
+use Rattle.std.proofs.Common.{None, ◌≡◌, ◌∙◌, ◌<◌, ◌≤◌, ◌+◌, ◌-◌, ◌*◌, ◌/◌, ◌%◌, ◌^◌, ◌-ℤ◌, ap, sym, refl, arith, subst, inl, inr, ℕ, zero, suc, pos, ℤ, List, [], ◌∷◌, ◌++◌, length, map, Option, Some, false, if◌then◌else◌, Bool}
 use Rattle.std.specs.List.{Contains, slice_get}
 use Rattle.std.specs.declared.io.Error.{Error as IoError}
 use Rattle.std.proofs.Math.Nat.{add-mul-mod_self_right, div-le_self, mod-add-div', mul-mod_left, suc-mul}
@@ -59,6 +59,8 @@ use Rattle.sled_core.proofs.Line.LineEnds.{end_at_last, kept_same, noted_later, 
 use Rattle.sled_core.proofs.Cleared.Calls.{cleared_next}
 use Rattle.sled_core.proofs.Cleared.Shown.{ShowsSame}
 use Rattle.sled_core.proofs.Line.Moves.{fits_as, holds_as}
+use Rattle.sled_core.proofs.Line.PassedMarks.{passed_up}
+use Rattle.sled_core.specs.inside.MarksFit.{ArePassedFrom}
 use Rattle.sled_core.proofs.Line.Among.{among_same}
 use Rattle.sled_core.proofs.Line.GivenUp.{given_begun, given_closed}
 use Rattle.sled_core.proofs.Line.OpenPlaces.{places_begun, places_closed}
@@ -234,6 +236,12 @@ module _ (sum : List ℕ → ℕ) (size : ℕ) where
 
       next_written : written_to next ≡ written_to (v ∷ vs)
       next_written = written_append (closed (v ∷ vs)) (begun_view sum size m stable (last_of v vs) ∷ []) (closed_some v vs) ∙ closed_written v vs
+
+      -- So the marks stay passed.
+      pub passed_next : (bs : List Batch) (snapshots : ℤ → Option (List ℕ)) (marks : JoinedMarks) → ArePassedFrom sum snapshots (written_to (v ∷ vs)) bs marks
+          → ArePassedFrom sum snapshots (written_to next) bs marks
+      passed_next bs snapshots marks =
+          passed_up (written_to (v ∷ vs)) (written_to next) (let same = next_written in omega (arith, same)) bs sum snapshots marks
 
       -- The first one lies where it lay, and older slots are those that they were.
       first_there : first_place next ≡ v.parts.site.place
@@ -518,6 +526,8 @@ module _ {D C : Type 0} (trace : D → Trace) (sum : List ℕ → ℕ) (old new 
             f.place_small (noted_in old) (state_of (trace (device_of old))) (logged H)
             (base_low sum old.marks (noted_in old) its_size big (state_of (trace (device_of old))) (fault_of old) (line_of old) (machine_at old) (pins_of old) H A f' U fits)
             fits.shows.slots same_shown (fits.hides none zeros)) fits.marked
+            (λ none. passed_next sum its_size device (fault_of old) (machine_at old) big old.account.slots first behind closes g.short small lies
+            f.place_small (noted_in old) H.batches (state_of (trace (device_of old))).snapshots.file old.marks (fits.passed none))
             (fits_next sum its_size device (fault_of old) (machine_at old) big old.account.slots first behind closes g.short small lies f.place_small (noted_in old) (pins_of old) H A f' U fits.shows);
         noted = noted_later old new rest.noted (let same = begins_synced in omega (arith, same));
         kept = kept_same old new rest.noted;

@@ -1,7 +1,7 @@
 -- Once the message of a ticket is completed the log holds and fits the history with that message.
 use Rattle.std.proofs.Common.{◌≡◌, ◌∙◌, ◌-◌, ◌<◌, sym, subst, ℕ, false, List, ◌∷◌, set, Some, None}
 use Rattle.std.specs.List.{slice_get}
-use Rattle.sled_codec.specs.History.{AddsMessage, History, Message}
+use Rattle.sled_codec.specs.History.{AddsMessage, Batch, History, Message}
 use Rattle.sled_store.specs.Accounts.{machine_of}
 use Rattle.sled_store.specs.Device.{Trace, state_of}
 use Rattle.sled_store.specs.Outdated.{MayName}
@@ -20,7 +20,8 @@ use Rattle.sled_core.specs.declared.iobuf.Reserved.{Reserved}
 use Rattle.sled_core.specs.declared.logger.Log.{Log}
 use Rattle.sled_core.specs.declared.reservation.Reservation.{Reservation}
 use Rattle.sled_core.specs.inside.Buffers.{completing}
-use Rattle.sled_core.specs.inside.Fits.{HoldsWith}
+use Rattle.sled_core.specs.inside.MarksFit.{ArePassedFrom}
+use Rattle.sled_core.specs.inside.Fits.{HoldsWith, written_to}
 use Rattle.sled_core.specs.inside.Shown.{shown_of}
 use Rattle.sled_core.specs.inside.Turned.{ChangesLine, ended_now}
 use Rattle.sled_core.specs.invariants.Fits.{Holds}
@@ -91,5 +92,8 @@ module _ {D C : Type 0} {old : Log D C} {ticket : Reservation} {n index : ℕ} (
             done.1,
             ticket_fits ends_completed rest trace sum done.0 A g (m ∷ U)
                 (hides_beyond sum old.marks (noted_in old) size old.config.config.least (state_of (trace old.config.device))
-                old.fault.kept (line_of old) machine old.pins H A g U fits done.0 done.3) fits.marked fits.rests done.2,
+                old.fault.kept (line_of old) machine old.pins H A g U fits done.0 done.3) fits.marked
+                (λ none. subst (λ (bs : List Batch).
+                ArePassedFrom sum (state_of (trace old.config.device)).snapshots.file (written_to (line_of old)) bs old.marks) (sym done.1.batches) (fits.passed none))
+                fits.rests done.2,
           )

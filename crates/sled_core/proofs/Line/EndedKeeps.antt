@@ -15,7 +15,7 @@ use Rattle.sled_core.specs.declared.iobuf.SegmentPosition.{SegmentPosition}
 use Rattle.sled_core.specs.declared.logger.Log.{Log}
 use Rattle.sled_core.specs.Begun.{SegmentView, segment_view}
 use Rattle.sled_core.specs.invariants.Fits.{Holds}
-use Rattle.sled_core.specs.inside.Fits.{HoldsWith}
+use Rattle.sled_core.specs.inside.Fits.{HoldsWith, written_to}
 use Rattle.sled_core.specs.Fits.{KeepsAll, current_of, line_of, noted_in, synced_end}
 use Rattle.sled_core.specs.Keeps.{GoesOn, SamePosition}
 use Rattle.sled_core.specs.Logged.{logged}
@@ -32,11 +32,12 @@ use Rattle.sled_core.specs.Waiting.{buffer_at, unwritten_in}
 use Rattle.sled_core.proofs.Cleared.Calls.{cleared_ended}
 use Rattle.sled_core.proofs.Cleared.Shown.{ShowsSame}
 use Rattle.sled_core.proofs.Line.KeptCalls.{goes_on_quietly}
-use Rattle.sled_core.proofs.Line.Moves.{MarksStand, fits_as, holds_as}
+use Rattle.sled_core.proofs.Line.Moves.{MarksPass, MarksStand, fits_as, holds_as}
+use Rattle.sled_core.proofs.Line.PassedMarks.{passed_up}
 use Rattle.sled_core.proofs.Line.LineEnds.{end_set, kept_same, noted_later, noted_same}
 use Rattle.sled_core.proofs.Numbers.HidesAs.{from_as}
 use Rattle.sled_core.proofs.Line.EndedLine.{over_bytes}
-use Rattle.sled_core.proofs.Line.Ends.{set_keeps}
+use Rattle.sled_core.proofs.Line.Ends.{set_keeps, written_set}
 use Rattle.sled_core.proofs.Holds.Facts.{nth_facts}
 use Rattle.sled_core.proofs.Holds.Nth.{last_get}
 use Rattle.sled_core.proofs.Line.AccountBehind.{account_same}
@@ -140,14 +141,18 @@ module _ {D C : Type 0} (old new : Log D C) (n : ℕ) (v : SegmentView) (there :
       → (old.fault.kept ≡ None → NoHeaderOfZeros sum → HidesFrom sum old.config.config.segment_size (begins_from old.config.config.segment_size old.marks.joined) (state_of (trace old.config.device))
       (machine_of old.accountant) (line_of old) (logged H))
       → MarksStand trace sum old
+      → MarksPass trace sum old (line_of old) H
       → RestsWhole old.fault.kept (state_of (trace old.config.device)).log
       → FitsWith sum old.marks (noted_in old) old.config.config.segment_size (shown_of trace old) old.fault.kept (set (line_of old) n e) (machine_of old.accountant)
       old.pins H A f U
       → Fits trace sum new H A f U
-  fits_ended trace sum H A f U hides marked rests =
+  fits_ended trace sum H A f U hides marked passed rests =
       fits_as trace sum old new rest.config rest.fault rest.marks (noted_in old) noted_ended (set (line_of old) n e) line (machine_of old.accountant)
       (ap machine_of rest.accountant) shows_ended rests H A f U rest.pins
       (λ none zeros. from_as sum old.config.config.segment_size (state_of (trace old.config.device))
       (machine_of old.accountant) (machine_of old.accountant) (line_of old) (set (line_of old) n e) (logged H) (λ j. refl) (λ j. refl)
       (shows_ended (state_of (trace old.config.device)).log.bytes)
       (omega (arith, end_set old.config.config.segment_size (line_of old) n v e there refl)) (hides none zeros)) marked
+      (λ none. passed_up (written_to (line_of old)) (written_to (set (line_of old) n e))
+      (let same = written_set (line_of old) n v e there (λ j. v.parts.site) (λ j. v.parts.written_len) in omega (arith, same))
+      H.batches sum (state_of (trace old.config.device)).snapshots.file old.marks (passed none))

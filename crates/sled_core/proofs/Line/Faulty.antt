@@ -80,6 +80,7 @@ fits_shown_faulty sum marks noted size device new fault now line m pins H A f U 
       rests = λ none. cc;
       hides = λ none zeros. cc;
       marked = λ none zeros. cc;
+      passed = λ none. cc;
     }
 
 -- The same, where all that it says is of equal parts.

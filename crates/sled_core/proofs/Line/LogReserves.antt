@@ -48,6 +48,7 @@ use Rattle.sled_core.proofs.Line.Last.{last_changed}
 use Rattle.sled_core.proofs.Line.LineEnds.{end_at_last, end_last, first_at_last, kept_same, noted_later, noted_same}
 use Rattle.sled_core.proofs.Numbers.HidesAs.{from_as}
 use Rattle.sled_core.proofs.Line.Moves.{fits_as, holds_as}
+use Rattle.sled_core.proofs.Line.PassedMarks.{passed_up}
 use Rattle.sled_core.proofs.Line.OpenPlaces.{places_reserved}
 use Rattle.sled_core.proofs.Line.Reserves.{HasPlaceFor, awaits_reserved, line_fits_reserved, line_reserved, slots_reserved}
 use Rattle.sled_core.proofs.Line.Segments.{line_segments}
@@ -233,6 +234,8 @@ module _ {D C : Type 0} (trace : D → Trace) (sum : List ℕ → ℕ) (old new 
         (line_of old) (at_last (reserved_now more r) (line_of old)) (logged H) (λ k. refl) (λ k. refl)
         (same_shown (state_of (trace (device_of old))).log.bytes)
         (omega (arith, end_at_last its_size (reserved_now more r) (λ _. refl) (line_of old))) (its.hides none zeros)) its.marked
+        (λ none. passed_up (written_to (line_of old)) (written_to (at_last (reserved_now more r) (line_of old)))
+        (let same = kept_written v vs in omega (arith, same)) H.batches sum (state_of (trace (device_of old))).snapshots.file old.marks (its.passed none))
         (record {
           reach = its.shows.reach;
           parts = line_fits_reserved sum its_size more r (shown_of trace old) (fault_of old) _ its.shows.reach (pins_of old) H A f U v vs fits its.shows.parts;

@@ -1,5 +1,5 @@
 -- A log at each moment of the write of one of its sealed buffers, once that failed, and once it is done: what it held and fitted it holds and fits.
-use Rattle.std.proofs.Common.{◌≡◌, ◌∙◌, ◌<◌, ◌≤◌, ◌≤ℤ◌, ◌+◌, ap, refl, sym, arith, subst, ℕ, zero, suc, pos, List, [], ◌∷◌, length, map, set, Option, None}
+use Rattle.std.proofs.Common.{◌≡◌, ◌∙◌, ◌⊎◌, ◌<◌, ◌≤◌, ◌≤ℤ◌, ◌+◌, ap, refl, sym, arith, subst, ℕ, zero, suc, pos, List, [], ◌∷◌, length, map, set, Option, None}
 use Rattle.std.proofs.Common.{Some, inl, inr}
 use Rattle.std.specs.List.{slice_get}
 use Rattle.std.specs.declared.io.Error.{Error as IoError}
@@ -35,7 +35,7 @@ use Rattle.sled_core.specs.LogSegments.{begins_from}
 use Rattle.sled_core.specs.inside.Cleared.{is_stale}
 use Rattle.sled_core.specs.inside.FreeSlots.{HasSlots}
 use Rattle.sled_core.specs.inside.LogSegments.{held_since}
-use Rattle.sled_core.specs.inside.MarksFit.{MarkStands, MarksFitFrom}
+use Rattle.sled_core.specs.inside.MarksFit.{ArePassedFrom, MarkStands, MarksFitFrom}
 use Rattle.sled_core.specs.inside.OwnLog.{HasPlacedFile, IsOwnFile}
 use Rattle.sled_core.specs.inside.Shown.{shown}
 use Rattle.sled_core.specs.Recoverable.{LeavesRecoverable, NoHeaderOfZeros}
@@ -52,12 +52,13 @@ use Rattle.sled_core.proofs.Holds.FitsBatches.{batches_left, batches_up}
 use Rattle.sled_core.proofs.Holds.BufferEnds.{written_behind}
 use Rattle.sled_core.proofs.Line.Accounts.{account_raised}
 use Rattle.sled_core.proofs.Line.Ends.{line_holds}
+use Rattle.sled_core.proofs.Line.PassedMarks.{passed_joins, passed_up}
 use Rattle.sled_core.proofs.Line.Faulty.{fits_shown_faulty, fits_with_device, holds_faulty, holds_with_device, names_written, numbers_placed}
 use Rattle.sled_core.proofs.Line.LeftWrites.{left_writes}
 use Rattle.sled_core.proofs.Line.LineEnds.{end_left, end_set, first_set}
-use Rattle.sled_core.proofs.Line.MarksJoin.{IsMarkLow, fits_joined, greater_above, greater_low, holds_joined, low_further, marks_low, slots_raised}
+use Rattle.sled_core.proofs.Line.MarksJoin.{IsMarkLow, fits_joined, greater_above, greater_has, holds_joined, low_further, marks_low, slots_raised}
 use Rattle.sled_core.proofs.Line.WriteHides.{hides_behind}
-use Rattle.sled_core.proofs.Line.WriteMarks.{mark_low, marks_written}
+use Rattle.sled_core.proofs.Line.WriteMarks.{mark_low, mark_passed, marks_written}
 use Rattle.sled_core.proofs.Line.NthOpen.{line_with, nth_same}
 use Rattle.sled_core.proofs.Line.Promotes.{end_promoted, holds_promoted}
 use Rattle.sled_core.proofs.Holds.Facts.{nth_facts}
@@ -217,9 +218,12 @@ module _ {D C : Type 0} (log : Log D C) (n k : ℕ) (r : IsReadyIn (line_of log)
     same_log has now none = shown_written sum size log.config.config.least device log.fault.kept whole v k r.buffer r.there r.ready
         log.segments.first.site.place line (line_segments log) n r.among slots sees.log.bytes has now none
 
-    -- The marks behind the write: the greatest that is on the device may be that of the buffer, and what joined isn't lower than before.
+    -- The marks behind the write: the greatest that is on the device may be that of the buffer, and what joined isn't lower than before: it is what joined
+    -- then, or the greatest.
     abbrev pub Joins : JoinedMarks → Type 0
-    Joins marks = (log.marks.joined ≤ℤ marks.joined) × (marks.durable ≡ greater_mark (mark_of k v) log.marks.durable)
+    Joins marks =
+        (log.marks.joined ≤ℤ marks.joined) × (marks.durable ≡ greater_mark (mark_of k v) log.marks.durable)
+        × ((marks.joined ≡ log.marks.joined) ⊎ (marks.joined ≡ greater_mark (mark_of k v) log.marks.durable))
 
     -- (where none joins)
     abbrev marks_behind : JoinedMarks
@@ -230,12 +234,12 @@ module _ {D C : Type 0} (log : Log D C) (n k : ℕ) (r : IsReadyIn (line_of log)
     }
 
     joins_behind : Joins marks_behind
-    joins_behind = (omega (arith, ints), refl)
+    joins_behind = (omega (arith, ints), refl, inl refl)
 
     mark_of_line : HasSlots size line sees.log.bytes log.fault.kept slots → (H : History) → HoldsLine sum log.marks size sees log.fault.kept line H
         → IsMarkLow size line (greater_mark (mark_of k v) log.marks.durable)
     mark_of_line has H holds =
-        greater_low size line (mark_of k v) log.marks.durable (marks_low sum log.marks size sees log.fault.kept line H holds)
+        greater_has (IsMarkLow size line) (mark_of k v) log.marks.durable (marks_low sum log.marks size sees log.fault.kept line H holds)
         (mark_low sum size log.config.config.least sees log.fault.kept whole v k r.buffer r.there r.ready log.segments.first.site.place line (line_segments log)
         n r.among slots has H log.marks holds)
 
@@ -323,6 +327,15 @@ module _ {D C : Type 0} (log : Log D C) (n k : ℕ) (r : IsReadyIn (line_of log)
               (fits.marked whole zeros first begins).stands)));
         }
 
+        -- Each of them is passed.
+        passed_now : ArePassedFrom sum device.snapshots.file (written_to line_left) H.batches marks
+        passed_now =
+            passed_up (written_to line) (written_to line_left) end_grows H.batches sum device.snapshots.file marks
+            (λ first begins. passed_joins first (written_to line) H.batches (mark_of k v) log.marks marks
+            (mark_passed sum size log.config.config.least sees log.fault.kept whole v k r.buffer r.there r.ready log.segments.first.site.place line
+            (line_segments log) n r.among slots has (logged H) log.marks held first)
+            joins.2 joins.1 (fits.passed whole first begins))
+
         -- What is held counts from no lower place.
         base_up : begins_from size log.marks.joined ≤ begins_from size marks.joined
         base_up = begins_lower size log.config.config.least log.marks.joined marks.joined joins.0
@@ -356,6 +369,7 @@ module _ {D C : Type 0} (log : Log D C) (n k : ℕ) (r : IsReadyIn (line_of log)
               (hides_behind sum log.marks (noted_in log) size log.config.config.least device log.fault.kept whole zeros slots log.pins H A f U
               log.segments.first.site.place line (line_segments log) fits.shows (fits.hides whole zeros) n v r.among k r.buffer r.there r.ready);
           marked = λ none zeros. marked_now zeros;
+          passed = λ none. passed_now;
         }
 
       -- so at each moment of the calls a crash leaves what can be recovered, as it does of what is shown.

@@ -1,5 +1,5 @@
 -- A mark joins: segments one behind another hold and fit what they did, where no mark is above what is written of the first one, nor its segment above that.
-use Rattle.std.proofs.Common.{◌≡◌, ◌*◌, ◌/◌, ◌%◌, ◌+◌, ◌≤◌, ◌<ℤ◌, ◌≤ℤ◌, ℕ, ℤ, pos, negsuc, Bool, true, false, if◌then◌else◌, List, [], ◌∷◌, map, Option, None, Some, refl, sym, ap, subst, arith, inl, inr}
+use Rattle.std.proofs.Common.{◌≡◌, ◌⊎◌, ◌*◌, ◌/◌, ◌%◌, ◌+◌, ◌≤◌, ◌<ℤ◌, ◌≤ℤ◌, ℕ, ℤ, pos, negsuc, Bool, true, false, if◌then◌else◌, List, [], ◌∷◌, map, Option, None, Some, refl, sym, ap, subst, arith, inl, inr}
 use Rattle.std.specs.Prelude.{int_lt}
 use Rattle.std.specs.declared.io.Error.{Error as IoError}
 use Rattle.std.proofs.lemmas.Bool.{cases_lt}
@@ -57,14 +57,13 @@ low_under size big place line are aligned ends (pos n) under = record {
       ]);
 }
 
--- So it is with the greater one of two, and where more is written and the first segment is a later one.
-pub greater_low : (size : ℕ) (line : List SegmentView) (o : Option ℤ) (durable : ℤ) → IsMarkLow size line durable
-    → ((mark : ℤ) → o ≡ Some mark → IsMarkLow size line mark) → IsMarkLow size line (greater_mark o durable)
-greater_low size line None durable low others = low
-greater_low size line (Some mark) durable low others = by (int_lt durable mark) where
-  by : (b : Bool) → IsMarkLow size line (if b then mark else durable)
+-- What is so with each of two is so with the greater one.
+pub greater_has : (P : ℤ → Type 0) (o : Option ℤ) (durable : ℤ) → P durable → ((mark : ℤ) → o ≡ Some mark → P mark) → P (greater_mark o durable)
+greater_has P None durable has others = has
+greater_has P (Some mark) durable has others = by (int_lt durable mark) where
+  by : (b : Bool) → P (if b then mark else durable)
   by true = others mark refl
-  by false = low
+  by false = has
 
 -- It isn't below the other one: so where it joins the mark that joined isn't lower than that before.
 pub greater_above : (o : Option ℤ) (durable : ℤ) → durable ≤ℤ greater_mark o durable
@@ -79,6 +78,12 @@ pub joined_up : (pinned : Bool) (o : Option ℤ) (old now : JoinedMarks) → now
 joined_up true o old now is = omega (arith, ints, is)
 joined_up false o old now is = let up = greater_above o old.durable in let ordered = old.ordered in omega (arith, ints, is, up, ordered)
 
+-- It is the greatest one, or that which joined before.
+pub joined_as : (pinned : Bool) (now old greatest : ℤ) → now ≡ (if pinned then old else greatest) → (now ≡ old) ⊎ (now ≡ greatest)
+joined_as true now old greatest is = inl is
+joined_as false now old greatest is = inr is
+
+-- A mark is low where more is written and the first segment is a later one.
 pub low_further : (size : ℕ) (line later : List SegmentView) → written_to line ≤ written_to later → first_place line ≤ first_place later → (mark : ℤ)
     → IsMarkLow size line mark → IsMarkLow size later mark
 low_further size line later more up mark low = record {

@@ -52,6 +52,7 @@ use Rattle.sled_core.proofs.Line.Last.{All-at_last, at_last_same, at_last_twice,
 use Rattle.sled_core.proofs.Line.LineEnds.{end_at_last, end_last, first_at_last, kept_same, noted_later, noted_same}
 use Rattle.sled_core.proofs.Numbers.HidesAs.{from_as}
 use Rattle.sled_core.proofs.Line.Moves.{fits_as, holds_as}
+use Rattle.sled_core.proofs.Line.PassedMarks.{passed_up}
 use Rattle.sled_core.proofs.Line.OpenPlaces.{places_sealed}
 use Rattle.sled_core.proofs.OwnLog.Calls.{own_sealed}
 use Rattle.sled_core.proofs.Sealed.Appended.{end_one}
@@ -207,6 +208,8 @@ module _ {D C : Type 0} (trace : D → Trace) (sum : List ℕ → ℕ) (old new 
         (line_of old) (at_last sealed_now (line_of old)) (logged H) (λ k. refl) (λ k. refl)
         (same_shown (state_of (trace (device_of old))).log.bytes) (omega (arith, end_at_last size sealed_now (λ _. refl) (line_of old)))
         (fits.hides none zeros)) fits.marked
+        (λ none. passed_up (written_to (line_of old)) (written_to (at_last sealed_now (line_of old))) (let same = kept_written v vs in omega (arith, same))
+        H.batches sum (state_of (trace (device_of old))).snapshots.file old.marks (fits.passed none))
         (record {
           reach = fits.shows.reach;
           parts = line_fits_sealed sum size (shown_of trace old) (fault_of old) _ fits.shows.reach (pins_of old) H A f U v vs its fits.shows.parts;

@@ -21,10 +21,10 @@ use Rattle.sled_core.specs.Recoverable.{NoHeaderOfZeros}
 use Rattle.sled_core.specs.OpenBatches.{stable_below}
 use Rattle.sled_core.specs.Running.{end_below}
 use Rattle.sled_core.specs.inside.Cleared.{cleared}
-use Rattle.sled_core.specs.inside.Fits.{HoldsLine, HoldsShown, HoldsWith}
+use Rattle.sled_core.specs.inside.Fits.{HoldsLine, HoldsShown, HoldsWith, written_to}
 use Rattle.sled_core.specs.inside.FreeSlots.{HasSlot, HasSlots}
 use Rattle.sled_core.specs.inside.Running.{FitsShown, FitsWith}
-use Rattle.sled_core.specs.inside.MarksFit.{MarksFitFrom}
+use Rattle.sled_core.specs.inside.MarksFit.{ArePassedFrom, MarksFitFrom}
 use Rattle.sled_core.specs.inside.Hides.{HidesFrom}
 use Rattle.sled_core.specs.inside.Shown.{RestsWhole, shown}
 use Rattle.sled_core.specs.Tail.{least_place}
@@ -83,14 +83,16 @@ module _ (sum : List ℕ → ℕ) (noted : List Batch) (size : ℕ) (device : St
   pub fits_shown : (marks : JoinedMarks) (pins : ℕ) (H : History) (A f : ℕ) (U : List Message)
       → (fault ≡ None → NoHeaderOfZeros sum → HidesFrom sum size (begins_from size marks.joined) device m' line' (logged H))
       → (fault ≡ None → NoHeaderOfZeros sum → MarksFitFrom sum size device.snapshots.file (cleared size m line device.log.bytes) marks)
+      → (fault ≡ None → ArePassedFrom sum device.snapshots.file (written_to line') H.batches marks)
       → FitsWith sum marks noted size (shown size fault m line device) fault line' m' pins H A f U
       → FitsShown sum marks noted size device fault line' m' pins H A f U
-  fits_shown marks pins H A f U hides marked fits = record {
+  fits_shown marks pins H A f U hides marked passed fits = record {
     shows = subst (λ (d : State). FitsWith sum marks noted size d fault line' m' pins H A f U) (sym (shown_same size fault m m' line line' same device)) fits;
     rests = rests;
     hides = hides;
     marked = λ none zeros.
         subst (λ (l : List ℕ). MarksFitFrom sum size device.snapshots.file l marks) (sym (same device.log.bytes)) (marked none zeros);
+    passed = passed;
   }
 
 -- A log that holds a history over its device, as one does that begins, shows the device itself, and hides nothing.
@@ -123,7 +125,8 @@ module _ (sum : List ℕ → ℕ) (size : ℕ) (big : 256 ≤ size) (t : Trace) 
     }
 
     pub fits_begun : (marks : JoinedMarks) (pins : ℕ) (H : History) (A f : ℕ) (U : List Message)
-        → ((first : SnapshotModel) → BeginsFrom sum device.snapshots.file first → marks.durable ≡ pos (stable_place first.stable))
+        → ((first : SnapshotModel) → BeginsFrom sum device.snapshots.file first
+        → (marks.joined ≡ pos (stable_place first.stable)) × (marks.durable ≡ pos (stable_place first.stable)))
         → FitsWith sum marks noted size device None line m pins H A f U → FitsShown sum marks noted size device None line m pins H A f U
     fits_begun marks pins H A f U at fits =
         let held = line_holds sum size device None _ line fits.reach pins H A f U fits.parts in
@@ -133,11 +136,12 @@ module _ (sum : List ℕ → ℕ) (size : ℕ) (big : 256 ≤ size) (t : Trace) 
           hides = λ none zeros first begins.
               hides_at_rest sum size t m line (begins_same marks (logged H) held fits.slots) (begins_rests marks (logged H) held fits.slots)
               (fits.numbers zeros) fits.slots.own (least_place size first) (begins_from size marks.joined) (logged H)
-              (let same = at first begins in let ordered = marks.ordered in
+              (let same = (at first begins).1 in let ordered = marks.ordered in
               begins_lower size big marks.joined (pos (stable_place first.stable)) (omega (arith, ints, same, ordered)));
           -- the marks are the place with which it began
           marked = λ none zeros first begins.
-              record { joined = marks.ordered; stands = inl (let same = at first begins in omega (arith, ints, same)) };
+              record { joined = marks.ordered; stands = inl (let same = (at first begins).1 in omega (arith, ints, same)) };
+          passed = λ none first begins. let same = at first begins in record { joined = inl same.0; durable = inl same.1 };
         }
 
 -- Of segments of which there is one: another count of pins fits, where one is out while there are messages that aren't marked,

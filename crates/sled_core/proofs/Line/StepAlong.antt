@@ -1,7 +1,7 @@
 -- The calls of a step of the accountant, over the slots as they are behind it: a log at rest fits what it fitted behind each blob that is removed, and behind
 -- each cut with its sync. So what a crash leaves at each moment of them can be recovered, and lasts; and a log that keeps a failure from
 -- then on fits the history.
-use Rattle.std.proofs.Common.{◌≡◌, ◌≢◌, ◌⊎◌, ◌∙◌, ◌+◌, ◌*◌, ◌/◌, ◌<◌, ◌≤◌, ◌<ℤ◌, ◌≤ℤ◌, ℕ, ℤ, pos, true, false, Bool, List, [], ◌∷◌, length, None, Some, refl}
+use Rattle.std.proofs.Common.{◌≡◌, ◌≢◌, ◌∙◌, ◌+◌, ◌*◌, ◌/◌, ◌<◌, ◌≤◌, ℕ, ℤ, pos, true, false, Bool, List, [], ◌∷◌, length, None, Some, refl}
 use Rattle.std.proofs.Common.{sym, subst, arith, inl, inr}
 use Rattle.std.proofs.Math.Nat.{mul-mod_left}
 use Rattle.std.specs.List.{Contains}
@@ -133,33 +133,13 @@ module _ (sum : List ℕ → ℕ) (marks : JoinedMarks) (noted : List Batch) (si
   some : 0 < size
   some = omega (arith, big)
 
-  -- What is placed stands in a file at rest. Where zeros are no header what lies below the mark is stable.
-  pub fits_at : (t : Trace) (fits : FitsShown sum marks noted size (state_of t) None line m pins H A f U)
-      → Passes fits.shows.reach → FitsNow (state_of t)
-  fits_at t fits past = record {
-    fits = fits;
-    past = past;
-    headers = header_stood sum size t (state_of t).log.bytes (fits.rests refl);
-    records = record_stood sum size t (state_of t).log.bytes (fits.rests refl);
-  }
-
-  pub passes_zeros : (s : State) (fits : FitsShown sum marks noted size s None line m pins H A f U) → NoHeaderOfZeros sum → Passes fits.shows.reach
-  passes_zeros s fits zeros x there ends =
-      let up = (fits.shows.in_slots fits.shows.account.first fits.shows.account.begins).not_above zeros in
-      let under = ends_above size base some x ends in
-      omega (arith, up, under)
-
-  -- So it is where the mark lies below what is written, and in no batch: or is the place with which the log began.
-  pub passes_apart : (s : State) (fits : FitsShown sum marks noted size s None line m pins H A f U)
-      → (marks.joined ≡ pos (stable_place fits.shows.parts.holds.begun.first.stable))
-      ⊎ ((marks.joined <ℤ pos (v.parts.site.place + v.parts.written_len))
-      × ((b : Batch) → Contains H.batches b → (marks.joined <ℤ pos b.low) ⊎ (pos b.peg ≤ℤ marks.joined)))
-      → Passes fits.shows.reach
-  passes_apart s fits how x there ends = elim (stable_is fits.shows.reach H.batches) [
+  -- What lies below the segment of the mark that joined is stable, since that mark is passed.
+  passes_apart : (s : State) (fits : FitsShown sum marks noted size s None line m pins H A f U) → Passes fits.shows.reach
+  passes_apart s fits x there ends = elim (stable_is fits.shows.reach H.batches) [
     | inl all ↦ omega (arith, all, read)
     | inr (b, known, at, is_open) ↦ elim (cases_lt x.place b.low) [
       | inl front ↦ omega (arith, front, at)
-      | inr within ↦ absurd (elim how [
+      | inr within ↦ absurd (elim (fits.passed refl begun.first begun.begins).joined [
         | inl began ↦ (
             let start : ℕ = stable_place begun.first.stable in
             let low : base ≤ start = begins_under size marks.joined start (omega (arith, ints, began)) in
@@ -192,6 +172,15 @@ module _ (sum : List ℕ → ℕ) (marks : JoinedMarks) (noted : List Batch) (si
       | inr far ↦ omega (arith, far, short)
     ]
 
+  -- What is placed stands in a file at rest.
+  pub fits_at : (t : Trace) → FitsShown sum marks noted size (state_of t) None line m pins H A f U → FitsNow (state_of t)
+  fits_at t fits = record {
+    fits = fits;
+    past = passes_apart (state_of t) fits;
+    headers = header_stood sum size t (state_of t).log.bytes (fits.rests refl);
+    records = record_stood sum size t (state_of t).log.bytes (fits.rests refl);
+  }
+
   -- A blob is removed, or may be, of which each message that names it is replaced below the mark's segment.
   pub removed_at : (p : ℤ) → IsSpent size base H p → (s : State) (done : Bool) → FitsNow s → FitsNow (step (BlobRemoved p done) s)
   removed_at p spent s done its = record {
@@ -200,6 +189,7 @@ module _ (sum : List ℕ → ℕ) (marks : JoinedMarks) (noted : List Batch) (si
       rests = its.fits.rests;
       hides = λ none zeros. from_names sum size s (step (BlobRemoved p done) s) m line (logged H) refl refl refl (its.fits.hides none zeros);
       marked = its.fits.marked;
+      passed = its.fits.passed;
     };
     past = λ x there ends. let low = its.past x there ends in let up = now.past in omega (arith, low, up);
     headers = its.headers;
@@ -340,6 +330,7 @@ module _ (sum : List ℕ → ℕ) (marks : JoinedMarks) (noted : List Batch) (si
             subst (λ (y : SnapshotModel). MarksFit sum size (cleared size m line short) y marks.joined marks.durable)
             (one_begin sum s.snapshots.file first x begins from)
             (let fit = its.fits.marked refl zeros first begins in record { joined = fit.joined; stands = mark_front zeros fit.stands });
+        passed = its.fits.passed;
       };
       past = its.past;
       headers = λ at text laid. header_stands short s.placed at text laid;

@@ -108,4 +108,5 @@ module _ (sum : List ℕ → ℕ) (marks : JoinedMarks) (noted : List Batch) (si
       rests = λ none. cc;
       hides = λ none zeros. cc;
       marked = λ none zeros. cc;
+      passed = λ none. cc;
     }

@@ -251,6 +251,7 @@ module _ (sum : List ℕ → ℕ) (marks : JoinedMarks) (noted : List Batch) (si
           subst (λ (y : SnapshotModel). MarksFit sum size (cleared size after line log) y marks.joined marks.durable)
           (one_begin sum s.snapshots.file first x begins from)
           (let its = fits.marked refl zeros first begins in record { joined = its.joined; stands = mark_kept zeros its.stands });
+      passed = fits.passed;
     },
     refl,
   )

@@ -62,7 +62,7 @@ module _ {D C : Type 0} (old new : Log D C) (same : IsUnchanged old new) where
     history = λ H holds. holds_as trace sum old new same.config same.fault same.marks (noted_in old) same.noted (line_of old) same.line (machine_at old)
         same.machine (λ l. refl) holds.rests H holds.shows;
     fits = λ H A f U fits. fits_as trace sum old new same.config same.fault same.marks (noted_in old) same.noted (line_of old) same.line (machine_at old)
-        same.machine (λ l. refl) fits.rests H A f U same.pins fits.hides fits.marked fits.shows;
+        same.machine (λ l. refl) fits.rests H A f U same.pins fits.hides fits.marked fits.passed fits.shows;
     noted = noted_quiet old new same.noted unchanged_synced;
     kept = same.kept;
   }

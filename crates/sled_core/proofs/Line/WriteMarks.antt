@@ -1,11 +1,12 @@
--- A log writes a buffer: in what is shown behind that its marks stand, as the header with which the buffer begins, if it does with one, is found.
-use Rattle.std.proofs.Common.{◌≡◌, ◌∙◌, ◌⊎◌, ◌==◌, ◌<◌, ◌≤◌, ◌+◌, ◌*◌, ◌++◌, ℕ, suc, ℤ, pos, max, Bool, true, false, if◌then◌else◌, List, length, take, drop, Option, None, Some, refl, sym, ap, subst, arith, inl, inr, ◌<ℤ◌, zero, [], ◌∷◌}
+-- A log writes a buffer: in what is shown behind that its marks stand, as the header with which the buffer begins, if it does with one, is found; and that
+-- header's mark is passed.
+use Rattle.std.proofs.Common.{◌≡◌, ◌∙◌, ◌⊎◌, ◌==◌, ◌<◌, ◌≤◌, ◌≤ℤ◌, ◌+◌, ◌*◌, ◌++◌, ℕ, suc, ℤ, pos, max, Bool, true, false, if◌then◌else◌, List, length, take, drop, Option, None, Some, refl, sym, ap, subst, arith, inl, inr, ◌<ℤ◌, zero, [], ◌∷◌}
 use Rattle.std.proofs.Common.{take-append-drop}
-use Rattle.std.specs.List.{slice_get}
+use Rattle.std.specs.List.{Contains, slice_get}
 use Rattle.std.specs.declared.io.Error.{Error as IoError}
 use Rattle.std.proofs.lemmas.Bool.Decides.{nat_tests}
 use Rattle.std.proofs.lemmas.List.{take-take}
-use Rattle.sled_codec.specs.History.{History}
+use Rattle.sled_codec.specs.History.{Batch, History}
 use Rattle.sled_codec.specs.Record.{IsHeader}
 use Rattle.sled_codec.specs.Snapshots.{SnapshotModel}
 use Rattle.sled_store.specs.Device.{State, overwritten}
@@ -20,7 +21,7 @@ use Rattle.sled_core.specs.declared.iterator.Segment.{Segment}
 use Rattle.sled_core.specs.declared.logger.joined_marks.JoinedMarks.{JoinedMarks}
 use Rattle.sled_core.specs.inside.Fits.{HoldsLine, written_to}
 use Rattle.sled_core.specs.inside.FreeSlots.{HasSlot, HasSlots}
-use Rattle.sled_core.specs.inside.MarksFit.{MarkStands}
+use Rattle.sled_core.specs.inside.MarksFit.{IsPassed, MarkStands}
 use Rattle.sled_core.specs.inside.Scan.{IsFoundSegment}
 use Rattle.sled_core.specs.inside.SealedBuffers.{AreSealed, is_ready}
 use Rattle.sled_core.specs.inside.Slots.{marked_at}
@@ -111,6 +112,7 @@ module _ (sum : List ℕ → ℕ) (size : ℕ) (big : 256 ≤ size) (device : St
     mark : ℤ
     header : IsHeader sum (take 20 v.parts.bytes) (pos v.parts.site.place) mark
     under : mark <ℤ pos v.parts.site.place
+    apart : (b : Batch) → Contains H.batches b → (mark <ℤ pos b.low) ⊎ (pos b.peg ≤ℤ mark)
     is_mark : mark_of k v ≡ Some mark
     begins : asked ≡ take 20 v.parts.bytes ++ drop 20 asked
 
@@ -130,6 +132,7 @@ module _ (sum : List ℕ → ℕ) (size : ℕ) (big : 256 ≤ size) (device : St
         mark = has_mark.mark;
         header = header;
         under = has_mark.of_history.below;
+        apart = has_mark.of_history.apart;
         is_mark = its_mark ∙ ap (λ i. mark_at i asked) at_first ∙ ap (mark_at 0) begins ∙ header_mark sum text rest (pos v.parts.site.place) has_mark.mark header;
         begins = begins;
       })
@@ -147,18 +150,30 @@ module _ (sum : List ℕ → ℕ) (size : ℕ) (big : 256 ≤ size) (device : St
   first_or_later : (begin ≡ 0) ⊎ (20 ≤ begin)
   first_or_later = begins_so v.parts.written_len v.parts.reserved v.parts.sealed is.are begun k
 
-  -- Its mark is no higher than what is written.
-  pub mark_low : (mark : ℤ) → mark_of k v ≡ Some mark → IsMarkLow size line mark
-  mark_low mark its = elim first_or_later [
+  -- Its mark lies below what is written, and in no batch:
+  mark_apart : (mark : ℤ) → mark_of k v ≡ Some mark
+      → (mark <ℤ pos (written_to line)) × ((b : Batch) → Contains H.batches b → (mark <ℤ pos b.low) ⊎ (pos b.peg ≤ℤ mark))
+  mark_apart mark its = elim first_or_later [
     | inl at_first ↦ (
         let own = own_mark at_first in
         let both : Some mark ≡ Some own.mark = sym its ∙ own.is_mark in
         let same : mark ≡ own.mark = cc in
-        subst (IsMarkLow size line) (sym same)
-        (low_under size big place line are (first_begins sum size marks device fault line H holds) (written_short size place line are) own.mark
-        (mark_before sum marks size device fault line H holds n v among (omega (arith, lies.0, at_first)) own.mark own.header own.under)))
+        subst (λ z. (z <ℤ pos (written_to line)) × ((b : Batch) → Contains H.batches b → (z <ℤ pos b.low) ⊎ (pos b.peg ≤ℤ z))) (sym same) (
+          mark_before sum marks size device fault line H holds n v among (omega (arith, lies.0, at_first)) own.mark own.header own.under,
+          own.apart,
+        ))
     | inr later ↦ absurd (let both : None ≡ Some mark = sym (no_own_mark later) ∙ its in cc)
   ]
+
+  -- so it is no higher than that,
+  pub mark_low : (mark : ℤ) → mark_of k v ≡ Some mark → IsMarkLow size line mark
+  mark_low mark its =
+      low_under size big place line are (first_begins sum size marks device fault line H holds) (written_short size place line are) mark
+      (mark_apart mark its).0
+
+  -- and is passed.
+  pub mark_passed : (first : SnapshotModel) (mark : ℤ) → mark_of k v ≡ Some mark → IsPassed first (written_to line) H.batches mark
+  mark_passed first mark its = inr (mark_apart mark its)
 
   module _ (none : NoHeaderOfZeros sum) (first : SnapshotModel) (newest : BeginsFrom sum device.snapshots.file first) where
     abbrev least : ℕ

@@ -19,7 +19,7 @@ use Rattle.sled_core.specs.inside.FreeSlots.{HasSlots}
 use Rattle.sled_core.specs.inside.Hides.{HidesFrom}
 use Rattle.sled_core.specs.LogSegments.{begins_from}
 use Rattle.sled_core.specs.Logged.{logged}
-use Rattle.sled_core.specs.inside.MarksFit.{MarksFitFrom}
+use Rattle.sled_core.specs.inside.MarksFit.{ArePassedFrom, MarksFitFrom}
 use Rattle.sled_core.specs.inside.Numbers.{HasNumbers, HaveSlotsFrom, NumbersStay}
 use Rattle.sled_core.specs.OpenBatches.{stable_below}
 use Rattle.sled_core.specs.inside.OwnLog.{HasPlacedFile, ReadsPlaced}
@@ -133,6 +133,8 @@ pub record FitsShown (sum : List ℕ → ℕ) (marks : JoinedMarks) (noted : Lis
   pub hides : fault ≡ None → NoHeaderOfZeros sum → HidesFrom sum size (begins_from size marks.joined) device m line (logged H)
   -- the marks stand in the headers that are shown
   pub marked : fault ≡ None → NoHeaderOfZeros sum → MarksFitFrom sum size device.snapshots.file (cleared size m line device.log.bytes) marks
+  -- each of them is the place with which the log began, or lies below what is written, and in no batch
+  pub passed : fault ≡ None → ArePassedFrom sum device.snapshots.file (written_to line) H.batches marks
 
 -- Snapshot and device are ready for a log that fits this history, the end of what was acknowledged and the floor. Log file and snapshots have records and
 -- tables, so they are ready for the history as the log has it; the blobs have the items of the history itself.

@@ -230,16 +230,17 @@ returns-in-Ok-clause-fits g c = λ H A f ready.
     let place : to_z w64 c.stable_place.result ≡ pos (stable_place s.stable) = to_z_pos w64 c.stable_place.result c.stable_place.ensures.small ∙ ap pos c.stable_place.ensures.place in
     let marks : JoinedMarks = c.from_place.result in
     let at : BeginAt marks (stable_place s.stable) = (c.from_place.ensures.joined ∙ place, c.from_place.ensures.durable ∙ place) in
-    let durable = (λ (first : SnapshotModel) (begins : BeginsFrom g.C.Checksum.sum_of now.snapshots.file first).
-    c.from_place.ensures.durable ∙ place
-    ∙ ap pos (sym (start_place g.C.Checksum.sum_of size some (state_of old) s H A f ready c.in-Ok.ensures.answers.0 now.snapshots.file names first begins))) in
+    let began_at = (λ (first : SnapshotModel) (begins : BeginsFrom g.C.Checksum.sum_of now.snapshots.file first).
+    let there = ap pos (sym (start_place g.C.Checksum.sum_of size some (state_of old) s H A f ready c.in-Ok.ensures.answers.0
+    now.snapshots.file names first begins)) in
+    let both : BeginAt marks (stable_place first.stable) = (at.0 ∙ there, at.1 ∙ there) in both) in
     let parts =
     subst (λ (ss : List SegmentBuffer). FitsLine g.C.Checksum.sum_of marks c.begin.new.config.config.segment_size now None (line_at site c.in-Ok.buffer ss) (c.in-Ok.beginning.place + c.in-Ok.beginning.offset) 0 H A f []) (sym c.no_segments.ensures)
     (subst (λ n. FitsIn g.C.Checksum.sum_of marks (log_parts n site now None c.in-Ok.buffer.bytes.items c.in-Ok.buffer.written_len c.in-Ok.buffer.sealed.items c.in-Ok.buffer.reserved.items) [] (c.in-Ok.beginning.place + c.in-Ok.beginning.offset) 0 H A f []) (sym same)
     (start_fits g.C.Checksum.sum_of size (state_of old) now s H A f c.args.config.config.least ready c.in-Ok.ensures.answers.0
     log_now (ap (λ (t : Trace). (state_of t).blobs) c.in-Ok.ensures.made ∙ started-blobs size some (state_of old).log.bytes s old) (ap (λ (t : Trace). (state_of t).snapshots) c.in-Ok.ensures.made ∙ started-snapshots size some (state_of old).log.bytes s old)
     marks at c.in-Ok.beginning c.in-Ok.ensures.beginning c.in-Ok.buffer.bytes.items c.in-Ok.buffer.written_len c.in-Ok.buffer.sealed.items c.in-Ok.buffer.reserved.items first.header first.resumed first.from first.sealed first.reserved)) in
-    fits_begun g.C.Checksum.sum_of _ (omega (arith, c.args.config.config.least, same)) (g.D.Device.trace c.begin.new.config.device) _ _ _ marks _ H A f [] durable (record {
+    fits_begun g.C.Checksum.sum_of _ (omega (arith, c.args.config.config.least, same)) (g.D.Device.trace c.begin.new.config.device) _ _ _ marks _ H A f [] began_at (record {
       reach = c.in-Ok.beginning.place + c.in-Ok.beginning.offset;
       parts = parts;
       batches = started_batches c.begin.new.config.config.segment_size (view_at (record { place = c.in-Ok.beginning.place; slot = c.in-Ok.beginning.slot }) c.in-Ok.buffer) (map segment_view c.no_segments.result.items) (logged H) c.new-in-Ok.ensures.noted

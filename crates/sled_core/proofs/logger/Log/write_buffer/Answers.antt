@@ -1,4 +1,4 @@
-use Rattle.std.proofs.Common.{nat_lt, if◌then◌else◌, ◌≡◌, ◌∙◌, List, ℕ, ap, sym, subst, refl, arith, rules, length, deque_len, map, set, true, Option, None, Some, Err, inl, inr, ◌≤ℤ◌}
+use Rattle.std.proofs.Common.{nat_lt, if◌then◌else◌, ◌≡◌, ◌∙◌, List, ℕ, ℤ, Bool, ap, sym, subst, refl, arith, rules, length, deque_len, map, set, true, Option, None, Some, Err, inl, inr, ◌≤ℤ◌}
 use Rattle.std.specs.declared.io.Error.{Error as IoError}
 use Rattle.sled_codec.specs.declared.result.Error.{Error}
 use Rattle.sled_codec.specs.declared.result.Error.TheVariants.{Io, OutOfMemory}
@@ -58,7 +58,7 @@ use Rattle.sled_core.proofs.Line.AccountBehind.{account_same, ledger_same}
 use Rattle.sled_core.proofs.Line.FreeingStep.{no_more, nothing_done}
 use Rattle.sled_core.proofs.Line.KeptCalls.{position_place}
 use Rattle.sled_core.proofs.Line.LogSpans.{same_with}
-use Rattle.sled_core.proofs.Line.MarksJoin.{joined_up, joins_same}
+use Rattle.sled_core.proofs.Line.MarksJoin.{joined_as, joined_up, joins_same}
 use Rattle.sled_core.specs.declared.logger.joined_marks.JoinedMarks.{JoinedMarks}
 
 -- The same batches are noted,
@@ -87,6 +87,20 @@ position_kept old n k r m its sizes line slots =
     (λ i. position_in (sizes i) (last_of r.segment (line i)) (slots i))
     ∙ ap At (last_promoted (segment_size_of old) r.segment (set (line_of old) n (written_now k r.segment)))
     ∙ last_set At r.segment (line_of old) n r.segment (written_now k r.segment) r.among refl
+
+-- The mark that joins is the one that did, or the greatest on the device, where the header's counts.
+joined_so : {D C : Type 0} (old mid : Log D C) (n k : ℕ) (r : IsReadyIn (line_of old) n k) (trace : D → Trace) (sum : List ℕ → ℕ)
+    (whole : old.fault.kept ≡ None) (marks : JoinedMarks) (pinned : Bool) (o : Option ℤ) → o ≡ mark_of k r.segment → mid.marks ≡ old.marks
+    → marks.joined ≡ (if pinned then mid.marks.joined else greater_mark o mid.marks.durable) → marks.durable ≡ greater_mark o mid.marks.durable
+    → Joins old n k r trace sum whole marks
+joined_so old mid n k r trace sum whole marks pinned o mark same joined durable = (
+  subst (λ (x : JoinedMarks). x.joined ≤ℤ marks.joined) same (joined_up pinned o mid.marks marks joined),
+  durable ∙ (λ j. greater_mark (mark j) (same j).durable),
+  elim (joined_as pinned marks.joined mid.marks.joined (greater_mark o mid.marks.durable) joined) [
+    | inl kept ↦ inl (kept ∙ (λ j. (same j).joined))
+    | inr joins ↦ inr (joins ∙ (λ j. greater_mark (mark j) (same j).durable))
+  ],
+)
 
 -- A write that was refused changed nothing on the device, unless that failed.
 unless_fault : (T : Type 0) (e : Error) (fault : Option IoError) (before after : ℕ) (old new : Trace) → Answers {T = T} (Err e) None fault before after → (fault ≡ None → new ≡ old) → UnlessFault {T = T} (Err e) old new
@@ -265,10 +279,9 @@ returns-clause-keeps g c = record {
       let slots = ap machine_of rest.accountant in
       let line = returns-clause-line g c r.segment r.among in
       let mark = c.mark_of-mark.ensures r.segment (ap (λ (l : List SegmentView). slice_get l c.args.n) (same_line old mid rest) ∙ r.among) in
-      let joins : Joins old c.args.n c.args.k r g.D.Device.trace g.C.Checksum.sum_of c.requires.fault c.note_mark.new.self = (
-        subst (λ (x : JoinedMarks). x.joined ≤ℤ c.note_mark.new.self.joined) rest.marks (joined_up _ _ mid.marks c.note_mark.new.self c.note_mark.ensures.joined),
-        c.note_mark.ensures.durable ∙ (λ j. greater_mark (mark j) (rest.marks j).durable),
-      ) in
+      let joins =
+      joined_so old mid c.args.n c.args.k r g.D.Device.trace g.C.Checksum.sum_of c.requires.fault c.note_mark.new.self _ _ mark rest.marks
+      c.note_mark.ensures.joined c.note_mark.ensures.durable in
       record {
         goes_on = record {
           config = record { config = rest.config; checksum = rest.checksum };
@@ -354,7 +367,6 @@ returns-clause-joined g c = λ H holds.
     let r = c.requires.ready in
     let rest = c.in_ok-write_bytes.ensures.rest in
     let mark = c.mark_of-mark.ensures r.segment (ap (λ (l : List SegmentView). slice_get l c.args.n) (same_line old mid rest) ∙ r.among) in
-    mark_joins old c.args.n c.args.k r g.D.Device.trace g.C.Checksum.sum_of c.requires.fault c.note_mark.new.self (
-      subst (λ (x : JoinedMarks). x.joined ≤ℤ c.note_mark.new.self.joined) rest.marks (joined_up _ _ mid.marks c.note_mark.new.self c.note_mark.ensures.joined),
-      c.note_mark.ensures.durable ∙ (λ j. greater_mark (mark j) (rest.marks j).durable),
-    ) H holds
+    mark_joins old c.args.n c.args.k r g.D.Device.trace g.C.Checksum.sum_of c.requires.fault c.note_mark.new.self
+    (joined_so old mid c.args.n c.args.k r g.D.Device.trace g.C.Checksum.sum_of c.requires.fault c.note_mark.new.self _ _ mark rest.marks
+    c.note_mark.ensures.joined c.note_mark.ensures.durable) H holds
