@@ -86,10 +86,11 @@ pub record SamePosition {D C : Type 0} (old new : Log D C) : Type 0 where
   pub size : segment_size_of new ≡ segment_size_of old
 
 -- So it is with a call that writes buffers, but that slots may come free by it, and a segment that isn't begun yet gets one of those. While a pin is out none
--- comes free.
+-- comes free; and as yet none does without one (`position`).
 pub record SamePlace {D C : Type 0} (old new : Log D C) : Type 0 where
   pub place : next_place new ≡ next_place old
   pub pinned : 0 < pins_of old → position_of new ≡ position_of old
+  pub position : position_of new ≡ position_of old
   pub reserved : reserved_end new ≡ reserved_end old
   pub pins : pins_of new ≡ pins_of old
   pub size : segment_size_of new ≡ segment_size_of old

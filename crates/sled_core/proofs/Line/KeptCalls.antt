@@ -99,19 +99,27 @@ position_further old mid new first then = record { position = then.position ∙ 
 
 -- So it is where slots come free.
 pub place_still : {D C : Type 0} (log : Log D C) → SamePlace log log
-place_still log = record { place = refl; pinned = λ pinned. refl; reserved = refl; pins = refl; size = refl }
+place_still log = record { place = refl; pinned = λ pinned. refl; position = refl; reserved = refl; pins = refl; size = refl }
 
 pub place_further : {D C : Type 0} (old mid new : Log D C) → SamePlace old mid → SamePlace mid new → SamePlace old new
 place_further old mid new first then = record {
   place = then.place ∙ first.place;
   pinned = λ pinned. then.pinned (let same = first.pins in omega (arith, pinned, same)) ∙ first.pinned pinned;
+  position = then.position ∙ first.position;
   reserved = then.reserved ∙ first.reserved;
   pins = then.pins ∙ first.pins;
   size = then.size ∙ first.size;
 }
 
 pub position_place : {D C : Type 0} (old new : Log D C) → SamePosition old new → SamePlace old new
-position_place old new same = record { place = ap (λ (q : Position). q.place) same.position; pinned = λ pinned. same.position; reserved = same.reserved; pins = same.pins; size = same.size }
+position_place old new same = record {
+  place = ap (λ (q : Position). q.place) same.position;
+  pinned = λ pinned. same.position;
+  position = same.position;
+  reserved = same.reserved;
+  pins = same.pins;
+  size = same.size;
+}
 
 -- While a pin is out none does.
 pub place_pinned : {D C : Type 0} (old new : Log D C) → 0 < pins_of old → SamePlace old new → SamePosition old new

@@ -328,6 +328,7 @@ returns-clause-keeps g c = record {
       record {
         place = ap (λ (q : Position). q.place) at;
         pinned = λ pinned. at;
+        position = at;
         reserved = rest.reserved;
         pins = rest.pins;
         size = kept_size old mid rest;
