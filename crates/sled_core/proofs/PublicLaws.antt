@@ -61,6 +61,7 @@ pub use Rattle.sled_core.proofs.Line.Fillings.{end_off}
 pub use Rattle.sled_core.proofs.Line.NoneLeft.{noted_pegs}
 -- While a pin is out no segment is freed.
 pub use Rattle.sled_core.proofs.Line.Pinned.{pinned_around, pinned_at, pinned_below, pinned_pending, pinned_some, pinned_synced}
+pub use Rattle.sled_core.proofs.Line.FreeingStep.{writings_alike}
 pub use Rattle.sled_core.proofs.Line.PinnedWrites.{ledger_account, machine_pinned}
 pub use Rattle.sled_core.proofs.Stable.OfLog.{stable_of_log}
 pub use Rattle.sled_core.proofs.Line.WholeBuffers.{buffers_whole}

@@ -211,6 +211,12 @@ pub fn a_pin_defers_freeing<D: Device, C: Checksum>()
         → synced_writes new ≡ count + synced_writes old → syncs new ≡ count + syncs old }
 {}
 
+/// As yet no write frees a segment, whether a pin is out or not: what is written of buffers is the same whatever the slots and
+/// the marks are, so as where a pin is out (`a_pin_defers_freeing`).
+pub fn no_write_frees_a_segment_yet()
+    ensures { (size : ℕ) (bs : List BufferAt) (l other : Ledger) → writings size bs l ≡ writings size bs other }
+{}
+
 /// Marks join with the writes of buffers, whatever is freed behind them.
 pub fn marks_join_with_what_is_written()
     ensures { (size : ℕ) (bs : List BufferAt) (l : Ledger) → (ledger_behind size bs l).account ≡ account_behind bs l.account }
