@@ -61,7 +61,6 @@ pub use Rattle.sled_core.proofs.Line.Fillings.{end_off}
 pub use Rattle.sled_core.proofs.Line.NoneLeft.{noted_pegs}
 -- While a pin is out no segment is freed.
 pub use Rattle.sled_core.proofs.Line.Pinned.{pinned_around, pinned_at, pinned_below, pinned_pending, pinned_some, pinned_synced}
-pub use Rattle.sled_core.proofs.Line.FreeingStep.{writings_alike}
 pub use Rattle.sled_core.proofs.Line.PinnedWrites.{ledger_account, machine_pinned}
 pub use Rattle.sled_core.proofs.Stable.OfLog.{stable_of_log}
 pub use Rattle.sled_core.proofs.Line.WholeBuffers.{buffers_whole}
@@ -79,7 +78,7 @@ pub use Rattle.sled_core.proofs.Crash.OwnBehind.{lost_behind, read_own}
 pub use Rattle.sled_core.proofs.Crash.OwnLemmas.{lost_own, nothing_own, synced_own, written_own, zeros_by_place, zeros_no_header}
 pub use Rattle.sled_core.proofs.Crash.OwnRecords.{out_of_order_own}
 -- Helpers: a call that does nothing, a reservation of an item that fits inline, and a call that goes on without a blob, by their clauses; the acknowledged end of what a log fits; and that an inline message may come.
-pub use Rattle.sled_core.proofs.Line.KeptCalls.{goes_on_still, place_further, place_pinned, place_still}
+pub use Rattle.sled_core.proofs.Line.KeptCalls.{goes_on_still, place_further, place_pinned, place_still, writing_pinned}
 pub use Rattle.sled_core.proofs.Holds.ReachLemmas.{fits_acknowledged, inline_named}
 pub use Rattle.sled_core.proofs.Line.WithoutBlob.{alone_answers, alone_keeps, alone_same, without_further, without_none}
 pub use Rattle.sled_core.proofs.Line.ReservedInline.{ReservesInline, comes_inline, inline_keeps, inline_message, not_in_blob, refused_inline}

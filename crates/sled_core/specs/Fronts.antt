@@ -6,14 +6,16 @@ use Rattle.sled_codec.specs.declared.result.Error.TheVariants.{Io}
 use Rattle.sled_store.specs.Device.{Event, Trace, Synced, Wrote}
 use Rattle.sled_store.specs.SegmentStates.{Machine}
 use Rattle.sled_store.specs.Script.{after_all}
-use Rattle.sled_core.specs.Account.{account_of}
+use Rattle.sled_core.specs.Account.{account_behind, account_of}
 use Rattle.sled_core.specs.declared.logger.Log.{Log}
-use Rattle.sled_core.specs.Fits.{current_begin, device_of, fault_of, ledger_for, ledger_of, position_with, reserved_end, segment_size_of, start_of, synced_end}
-use Rattle.sled_core.specs.Fits.{waiting_of, writing_some}
-use Rattle.sled_core.specs.Keeps.{position_for, sealed_for, start_for}
+use Rattle.sled_core.specs.Fits.{current_begin, device_of, fault_of, ledger_for, ledger_of, machine_at, pins_of, position_with, reserved_end, segment_size_of}
+use Rattle.sled_core.specs.Fits.{start_of, synced_end, waiting_of, writing_some}
+use Rattle.sled_core.specs.Freeing.{Ledger}
+use Rattle.sled_core.specs.Keeps.{FailedStep, position_for, sealed_for, start_for}
 use Rattle.sled_core.specs.Ledger.{ledger_behind}
 use Rattle.sled_core.specs.Stable.{first_begin}
-use Rattle.sled_core.specs.ReadBuffer.{LeavesSealed, LeavesUnsealed, LeavesWritten, held_at, settling}
+use Rattle.sled_core.specs.Waiting.{BufferAt}
+use Rattle.sled_core.specs.ReadBuffer.{LeavesFailing, LeavesSealed, LeavesUnsealed, LeavesWritten, held_at, settling}
 
 -- how many times the log file was synced
 abbrev pub syncs : Trace → ℕ
@@ -45,17 +47,28 @@ pub record WroteNone {D C : Type 0} (trace : D → Trace) (old new : Log D C) : 
   pub still : fault_of new ≡ None → trace (device_of new) ≡ trace (device_of old)
   pub account : account_of new ≡ account_of old
 
+-- A log's slots and marks are these: or a buffer was written last, its mark counts, and the step behind it failed, so that slots are on the way.
+abbrev pub HasLedger : {D C : Type 0} → Log D C → Log D C → Ledger → Type 0
+HasLedger old new l = (account_of new ≡ l.account) × (FailedStep old new ⊎ (machine_at new ≡ l.machine))
+
 -- Those that begin below a place are sealed, and so many at the front were written; unless the device failed no other call was made.
 pub record WroteFront {D C : Type 0} (trace : D → Trace) (sum : List ℕ → ℕ) (to : ℕ) (old new : Log D C) : Type 0 where
   pub count : ℕ
   pub left : waiting_of new ≡ drop count (sealed_for sum to old)
   pub start : start_of new ≡ start_for to old
   pub position : (m : Machine) → position_with new m ≡ position_for to old m
-  pub ledger : ledger_of new ≡ ledger_behind (segment_size_of old) (take count (sealed_for sum to old)) (ledger_for to old)
+  pub ledger : HasLedger old new (ledger_behind (segment_size_of old) (take count (sealed_for sum to old)) (ledger_for to old))
   pub written : synced_writes (trace (device_of new)) ≡ count + synced_writes (trace (device_of old))
   pub whole : fault_of new ≡ None → trace (device_of new) ≡ after_all (writing_some count sum old to) (trace (device_of old))
-  -- not all is written that begins below the place
-  pub short : synced_end new < to
+  -- not all is written that begins below the place, or it failed behind one that was written
+  pub short : (FailedStep old new × (0 < count)) ⊎ (synced_end new < to)
+
+-- One of these buffers was written, and the accountant's step behind it failed.
+pub record WroteThenFailed {D C : Type 0} (trace : D → Trace) (bs left : List BufferAt) (old new : Log D C) : Type 0 where
+  pub failed : FailedStep old new
+  pub waiting : waiting_of new ≡ left
+  pub account : account_of new ≡ account_behind bs (account_of old)
+  pub written : synced_writes (trace (device_of new)) ≡ suc (synced_writes (trace (device_of old)))
 
 -- Nothing was done, and no failure is new, though the current buffer was to be sealed, or the log keeps a failure.
 pub record SealedNone {D C : Type 0} (trace : D → Trace) (to : ℕ) (old new : Log D C) : Type 0 where
@@ -72,7 +85,7 @@ abbrev pub CameTo : {D C : Type 0} → (D → Trace) → (List ℕ → ℕ) → 
 CameTo trace sum to old new = SealedNone trace to old new ⊎ WroteFront trace sum to old new
 
 -- How far a read of a place came: the buffer that has it was not sealed, and if it was to be, no failure is new; or sealed, and not written; or written too,
--- whole, as nothing held it up.
+-- as nothing held it up: whole, or the step behind it failed.
 abbrev pub CameAround : {D C : Type 0} → (D → Trace) → (List ℕ → ℕ) → ℤ → Log D C → Log D C → Type 0
 CameAround trace sum lsn old new =
     let at : ℕ = unsigned_abs lsn in
@@ -80,23 +93,26 @@ CameAround trace sum lsn old new =
     ⊎ (LeavesSealed sum at old new × WroteNone trace old new)
     ⊎ (LeavesWritten sum at old new × (trace (device_of new) ≡ after_all (settling sum old (pos at)) (trace (device_of old)))
     × (held_at sum old (pos at) ≡ None))
-
--- the device did not fail
-abbrev pub UnlessIo : {T : Type 0} → Result T Error → Type 0 → Type 0
-UnlessIo (Err (Io e)) P = Unit {0}
-UnlessIo _ P = P
-
--- A log was given up with this answer, and so many buffers at the front were written: what was reserved isn't all among them.
-pub record ClosedFront {T D C : Type 0} (trace : D → Trace) (sum : List ℕ → ℕ) (result : Result T Error) (log : Log D C) (after : Trace) : Type 0 where
-  pub count : ℕ
-  pub written : synced_writes after ≡ count + synced_writes (trace (device_of log))
-  pub whole : UnlessIo result (after ≡ after_all (writing_some count sum log (reserved_end log)) (trace (device_of log)))
-  pub short : first_begin (drop count (sealed_for sum (reserved_end log) log)) (start_for (reserved_end log) log) < reserved_end log
+    ⊎ (LeavesFailing sum at old new × (held_at sum old (pos at) ≡ None))
 
 -- the device failed
 abbrev pub IsIo : {T : Type 0} → Result T Error → Type 0
 IsIo (Err (Io e)) = Unit {0}
 IsIo _ = ⊥
+
+-- it did not
+abbrev pub UnlessIo : {T : Type 0} → Result T Error → Type 0 → Type 0
+UnlessIo (Err (Io e)) P = Unit {0}
+UnlessIo _ P = P
+
+-- A log was given up with this answer, and so many buffers at the front were written: what was reserved isn't all among them, or the device failed behind
+-- the last of them, in the accountant's step.
+pub record ClosedFront {T D C : Type 0} (trace : D → Trace) (sum : List ℕ → ℕ) (result : Result T Error) (log : Log D C) (after : Trace) : Type 0 where
+  pub count : ℕ
+  pub written : synced_writes after ≡ count + synced_writes (trace (device_of log))
+  pub whole : UnlessIo result (after ≡ after_all (writing_some count sum log (reserved_end log)) (trace (device_of log)))
+  pub short : (IsIo result × (pins_of log ≡ 0) × (0 < count))
+      ⊎ (first_begin (drop count (sealed_for sum (reserved_end log) log)) (start_for (reserved_end log) log) < reserved_end log)
 
 -- How far the last flush of a log came that failed: nothing was asked of the device, so it didn't fail, though the current buffer was to be sealed, or the log
 -- keeps a failure; or not all was written.

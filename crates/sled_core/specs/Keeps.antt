@@ -1,5 +1,7 @@
 -- What a call keeps of a log, and of what it runs on, said once for all of them.
-use Rattle.std.specs.Prelude.{◌≡◌, ◌≢◌, ◌⊎◌, ◌≤◌, ◌<◌, ◌+◌, ◌*◌, nat_lt, if◌then◌else◌, ℕ, List, length, drop, None, Result, OnErr, OnOk}
+use Rattle.std.specs.Prelude.{◌≡◌, ◌≢◌, ◌⊎◌, ◌≤◌, ◌<◌, ◌+◌, ◌*◌, nat_lt, if◌then◌else◌, ℕ, ℤ, List, length, drop, None, Some, Result, OnErr, OnOk}
+use Rattle.std.specs.Prelude.{Contains}
+use Rattle.std.specs.declared.io.Error.{Error as IoError}
 use Rattle.sled_codec.specs.declared.result.Error.{Error}
 use Rattle.sled_core.specs.Causes.{IsHeld}
 use Rattle.sled_codec.specs.History.{Message, History}
@@ -14,7 +16,8 @@ use Rattle.sled_core.specs.Fits.{line_of, machine_at}
 use Rattle.sled_core.specs.Fits.{ledger_for, ledger_of, next_place, noted_in, pins_of, position_of, position_sealed, position_with, reserved_end}
 use Rattle.sled_core.specs.Fits.{segment_size_of, start_of, synced_end, waiting_of}
 use Rattle.sled_core.specs.invariants.Fits.{Holds}
-use Rattle.sled_store.specs.SegmentStates.{Machine, next_slot}
+use Rattle.sled_store.specs.Outdated.{NamesBlob}
+use Rattle.sled_store.specs.SegmentStates.{Machine, next_slot, slot_at}
 use Rattle.sled_core.specs.Ledger.{ledger_behind}
 use Rattle.sled_core.specs.Marked.{BeginsMarked}
 use Rattle.sled_core.specs.Positions.{Position, is_short}
@@ -37,8 +40,8 @@ pub record OnlyReads {D C : Type 0} (trace : D → Trace) (old new : RunningConf
   pub unwritten : trace new.device ≡ trace old.device
 
 -- The log goes on from what it was: its device's trace goes on from the old one, what is on its device without a gap doesn't get less, at each moment
--- between them a crash leaves what can be recovered, and what blobs hold stays.
-pub record GoesOn {D C : Type 0} (trace : D → Trace) (sum : List ℕ → ℕ) (old new : Log D C) : Type 0 where
+-- between them a crash leaves what can be recovered, and what blobs hold of such messages stays.
+pub record GoesOnFor {D C : Type 0} (Spared : Message → Type 0) (trace : D → Trace) (sum : List ℕ → ℕ) (old new : Log D C) : Type 0 where
   pub config : ConfigKept (config_of old) (config_of new)
   pub later : IsLater (trace (device_of old)) (trace (device_of new))
   pub stable : synced_end old ≤ synced_end new
@@ -46,18 +49,47 @@ pub record GoesOn {D C : Type 0} (trace : D → Trace) (sum : List ℕ → ℕ) 
       → LeavesOnly (RecoverableIfOwn sum (segment_size_of old) H A f) (trace (device_of old)) (trace (device_of new))
   -- a log that keeps no failure kept none before
   pub sound : fault_of new ≡ None → fault_of old ≡ None
-  -- and the items of messages that were safe from a crash are safe still
-  pub items : fault_of new ≡ None → (m : Message) → IsStored trace sum old m → IsStored trace sum new m
+  -- and the items of these messages that were safe from a crash are safe still
+  pub items : fault_of new ≡ None → (m : Message) → Spared m → IsStored trace sum old m → IsStored trace sum new m
 
--- The log goes on, and what it held it still holds, and what it fitted it still fits.
-pub record Preserves {D C : Type 0} (trace : D → Trace) (sum : List ℕ → ℕ) (old new : Log D C) : Type 0 where
-  pub goes_on : GoesOn trace sum old new
-  pub history : (H : History) → Holds trace sum old H → Holds trace sum new H
+-- So it goes on in a call that removes no blob: what all of them hold stays.
+abbrev pub GoesOn : {D C : Type 0} → (D → Trace) → (List ℕ → ℕ) → Log D C → Log D C → Type 0
+GoesOn trace sum old new = GoesOnFor (λ m. Unit {0}) trace sum old new
+
+-- The log goes on, and it still holds such histories, and what it fitted it still fits.
+pub record PreservesFor {D C : Type 0} (Held : History → Type 0) (Spared : Message → Type 0) (trace : D → Trace) (sum : List ℕ → ℕ)
+    (old new : Log D C) : Type 0 where
+  pub goes_on : GoesOnFor Spared trace sum old new
+  pub history : (H : History) → Held H → Holds trace sum new H
   pub fits : (H : History) (A f : ℕ) (U : List Message) → Fits trace sum old H A f U → Fits trace sum new H A f U
   -- no batch is noted, and those that were are kept until they are wholly on the device
   pub noted : noted_in new ≡ not_whole (synced_end new) (noted_in old)
   -- in memory no more are kept than were
   pub kept : kept_batches new ≤ kept_batches old
+
+-- It is so for all that the log held, where no segment is freed.
+abbrev pub Preserves : {D C : Type 0} → (D → Trace) → (List ℕ → ℕ) → Log D C → Log D C → Type 0
+Preserves trace sum old new = PreservesFor (Holds trace sum old) (λ m. Unit {0}) trace sum old new
+
+-- A log holds a history, and goes on holding it whatever comes free: a pin is out, so that nothing does; or it fits the history, so that it was told truly
+-- which messages are marked.
+abbrev pub HoldsFast : {D C : Type 0} → (D → Trace) → (List ℕ → ℕ) → Log D C → History → Type 0
+HoldsFast trace sum log H = ((0 < pins_of log) × Holds trace sum log H) ⊎ ((A : ℕ) × (f : ℕ) × (U : List Message) × Fits trace sum log H A f U)
+
+-- No write removes the blob with the item of a message: a pin is out, or the message names no blob that goes with a segment.
+abbrev pub IsSpared : {D C : Type 0} → Log D C → Message → Type 0
+IsSpared log m = (0 < pins_of log) ⊎ ((k : ℕ) (blob : ℤ) → Contains (slot_at (machine_at log) k).blobs blob → NamesBlob m blob → ⊥)
+
+-- It is so with a call that writes buffers, behind which segments may come free and blobs go.
+abbrev pub PreservesWriting : {D C : Type 0} → (D → Trace) → (List ℕ → ℕ) → Log D C → Log D C → Type 0
+PreservesWriting trace sum old new = PreservesFor (HoldsFast trace sum old) (IsSpared old) trace sum old new
+
+-- The device failed in the accountant's step behind the write of a buffer, and the log keeps that. While a pin is out no step is made.
+pub record FailedStep {D C : Type 0} (old new : Log D C) : Type 0 where
+  pub unpinned : pins_of old ≡ 0
+  pub sound : fault_of old ≡ None
+  pub fault : IoError
+  pub kept : fault_of new ≡ Some fault
 
 -- Where a log holds a history, the tickets of other places than this one's await what they awaited.
 abbrev pub KeepsOthers : {D C : Type 0} → (D → Trace) → (List ℕ → ℕ) → Reservation → Log D C → Log D C → Type 0
@@ -65,11 +97,11 @@ KeepsOthers trace sum ticket old new =
     (H : History) (other : Reservation) (m : Message) → Holds trace sum old H → Awaits old other m → place_of other ≢ place_of ticket → Awaits new other m
 
 -- What a call that writes up to a place seals: what begins below it, where it is held, and nothing where it succeeds and no reservation is open. Where no
--- buffer was sealed, nothing is written by one that fails.
+-- buffer was sealed, nothing is written by one that fails, but where the step behind the last one failed.
 pub record SealsBelow {T D C : Type 0} (result : Result T Error) (to : ℕ) (old new : Log D C) : Type 0 where
   pub held : IsHeld result → to ≤ current_begin new
   pub none : NoneSealed old → OnOk result (NoneSealed new)
-  pub err : NoneSealed old → OnErr result (synced_end new ≡ synced_end old)
+  pub err : NoneSealed old → OnErr result (FailedStep old new ⊎ (synced_end new ≡ synced_end old))
 
 -- What is durable of the log is what was, with the batches that are noted, and as many pins are out.
 pub record KeepsSeen {D C : Type 0} (old new : Log D C) : Type 0 where
@@ -86,27 +118,28 @@ pub record SamePosition {D C : Type 0} (old new : Log D C) : Type 0 where
   pub size : segment_size_of new ≡ segment_size_of old
 
 -- So it is with a call that writes buffers, but that slots may come free by it, and a segment that isn't begun yet gets one of those. While a pin is out none
--- comes free; and as yet none does without one (`position`).
+-- comes free.
 pub record SamePlace {D C : Type 0} (old new : Log D C) : Type 0 where
   pub place : next_place new ≡ next_place old
   pub pinned : 0 < pins_of old → position_of new ≡ position_of old
-  pub position : position_of new ≡ position_of old
   pub reserved : reserved_end new ≡ reserved_end old
   pub pins : pins_of new ≡ pins_of old
   pub size : segment_size_of new ≡ segment_size_of old
 
--- What a call keeps that makes no reservation, ends none and writes nothing: what the log holds and goes on fitting, its open reservations with their tickets,
+-- What a call keeps that makes no reservation, ends none and frees nothing: what the log holds and goes on fitting, its open reservations with their tickets,
 -- and where the next record begins.
 pub record KeepsLog {D C : Type 0} (trace : D → Trace) (sum : List ℕ → ℕ) (old new : Log D C) : Type 0 where
   pub preserves : Preserves trace sum old new
   pub tickets : KeepsTickets old new
   pub position : SamePosition old new
 
--- So it is with a call that writes.
+-- So it is with a call that writes, but for what comes free by it.
 pub record KeepsWriting {D C : Type 0} (trace : D → Trace) (sum : List ℕ → ℕ) (old new : Log D C) : Type 0 where
-  pub preserves : Preserves trace sum old new
+  pub preserves : PreservesWriting trace sum old new
   pub tickets : KeepsTickets old new
   pub position : SamePlace old new
+  -- what no write removes none removes later
+  pub spared : (m : Message) → IsSpared old m → IsSpared new m
 
 -- Nothing that a caller sees of the log is another, but for its device.
 pub record IsUnchangedOver {D C : Type 0} (old new : Log D C) : Type 0 where

@@ -12,12 +12,13 @@ use Rattle.sled_store.specs.Blobs.{IsMissing, NamesDamage}
 use Rattle.sled_store.specs.Device.{Event, Trace}
 use Rattle.sled_store.specs.Script.{Performs, after_all}
 use Rattle.sled_store.specs.SegmentStates.{Machine}
+use Rattle.sled_core.specs.Account.{account_of}
 use Rattle.sled_core.specs.declared.logger.Log.{Log}
 use Rattle.sled_core.specs.Causes.{IsFaultAt, IsHeld, OnDone}
 use Rattle.sled_core.specs.Fits.{IsUsedUp, NoneSealed, buffers_of, current_begin, device_of, fault_of, ledger_of, ledger_sealed, position_sealed}
 use Rattle.sled_core.specs.Fits.{position_with, reserved_end, sealing_end, segment_size_of, start_of, synced_end, waiting_of}
 use Rattle.sled_core.specs.Freeing.{Ledger}
-use Rattle.sled_core.specs.Keeps.{start_sealed}
+use Rattle.sled_core.specs.Keeps.{FailedStep, start_sealed}
 use Rattle.sled_core.specs.Ledger.{ledger_behind, writings}
 use Rattle.sled_core.specs.Marked.{BeginsMarked}
 use Rattle.sled_core.specs.Positions.{Position}
@@ -107,21 +108,30 @@ LeavesSealed sum place old new =
     (waiting_of new ≡ sealed_at sum place old) × (start_of new ≡ start_at place old) × (ledger_of new ≡ ledger_at place old)
     × ((m : Machine) → position_with new m ≡ position_at place old m)
 
+-- slots and marks, once the buffer is written that has the place
+abbrev pub ledger_written : {D C : Type 0} → (List ℕ → ℕ) → ℕ → Log D C → Ledger
+ledger_written sum place old = ledger_behind (segment_size_of old) (one_around place (sealed_at sum place old)) (ledger_at place old)
+
 -- and the one that has the place is written besides
 abbrev pub LeavesWritten : {D C : Type 0} → (List ℕ → ℕ) → ℕ → Log D C → Log D C → Type 0
 LeavesWritten sum place old new =
     (waiting_of new ≡ without_around place (sealed_at sum place old)) × (start_of new ≡ start_at place old)
-    × (ledger_of new ≡ ledger_behind (segment_size_of old) (one_around place (sealed_at sum place old)) (ledger_at place old))
-    × ((m : Machine) → position_with new m ≡ position_at place old m)
+    × (ledger_of new ≡ ledger_written sum place old) × ((m : Machine) → position_with new m ≡ position_at place old m)
+
+-- and the accountant's step behind that failed, so that slots are on the way
+abbrev pub LeavesFailing : {D C : Type 0} → (List ℕ → ℕ) → ℕ → Log D C → Log D C → Type 0
+LeavesFailing sum place old new =
+    (waiting_of new ≡ without_around place (sealed_at sum place old)) × (start_of new ≡ start_at place old)
+    × (account_of new ≡ (ledger_written sum place old).account) × ((m : Machine) → position_with new m ≡ position_at place old m) × FailedStep old new
 
 -- What a read of a place that isn't stable leaves of the buffers: where it succeeds the one that has the place is written; where it is held that one is
--- sealed; else one of the three.
+-- sealed; else one of these.
 pub record WritesAround {T D C : Type 0} (sum : List ℕ → ℕ) (result : Result T Error) (lsn : ℤ) (old new : Log D C) : Type 0 where
   pub still : lsn <ℤ pos (synced_end old) → LeavesUnsealed sum (unsigned_abs lsn) old new
   pub written : pos (synced_end old) ≤ℤ lsn → OnOk result (LeavesWritten sum (unsigned_abs lsn) old new)
   pub held : IsHeld result → LeavesSealed sum (unsigned_abs lsn) old new
   pub some : OnErr result (LeavesUnsealed sum (unsigned_abs lsn) old new ⊎ LeavesSealed sum (unsigned_abs lsn) old new
-      ⊎ LeavesWritten sum (unsigned_abs lsn) old new)
+      ⊎ LeavesWritten sum (unsigned_abs lsn) old new ⊎ LeavesFailing sum (unsigned_abs lsn) old new)
   -- a segment that was begun has the last stable place for its mark
   pub marked : BeginsMarked sum old new
 

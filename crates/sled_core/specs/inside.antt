@@ -19,6 +19,7 @@ pub mod LogSegments
 pub mod Marked
 pub mod MarksFit
 pub mod Numbers
+pub mod OneWritten
 pub mod OpenBatches
 pub mod OpenPlaces
 pub mod OwnLog

@@ -34,7 +34,7 @@ ghost use Rattle.sled_core.specs.Waiting.{BufferAt, HasLength, spans, write_arou
 ghost use Rattle.sled_core.specs.WholeBuffers.{IsWholeBuffer};
 ghost use Rattle.sled_core.specs.Batches.{LiesInNoFilling};
 ghost use Rattle.sled_core.specs.Causes.{FaultAnswers, HeldAnswers, ReserveAnswers, ReserveCauses};
-ghost use Rattle.sled_core.specs.Keeps.{GoesOn, KeepsSeen, Preserves};
+ghost use Rattle.sled_core.specs.Keeps.{GoesOn, KeepsLog, KeepsSeen, KeepsWriting, Preserves};
 ghost use Rattle.sled_core.specs.Reasons.{ReserveFails, TellsOf, WriteFails};
 ghost use Rattle.sled_core.specs.Reading.{IsInline};
 ghost use Rattle.sled_core.specs.Ready.{IsReady};
@@ -211,10 +211,9 @@ pub fn a_pin_defers_freeing<D: Device, C: Checksum>()
         → synced_writes new ≡ count + synced_writes old → syncs new ≡ count + syncs old }
 {}
 
-/// As yet no write frees a segment, whether a pin is out or not: what is written of buffers is the same whatever the slots and
-/// the marks are, so as where a pin is out (`a_pin_defers_freeing`).
-pub fn no_write_frees_a_segment_yet()
-    ensures { (size : ℕ) (bs : List BufferAt) (l other : Ledger) → writings size bs l ≡ writings size bs other }
+/// So while a pin is out a call that writes keeps all that one keeps which frees nothing.
+pub fn a_pin_keeps_all<D: Device, C: Checksum>()
+    ensures { (old new : Log D C) → 0 < pins_of old → KeepsWriting D.trace C.sum_of old new → KeepsLog D.trace C.sum_of old new }
 {}
 
 /// Marks join with the writes of buffers, whatever is freed behind them.

@@ -91,7 +91,7 @@ impl<D: Device, C: Checksum> Log<D, C> {
     ghost use Rattle.sled_core.specs.Fits.{Awaits, IsOpen, FitsInline, fault_of, given_up_of, synced_end, reserved_end, pins_of, config_of, device_of, HasRecordOf, ledger_of, line_of, segment_size_of, waiting_of, current_begin, FirstWaits, stable_end, KeepsAll};
     ghost use Rattle.sled_core.specs.Fronts.{CameAround};
     ghost use Rattle.sled_core.specs.Endings.{EndsTicket};
-    ghost use Rattle.sled_core.specs.Keeps.{KeepsLog, KeepsWriting, ConfigKept, GoesOn, Preserves};
+    ghost use Rattle.sled_core.specs.Keeps.{ConfigKept, GoesOn, HoldsFast, KeepsLog, KeepsWriting, Preserves};
     ghost use Rattle.sled_core.specs.Marked.{StartsMarked};
     ghost use Rattle.sled_core.specs.ReadBuffer.{IsUsedUpAt, ReadAnswers, RefusesPlace, SealsAround, Settles, WritesAround, held_at};
     ghost use Rattle.sled_core.specs.ReadPointer.{IsDamageAt, IsReadOf, ReadsBlob, place_read};
@@ -279,7 +279,7 @@ impl<D: Device, C: Checksum> Log<D, C> {
     /// pointer's blob is missing: the log doesn't keep that. `Io` where the device failed in this call: the log keeps that. `OutOfMemory` where the current
     /// buffer could not be sealed, or from the device.
     pub fn read(&mut self, pid: PageId, lsn: Lsn, ptr: DiskPtr) -> Result<LogRead>
-        ensures message { (H : History) (m : Message) → Holds D.trace C.sum_of self.old H → Contains H.messages m → HasRecordOf self.old H m
+        ensures message { (H : History) (m : Message) → HoldsFast D.trace C.sum_of self.old H → Contains H.messages m → HasRecordOf self.old H m
             → pos m.place ≡ lsn → m.pointer ≡ ptr → IsInline ptr → IfOk result (GivesMessage m) }
         ensures undamaged { (H : History) (A f : ℕ) (U : List Message) (m : Message) → Fits D.trace C.sum_of self.old H A f U → Contains H.messages m
             → HasRecordOf self.old H m → pos m.place ≡ lsn → m.pointer ≡ ptr → IsInline ptr → IsCorruption result → ⊥ }

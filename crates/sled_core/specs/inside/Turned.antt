@@ -211,6 +211,16 @@ abbrev pub ready_below : List SegmentView → ℕ → Bool
 ready_below [] to = false
 ready_below (v ∷ vs) to = if nat_lt (v.parts.site.place + v.parts.written_len) to then first_ready v.parts.sealed else false
 
+-- A call changes the slots of a log, its device, and the failure that it keeps, alone.
+pub record ChangesSlots {D C : Type 0} (old new : Log D C) : Type 0 where
+  pub config : new.config.config ≡ old.config.config
+  pub checksum : new.config.checksum ≡ old.config.checksum
+  pub segments : new.segments ≡ old.segments
+  pub reserved : new.reserved_to ≡ old.reserved_to
+  pub pins : new.pins ≡ old.pins
+  pub marks : new.marks ≡ old.marks
+  pub batches : new.batches ≡ old.batches
+
 -- A call changes the device of a log, and the failure that it keeps, alone.
 pub record ChangesDevice {D C : Type 0} (old new : Log D C) : Type 0 where
   pub config : new.config.config ≡ old.config.config

@@ -6,7 +6,7 @@ ghost use Rattle.sled_store.specs.Script.{after_all, Performs};
 ghost use Rattle.sled_store.specs.SegmentStates.{Machine};
 ghost use Rattle.sled_core.specs.Causes.{HeldAnswers, OnDone};
 ghost use Rattle.sled_core.specs.Fits.{NoneSealed, current_begin, device_of, fault_of, ledger_of, position_with, reserved_end, segment_size_of, start_of, synced_end, waiting_of};
-ghost use Rattle.sled_core.specs.Fronts.{CameAround, WroteNone};
+ghost use Rattle.sled_core.specs.Fronts.{CameAround, WroteNone, WroteThenFailed};
 ghost use Rattle.sled_core.specs.Keeps.{KeepsWriting};
 ghost use Rattle.sled_core.specs.Ledger.{ledger_behind};
 ghost use Rattle.sled_core.specs.inside.Marked.{JoinsBelow, KeepsSegment};
@@ -88,8 +88,9 @@ impl<D: Device, C: Checksum> Log<D, C> {
         ensures position { (m : Machine) → position_with self.new m ≡ position_with self.old m }
         ensures ledger { OnOk result (ledger_of self.new
             ≡ ledger_behind (segment_size_of self.old) (one_around place (waiting_of self.old)) (ledger_of self.old)) }
-        ensures same { OnErr result ((waiting_of self.new ≡ waiting_of self.old) × WroteNone D.trace self.old self.new
-            × (ledger_of self.new ≡ ledger_of self.old)) }
+        ensures same { OnErr result (((waiting_of self.new ≡ waiting_of self.old) × WroteNone D.trace self.old self.new
+            × (ledger_of self.new ≡ ledger_of self.old))
+            ⊎ WroteThenFailed D.trace (one_around place (waiting_of self.old)) (without_around place (waiting_of self.old)) self.old self.new) }
         ensures one { ((b : BufferAt) → Contains (waiting_of self.old) b → has_place place b ≡ true) → OnOk result (NoneSealed self.new) }
         ensures segment { KeepsSegment self.old self.new }
         ensures joined { JoinsBelow D.trace C.sum_of self.old self.new }

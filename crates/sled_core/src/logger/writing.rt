@@ -12,22 +12,24 @@ ghost use Rattle.sled_store.specs.Blobs.{UnlessFault};
 ghost use Rattle.sled_store.specs.Device.{state_of, Wrote, Synced};
 ghost use Rattle.sled_store.specs.Script.{after_all, Performs};
 ghost use Rattle.sled_store.specs.SegmentStates.{Machine};
+ghost use Rattle.sled_core.specs.Account.{account_of, written_account};
 ghost use Rattle.sled_core.specs.Among.{AreAmong};
 ghost use Rattle.sled_core.specs.Begun.{SegmentView};
 ghost use Rattle.sled_core.specs.Buffers.{first_open_in, open_in};
 ghost use Rattle.sled_core.specs.Causes.{Answers, FaultOrMemory, HeldAnswers, OnDone};
 ghost use Rattle.sled_core.specs.invariants.Fits.{Holds};
-ghost use Rattle.sled_core.specs.Fits.{IsUnchanged, IsUsedUp, IsUsedUpBelow, IsWritten, KeepsAll, NoneSealed, buffers_of, config_of, current_begin, current_of, device_of, fault_of, fillings_of, flushing, heads_of, held_len, holding_below, ledger_for, ledger_of, line_of, pending_of, position_with, reserved_end, sealing_end, segment_size_of, stable_end, start_of, synced_end, waiting_of, writing_below, writing_pending};
-ghost use Rattle.sled_core.specs.Fronts.{CameTo, WroteFront, WroteNone, synced_writes, syncs};
-ghost use Rattle.sled_core.specs.Keeps.{KeepsLog, KeepsWriting, LeavesAbove, WritesBelow, position_for, sealed_for, start_for, start_sealed};
-ghost use Rattle.sled_core.specs.Ledger.{ledger_behind, written_ledger};
+ghost use Rattle.sled_core.specs.Fits.{IsUnchanged, IsUsedUp, IsUsedUpBelow, IsWritten, KeepsAll, NoneSealed, buffers_of, config_of, current_begin, current_of, device_of, fault_of, fillings_of, flushing, heads_of, held_len, holding_below, ledger_for, ledger_of, line_of, machine_at, pending_of, position_with, reserved_end, sealing_end, segment_size_of, stable_end, start_of, synced_end, waiting_of, writing_below, writing_pending};
+ghost use Rattle.sled_core.specs.Fronts.{CameTo, WroteFront, WroteNone, WroteThenFailed, synced_writes, syncs};
+ghost use Rattle.sled_core.specs.Keeps.{FailedStep, HoldsFast, KeepsLog, KeepsWriting, LeavesAbove, WritesBelow, position_for, sealed_for, start_for, start_sealed};
+ghost use Rattle.sled_core.specs.Ledger.{ledger_behind, ledger_step, stepped_ledger, written_ledger};
 ghost use Rattle.sled_core.specs.LogStatus.{flushed, rolled, status_of};
 ghost use Rattle.sled_core.specs.Marked.{BeginsMarked};
 ghost use Rattle.sled_core.specs.inside.Marked.{JoinsBelow, KeepsSegment};
+ghost use Rattle.sled_core.specs.inside.OneWritten.{WritesNone, WroteOne};
 ghost use Rattle.sled_core.specs.invariants.Running.{Fits};
 ghost use Rattle.sled_core.specs.Running.{end_below};
 ghost use Rattle.sled_core.specs.Stable.{SparesDevice, SyncsAll};
-ghost use Rattle.sled_core.specs.inside.Turned.{ChangesDevice, IsReadyIn, mark_of, promoted, ready_below, write_in, writing_in, written_now};
+ghost use Rattle.sled_core.specs.inside.Turned.{ChangesDevice, ChangesSlots, IsReadyIn, mark_of, promoted, ready_below, write_in, writing_in, written_now};
 ghost use Rattle.sled_core.specs.Waiting.{BufferAt, holds_any, one_pending, unwritten, without_pending, write_pending};
 
 use crate::logger::Log;
@@ -45,12 +47,14 @@ impl<D: Device, C: Checksum> Log<D, C> {
         self.ready.places.len()
     }
 
-    /// Writes the i-th of the buffers that can be written, by place, and syncs it.
+    /// Writes the i-th of the buffers that can be written, by place, and syncs it. Where no pin is out the accountant makes a step
+    /// behind that: segments come free that no table from the mark on needs, and blobs go that were replaced.
     ///
     /// # Errors
     ///
     /// `Io` where the log keeps a failure of its device, or where the device failed in this call: the log keeps that.
-    /// `OutOfMemory`: nothing was written. After each of them no further buffer counts as written.
+    /// `OutOfMemory`: nothing was written. After each of them no further buffer counts as written, but for this one where the
+    /// device failed in the accountant's step behind it.
     pub fn write_to_log(&mut self, i: usize) -> Result<()>
         requires { i < pending_of self.old }
         ensures calls { OnOk result (D.trace (device_of self.new) ≡ after_all (writing_pending self.old i) (D.trace (device_of self.old))) }
@@ -59,14 +63,14 @@ impl<D: Device, C: Checksum> Log<D, C> {
         ensures ledger { OnOk result (ledger_of self.new
             ≡ ledger_behind (segment_size_of self.old) (one_pending i (waiting_of self.old)) (ledger_of self.old)) }
         ensures keeps { KeepsWriting D.trace C.sum_of self.old self.new }
-        ensures start { start_of self.new ≡ start_of self.old }
-        ensures position { (m : Machine) → position_with self.new m ≡ position_with self.old m }
+        ensures start { (start_of self.new ≡ start_of self.old) × ((m : Machine) → position_with self.new m ≡ position_with self.old m) }
         ensures heads { AreAmong (heads_of self.new) (heads_of self.old) }
         ensures fillings { AreAmong (fillings_of self.new) (fillings_of self.old) }
         ensures answers { Answers result (fault_of self.old) (fault_of self.new) (D.faults (device_of self.old)) (D.faults (device_of self.new)) }
         ensures faulty { (e : IoError) → fault_of self.old ≡ Some e → self.new ≡ self.old }
-        ensures err { OnErr result ((synced_end self.new ≡ synced_end self.old) × (waiting_of self.new ≡ waiting_of self.old)
-            × (syncs (D.trace (device_of self.new)) ≡ syncs (D.trace (device_of self.old))) × (ledger_of self.new ≡ ledger_of self.old)) }
+        ensures err { OnErr result (((synced_end self.new ≡ synced_end self.old) × (waiting_of self.new ≡ waiting_of self.old)
+            × (syncs (D.trace (device_of self.new)) ≡ syncs (D.trace (device_of self.old))) × (ledger_of self.new ≡ ledger_of self.old))
+            ⊎ WroteThenFailed D.trace (one_pending i (waiting_of self.old)) (without_pending i (waiting_of self.old)) self.old self.new) }
         ensures refused { UnlessFault result (D.trace (device_of self.old)) (D.trace (device_of self.new)) }
     {
         if let Some(e) = self.fault.kept {
@@ -141,7 +145,7 @@ impl<D: Device, C: Checksum> Log<D, C> {
             ≡ flushed (segment_size_of self.old) (sealed_for C.sum_of (reserved_end self.old) self.old) (start_for (reserved_end self.old) self.old)
             (ledger_for (reserved_end self.old) self.old) (position_for (reserved_end self.old) self.old) (status_of self.old)) }
         ensures synced { OnOk result (SyncsAll self.old self.new) }
-        ensures records { (H : History) → Holds D.trace C.sum_of self.old H → OnOk result (IsWritten D.trace C.sum_of self.new H) }
+        ensures records { (H : History) → HoldsFast D.trace C.sum_of self.old H → OnOk result (IsWritten D.trace C.sum_of self.new H) }
         ensures calls { OnDone result (D.trace (device_of self.new) ≡ after_all (flushing C.sum_of self.old) (D.trace (device_of self.old))) }
         ensures at_most { Performs (flushing C.sum_of self.old) (D.trace (device_of self.old)) (D.trace (device_of self.new)) }
         ensures keeps { KeepsWriting D.trace C.sum_of self.old self.new }
@@ -204,7 +208,7 @@ impl<D: Device, C: Checksum> Log<D, C> {
             (D.faults (device_of self.old)) (D.faults (device_of self.new)) }
         ensures current { (current_begin self.new ≡ current_begin self.old) × KeepsSegment self.old self.new }
         ensures none { ((b : BufferAt) → Contains (waiting_of self.old) b → b.place < to) → OnOk result (NoneSealed self.new) }
-        ensures one { length (waiting_of self.old) ≤ 1 → OnErr result (synced_end self.new ≡ synced_end self.old) }
+        ensures one { length (waiting_of self.old) ≤ 1 → OnErr result (FailedStep self.old self.new ⊎ (synced_end self.new ≡ synced_end self.old)) }
         ensures above { OnOk result (LeavesAbove C.sum_of to self.old self.new) }
         ensures front { OnErr result (WroteFront D.trace C.sum_of to self.old self.new) }
         ensures idle { writing_below C.sum_of self.old to ≡ [] → D.faults (device_of self.new) ≡ D.faults (device_of self.old) }
@@ -238,15 +242,13 @@ impl<D: Device, C: Checksum> Log<D, C> {
         }
     }
 
-    /// Writes one of the sealed buffers of a segment, which can be written, and syncs it. Segments that are wholly on the
-    /// device then are left out. Where it begins with the header of its segment the mark of that is on the device now,
-    /// and where no pin is out all marks join that are.
+    /// Writes one of the sealed buffers of a segment, which can be written, and syncs it, as `write_one` does. Behind it the
+    /// accountant makes a step.
     pub(crate) fn write_buffer(&mut self, n: usize, k: usize) -> Result<()>
         requires fault { fault_of self.old ≡ None }
         requires ready { IsReadyIn (line_of self.old) n k }
         ensures line { (v : SegmentView) → slice_get (line_of self.old) n ≡ Some v
             → OnOk result (line_of self.new ≡ promoted (segment_size_of self.old) (set (line_of self.old) n (written_now k v))) }
-        ensures same { OnErr result (line_of self.new ≡ line_of self.old) }
         ensures ledger { (v : SegmentView) → slice_get (line_of self.old) n ≡ Some v
             → OnOk result (ledger_of self.new ≡ written_ledger (segment_size_of self.old) (mark_of k v) (ledger_of self.old)) }
         ensures calls { OnOk result (D.trace (device_of self.new)
@@ -257,7 +259,32 @@ impl<D: Device, C: Checksum> Log<D, C> {
         ensures keeps { KeepsWriting D.trace C.sum_of self.old self.new }
         ensures answers { Answers result None (fault_of self.new) (D.faults (device_of self.old)) (D.faults (device_of self.new)) }
         ensures refused { UnlessFault result (D.trace (device_of self.old)) (D.trace (device_of self.new)) }
-        ensures unwritten { OnErr result (WroteNone D.trace self.old self.new × (ledger_of self.new ≡ ledger_of self.old)) }
+        ensures unwritten { OnErr result (WritesNone D.trace self.old self.new ⊎ WroteOne D.trace n k self.old self.new) }
+        ensures joined { JoinsBelow D.trace C.sum_of self.old self.new }
+    {
+        self.write_one(n, k)?;
+        self.free_segments()
+    }
+
+    /// Writes one of the sealed buffers of a segment, which can be written, and syncs it. Segments that are wholly on the
+    /// device then are left out. Where it begins with the header of its segment the mark of that is on the device then,
+    /// and where no pin is out all marks join that are.
+    fn write_one(&mut self, n: usize, k: usize) -> Result<()>
+        requires fault { fault_of self.old ≡ None }
+        requires ready { IsReadyIn (line_of self.old) n k }
+        ensures line { (v : SegmentView) → slice_get (line_of self.old) n ≡ Some v
+            → OnOk result (line_of self.new ≡ promoted (segment_size_of self.old) (set (line_of self.old) n (written_now k v))) }
+        ensures same { OnErr result (line_of self.new ≡ line_of self.old) }
+        ensures account { (v : SegmentView) → slice_get (line_of self.old) n ≡ Some v
+            → OnOk result (account_of self.new ≡ written_account (mark_of k v) (account_of self.old)) }
+        ensures machine { machine_at self.new ≡ machine_at self.old }
+        ensures calls { OnOk result (D.trace (device_of self.new) ≡ after_all (write_in (line_of self.old) n k) (D.trace (device_of self.old))) }
+        ensures at_most { Performs (write_in (line_of self.old) n k) (D.trace (device_of self.old)) (D.trace (device_of self.new)) }
+        ensures position { (m : Machine) → position_with self.new m ≡ position_with self.old m }
+        ensures keeps { KeepsLog D.trace C.sum_of self.old self.new }
+        ensures answers { Answers result None (fault_of self.new) (D.faults (device_of self.old)) (D.faults (device_of self.new)) }
+        ensures refused { UnlessFault result (D.trace (device_of self.old)) (D.trace (device_of self.new)) }
+        ensures unwritten { OnErr result (WroteNone D.trace self.old self.new) }
         ensures joined { JoinsBelow D.trace C.sum_of self.old self.new }
     {
         self.write_bytes(n, k)?;
@@ -268,6 +295,31 @@ impl<D: Device, C: Checksum> Log<D, C> {
         self.segments.promote(self.config.config.segment_size);
         self.marks.note_mark(mark, self.pins > 0);
         Ok(())
+    }
+
+    /// The accountant's step for the mark that joined, unless a pin is out: blobs go that were replaced, and segments come free. It
+    /// keeps a failure of the device.
+    fn free_segments(&mut self) -> Result<()>
+        requires fault { fault_of self.old ≡ None }
+        ensures ledger { OnOk result (ledger_of self.new ≡ stepped_ledger (segment_size_of self.old) (ledger_of self.old)) }
+        ensures rest { ChangesSlots self.old self.new }
+        ensures calls { OnOk result (D.trace (device_of self.new)
+            ≡ after_all (ledger_step (segment_size_of self.old) (ledger_of self.old)).calls (D.trace (device_of self.old))) }
+        ensures at_most { Performs (ledger_step (segment_size_of self.old) (ledger_of self.old)).calls
+            (D.trace (device_of self.old)) (D.trace (device_of self.new)) }
+        ensures keeps { KeepsWriting D.trace C.sum_of self.old self.new }
+        ensures answers { Answers result None (fault_of self.new) (D.faults (device_of self.old)) (D.faults (device_of self.new)) }
+        ensures failed { OnErr result (FailedStep self.old self.new) }
+        ensures written { synced_writes (D.trace (device_of self.new)) ≡ synced_writes (D.trace (device_of self.old)) }
+    {
+        if self.pins > 0 {
+            return Ok(());
+        }
+        let freed = self
+            .accountant
+            .stabilize(&mut self.config, self.marks.joined);
+        self.fault.note(&freed);
+        freed
     }
 
     /// The mark of its segment, where that buffer begins with the header of it.
