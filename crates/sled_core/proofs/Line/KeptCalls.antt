@@ -1,5 +1,5 @@
 -- A call keeps what a log held and fitted where it leaves its device and what is written alone, and where it is two such calls in a row.
-use Rattle.std.proofs.Common.{◌≡◌, ◌∙◌, ◌≤◌, ◌<◌, ◌⊎◌, ℕ, ℤ, Bool, List, [], None, refl, ap, subst, arith, inl, inr, Err}
+use Rattle.std.proofs.Common.{◌≡◌, ◌∙◌, ◌≤◌, ◌<◌, ◌⊎◌, ℕ, ℤ, Bool, List, [], None, refl, ap, sym, subst, arith, inl, inr, Err}
 use Rattle.std.specs.List.{Contains}
 use Rattle.sled_codec.specs.declared.result.Error.{Error}
 use Rattle.sled_codec.specs.History.{Message, History}
@@ -8,6 +8,7 @@ use Rattle.sled_store.specs.Device.{State, Trace, state_of}
 use Rattle.sled_store.specs.Moments.{LeavesOnly}
 use Rattle.sled_store.specs.SegmentStates.{Machine, slot_at}
 use Rattle.sled_store.proofs.PublicLaws.{later_both}
+use Rattle.sled_store.proofs.Marks.OutdatedSteps.{KeepsBlobs}
 use Rattle.sled_store.proofs.Traces.MomentLemmas.{started, stays, joined}
 use Rattle.sled_store.proofs.Traces.StopLemmas.{asked_behind, asked_state, asked_later, asked_throughout}
 use Rattle.sled_core.specs.declared.logger.Log.{Log}
@@ -15,8 +16,8 @@ use Rattle.sled_core.specs.declared.reservation.Reservation.{Reservation}
 use Rattle.sled_store.proofs.Segments.Elements.{in_rest}
 use Rattle.sled_core.specs.Endings.{EndsTicket, GivesUp}
 use Rattle.sled_core.specs.Fits.{KeepsTickets, config_of, device_of, fault_of, given_up_of, machine_at, pins_of, segment_size_of, synced_end}
-use Rattle.sled_core.specs.Keeps.{ConfigKept, GoesOn, GoesOnFor, HoldsFast, IsSpared, KeepsLog, KeepsWriting, Preserves, PreservesFor, PreservesWriting}
-use Rattle.sled_core.specs.Keeps.{SamePlace, SamePosition}
+use Rattle.sled_core.specs.Keeps.{ConfigKept, FailedStep, GoesOn, GoesOnFor, HoldsFast, IsSpared, KeepsLog, KeepsWriting, Preserves, PreservesFor}
+use Rattle.sled_core.specs.Keeps.{PreservesWriting, SamePlace, SamePosition}
 use Rattle.sled_core.specs.Logged.{in_log}
 use Rattle.sled_core.specs.Positions.{Position}
 use Rattle.sled_core.specs.Recoverable.{RecoverableIfOwn}
@@ -208,7 +209,13 @@ log_writing trace sum old new keeps spared = record {
   spared = spared;
 }
 
--- So it is where the slots are the same, and as many pins are out.
+-- So it is where no other blob goes with a segment than did, and as many pins are out,
+pub spared_slots : {D C : Type 0} (old new : Log D C) → KeepsBlobs (machine_at old).slots (machine_at new).slots → pins_of new ≡ pins_of old → (m : Message)
+    → IsSpared old m → IsSpared new m
+spared_slots old new keeps pins m (inl out) = inl (omega (arith, out, pins))
+spared_slots old new keeps pins m (inr none) = inr (λ k blob there. none k blob (keeps k blob there).there)
+
+-- and where the slots are the same.
 pub spared_same : {D C : Type 0} (old new : Log D C) → machine_at new ≡ machine_at old → pins_of new ≡ pins_of old → (m : Message) → IsSpared old m
     → IsSpared new m
 spared_same old new slots pins m (inl out) = inl (omega (arith, out, pins))
@@ -232,6 +239,10 @@ writing_further trace sum old mid new first then = record {
   position = place_further old mid new first.position then.position;
   spared = λ m is. then.spared m (first.spared m is);
 }
+
+-- One that begins with a log that kept no failure, with as many pins out, fails in the accountant's step where the last of its calls does.
+pub failed_over : {D C : Type 0} (old mid new : Log D C) → fault_of old ≡ None → pins_of mid ≡ pins_of old → FailedStep mid new → FailedStep old new
+failed_over old mid new sound pins failed = record { unpinned = sym pins ∙ failed.unpinned; sound = sound; fault = failed.fault; kept = failed.kept }
 
 -- nothing was done
 pub writing_still : {D C : Type 0} (trace : D → Trace) (sum : List ℕ → ℕ) (log : Log D C) → KeepsWriting trace sum log log
