@@ -14,17 +14,18 @@ use Rattle.sled_store.proofs.Traces.ScriptLemmas.{performs_behind, performs_more
 use Rattle.sled_core.specs.Begun.{SegmentView, segment_view}
 use Rattle.sled_core.specs.declared.logger.Log.{Log}
 use Rattle.sled_core.specs.Causes.{Answers, HeldAnswers}
-use Rattle.sled_core.specs.Fits.{KeepsTickets, current_begin, device_of, fault_of, holding_below, ledger_of, ledger_sealed, line_of, position_with, segment_size_of, start_of, synced_end, waiting_of, writing_below}
+use Rattle.sled_core.specs.Fits.{current_begin, device_of, fault_of, holding_below, ledger_of, ledger_sealed, line_of, position_with, segment_size_of, start_of, synced_end, waiting_of, writing_below}
+use Rattle.sled_core.specs.Account.{account_of, written_account}
 use Rattle.sled_core.specs.Freeing.{Ledger}
 use Rattle.sled_core.specs.Fronts.{synced_writes}
-use Rattle.sled_core.specs.Keeps.{Preserves, SamePlace}
+use Rattle.sled_core.specs.Keeps.{FailedStep, KeepsWriting}
 use Rattle.sled_core.specs.Ledger.{ledger_behind, writings, written_ledger, written_step}
 use Rattle.sled_core.specs.inside.Marked.{KeepsSegment}
 use Rattle.sled_core.specs.inside.SealedBuffers.{first_ready}
 use Rattle.sled_core.specs.SealedBuffers.{writing}
 use Rattle.sled_core.specs.inside.Turned.{IsReadyIn, mark_of, promoted, ready_below, write_in, writing_in, written_now}
 use Rattle.sled_core.specs.Waiting.{BufferAt, free_below, front_below, held_below, unwritten}
-use Rattle.sled_core.proofs.Line.KeptCalls.{kept_further, kept_still, place_further, place_still, tickets_further, tickets_still}
+use Rattle.sled_core.proofs.Line.KeptCalls.{failed_over, writing_further, writing_still}
 use Rattle.sled_core.proofs.Line.HeaderMarks.{segment_further, segment_written}
 use Rattle.sled_core.proofs.Line.Below.{BeginFrom, IsFirst, IsStuck, first_fewer, first_holds, first_free, first_there_ready, first_marked, line_first, line_past, line_stuck}
 use Rattle.sled_core.proofs.Line.Current.{current_free, current_holds}
@@ -93,9 +94,7 @@ module _ {D C : Type 0} (trace : D → Trace) (sum : List ℕ → ℕ) (faults :
   pub record Advanced (old now : Log D C) : Type 0 where
     pub fault : fault_of now ≡ None
     pub counted : faults (device_of now) ≡ faults (device_of old)
-    pub keeps : Preserves trace sum old now
-    pub tickets : KeepsTickets old now
-    pub position : SamePlace old now
+    pub keeps : KeepsWriting trace sum old now
     pub with_slots : (m : Machine) → position_with now m ≡ position_with old m
     pub held : held_below to (waiting_of old) ≡ held_below to (waiting_of now)
     pub current : current_begin now ≡ current_begin old
@@ -119,9 +118,7 @@ module _ {D C : Type 0} (trace : D → Trace) (sum : List ℕ → ℕ) (faults :
   advanced_still log fault = record {
     fault = fault;
     counted = refl;
-    keeps = kept_still trace sum log;
-    tickets = tickets_still log;
-    position = place_still log;
+    keeps = writing_still trace sum log;
     with_slots = λ m. refl;
     held = refl;
     current = refl;
@@ -140,64 +137,96 @@ module _ {D C : Type 0} (trace : D → Trace) (sum : List ℕ → ℕ) (faults :
     ledger = refl;
   }
 
-  -- One more is written.
-  pub advanced_further : (old mid new : Log D C) → Advanced old mid → ready_below (line_of mid) to ≡ true → FirstWritten mid new → Preserves trace sum mid new → KeepsTickets mid new → SamePlace mid new → ((m : Machine) → position_with new m ≡ position_with mid m)
-      → trace (device_of new) ≡ after_all (writing_in (segment_size_of mid) (ledger_of mid) (line_of mid) 0 0) (trace (device_of mid)) → fault_of new ≡ None → faults (device_of new) ≡ faults (device_of mid)
-      → ledger_of new ≡ written_ledger (segment_size_of mid) (mark_of 0 (first_view mid)) (ledger_of mid) → Advanced old new
-  advanced_further old mid new so_far ready is keeps tickets position with_slots came fault counted ledger =
-      let step = first_step to mid new ready is in
-      let calls : List Event = write_in (line_of mid) 0 0 in
-      let size : ℕ = mid.config.config.segment_size in
-      let it = first_calls to mid (waiting_of new) size (ledger_of mid) ready step in
-      record {
-        fault = fault;
-        counted = counted ∙ so_far.counted;
-        keeps = kept_further trace sum old mid new so_far.keeps keeps;
-        tickets = tickets_further old mid new so_far.tickets tickets;
-        position = place_further old mid new so_far.position position;
-        with_slots = λ m. with_slots m ∙ so_far.with_slots m;
-        held = so_far.held ∙ first_holds to (waiting_of mid) (waiting_of new) calls step;
-        current = ap end_of is ∙ promoted_end size (set (line_of mid) 0 (written_now 0 (first_view mid))) ∙ set_end (line_of mid) 0 (first_view mid) 0 refl ∙ so_far.current;
-        below = λ below b there. so_far.below below b (subst (λ (l : List BufferAt). Contains l b) (sym step.is) (in_rest step.first b (waiting_of new) there));
-        one = λ few. inr (by_left step few (so_far.one few));
-        left = left_further to (waiting_of old) (waiting_of mid) (waiting_of new) calls so_far.left step;
-        start = written_starts mid new size 0 (first_view mid) 0 refl is ∙ so_far.start;
-        segment = segment_further old mid new so_far.segment (segment_written mid new size 0 0 (first_view mid) refl is);
-        count = suc so_far.count;
-        many = many_further to so_far.count (waiting_of old) (waiting_of mid) (waiting_of new) step.first so_far.gone step.is so_far.many;
-        gone = sym (drop_one so_far.count (waiting_of old) step.first (waiting_of new) (sym so_far.gone ∙ step.is));
-        free = free_further to so_far.count (waiting_of old) (waiting_of mid) (waiting_of new) step.first so_far.gone step.is (first_free to (waiting_of mid) (waiting_of new) calls step) so_far.free;
-        came = came
-            ∙ ap (λ (es : List Event). after_all es (trace (device_of mid))) it
-            ∙ (λ i. after_all (writings (so_far.position.size i) (step.first ∷ []) (so_far.ledger i)) (so_far.came i))
-            ∙ writings_further (segment_size_of old) so_far.count (waiting_of old) (waiting_of mid) (waiting_of new) step.first so_far.gone step.is (ledger_of old) (trace (device_of old));
-        written = (
-            let one : synced_writes (trace (device_of new)) ≡ suc (synced_writes (trace (device_of mid))) =
-            ap synced_writes (came ∙ ap (λ (es : List Event). after_all es (trace (device_of mid))) it) ∙ one_counted (segment_size_of mid) step.first (ledger_of mid) (trace (device_of mid)) in
-            let before = so_far.written in
-            omega (arith, one, before));
-        front = front_further to so_far.count (waiting_of old) (waiting_of mid) (waiting_of new) step.first so_far.gone step.is step.below so_far.front;
-        ledger = ledger
-            ∙ (λ i. written_ledger (so_far.position.size i) (sym (first_marked to (first_view mid) (views_behind mid) ready step.first (waiting_of new) step.is) i) (so_far.ledger i))
-            ∙ ledger_further (segment_size_of old) so_far.count (waiting_of old) (waiting_of mid) (waiting_of new) step.first so_far.gone step.is (ledger_of old);
-      }
-    where
-      drop_one : (n : ℕ) (xs : List BufferAt) (y : BufferAt) (ys : List BufferAt) → drop n xs ≡ y ∷ ys → drop (suc n) xs ≡ ys
-      drop_one zero [] y ys same = cc
-      drop_one zero (x ∷ xs) y ys same = cc
-      drop_one (suc n) [] y ys same = cc
-      drop_one (suc n) (x ∷ xs) y ys same = drop_one n xs y ys same
+  -- One more is written:
+  module _ (old mid new : Log D C) (so_far : Advanced old mid) (ready : ready_below (line_of mid) to ≡ true) (is : FirstWritten mid new) where
+    abbrev size : ℕ
+    size = mid.config.config.segment_size
 
-      by_few : (bs : List BufferAt) → length bs ≤ 0 → bs ≡ []
-      by_few [] le = refl
-      by_few (b ∷ bs) le = absurd (omega (arith, le))
+    abbrev step : IsFirst to (waiting_of mid) (waiting_of new) (write_in (line_of mid) 0 0)
+    step = first_step to mid new ready is
 
-      by_left : IsFirst to (waiting_of mid) (waiting_of new) (write_in (line_of mid) 0 0) → length (waiting_of old) ≤ 1 → (line_of mid ≡ line_of old) ⊎ (waiting_of mid ≡ []) → waiting_of new ≡ []
-      by_left step few (inl same) =
-          let all = first_fewer to (waiting_of mid) (waiting_of new) (write_in (line_of mid) 0 0) step in
-          let count : length (waiting_of mid) ≡ length (waiting_of old) = ap (λ (vs : List SegmentView). length (unwritten vs)) same in
-          by_few (waiting_of new) (omega (arith, few, all, count))
-      by_left step few (inr none) = let all = first_fewer to (waiting_of mid) (waiting_of new) (write_in (line_of mid) 0 0) step in absurd (omega (arith, all, ap length none))
+    drop_one : (n : ℕ) (xs : List BufferAt) (y : BufferAt) (ys : List BufferAt) → drop n xs ≡ y ∷ ys → drop (suc n) xs ≡ ys
+    drop_one zero [] y ys same = cc
+    drop_one zero (x ∷ xs) y ys same = cc
+    drop_one (suc n) [] y ys same = cc
+    drop_one (suc n) (x ∷ xs) y ys same = drop_one n xs y ys same
+
+    pub one_gone : waiting_of new ≡ drop (suc so_far.count) (waiting_of old)
+    one_gone = sym (drop_one so_far.count (waiting_of old) step.first (waiting_of new) (sym so_far.gone ∙ step.is))
+
+    pub one_start : start_of new ≡ start_of old
+    one_start = written_starts mid new size 0 (first_view mid) 0 refl is ∙ so_far.start
+
+    one_current : current_begin new ≡ current_begin old
+    one_current =
+        ap end_of is ∙ promoted_end size (set (line_of mid) 0 (written_now 0 (first_view mid))) ∙ set_end (line_of mid) 0 (first_view mid) 0 refl ∙ so_far.current
+
+    one_segment : KeepsSegment old new
+    one_segment = segment_further old mid new so_far.segment (segment_written mid new size 0 0 (first_view mid) refl is)
+
+    pub failed_current : (current_begin new ≡ current_begin old) × KeepsSegment old new
+    failed_current = (one_current, one_segment)
+
+    one_marked : mark_of 0 (first_view mid) ≡ step.first.mark
+    one_marked = sym (first_marked to (first_view mid) (views_behind mid) ready step.first (waiting_of new) step.is)
+
+    -- the slots and the marks are those behind it,
+    one_ledger : written_ledger size (mark_of 0 (first_view mid)) (ledger_of mid)
+        ≡ ledger_behind (segment_size_of old) (take (suc so_far.count) (waiting_of old)) (ledger_of old)
+    one_ledger =
+        (λ i. written_ledger (so_far.keeps.position.size i) (one_marked i) (so_far.ledger i))
+        ∙ ledger_further (segment_size_of old) so_far.count (waiting_of old) (waiting_of mid) (waiting_of new) step.first so_far.gone step.is (ledger_of old)
+
+    -- or the marks alone, where the step behind it failed.
+    pub one_account : account_of new ≡ written_account (mark_of 0 (first_view mid)) (account_of mid)
+        → account_of new ≡ (ledger_behind (segment_size_of old) (take (suc so_far.count) (waiting_of old)) (ledger_of old)).account
+    one_account account = account ∙ ap (λ (l : Ledger). l.account) one_ledger
+
+    by_few : (bs : List BufferAt) → length bs ≤ 0 → bs ≡ []
+    by_few [] le = refl
+    by_few (b ∷ bs) le = absurd (omega (arith, le))
+
+    by_left : length (waiting_of old) ≤ 1 → (line_of mid ≡ line_of old) ⊎ (waiting_of mid ≡ []) → waiting_of new ≡ []
+    by_left few (inl same) =
+        let all = first_fewer to (waiting_of mid) (waiting_of new) (write_in (line_of mid) 0 0) step in
+        let count : length (waiting_of mid) ≡ length (waiting_of old) = ap (λ (vs : List SegmentView). length (unwritten vs)) same in
+        by_few (waiting_of new) (omega (arith, few, all, count))
+    by_left few (inr none) = let all = first_fewer to (waiting_of mid) (waiting_of new) (write_in (line_of mid) 0 0) step in absurd (omega (arith, all, ap length none))
+
+    pub advanced_further : KeepsWriting trace sum mid new → ((m : Machine) → position_with new m ≡ position_with mid m)
+        → trace (device_of new) ≡ after_all (writing_in (segment_size_of mid) (ledger_of mid) (line_of mid) 0 0) (trace (device_of mid)) → fault_of new ≡ None → faults (device_of new) ≡ faults (device_of mid)
+        → ledger_of new ≡ written_ledger (segment_size_of mid) (mark_of 0 (first_view mid)) (ledger_of mid) → Advanced old new
+    advanced_further keeps with_slots came fault counted ledger =
+        let calls : List Event = write_in (line_of mid) 0 0 in
+        let it = first_calls to mid (waiting_of new) size (ledger_of mid) ready step in
+        record {
+          fault = fault;
+          counted = counted ∙ so_far.counted;
+          keeps = writing_further trace sum old mid new so_far.keeps keeps;
+          with_slots = λ m. with_slots m ∙ so_far.with_slots m;
+          held = so_far.held ∙ first_holds to (waiting_of mid) (waiting_of new) calls step;
+          current = one_current;
+          below = λ below b there. so_far.below below b (subst (λ (l : List BufferAt). Contains l b) (sym step.is) (in_rest step.first b (waiting_of new) there));
+          one = λ few. inr (by_left few (so_far.one few));
+          left = left_further to (waiting_of old) (waiting_of mid) (waiting_of new) calls so_far.left step;
+          start = one_start;
+          segment = one_segment;
+          count = suc so_far.count;
+          many = many_further to so_far.count (waiting_of old) (waiting_of mid) (waiting_of new) step.first so_far.gone step.is so_far.many;
+          gone = one_gone;
+          free = free_further to so_far.count (waiting_of old) (waiting_of mid) (waiting_of new) step.first so_far.gone step.is (first_free to (waiting_of mid) (waiting_of new) calls step) so_far.free;
+          came = came
+              ∙ ap (λ (es : List Event). after_all es (trace (device_of mid))) it
+              ∙ (λ i. after_all (writings (so_far.keeps.position.size i) (step.first ∷ []) (so_far.ledger i)) (so_far.came i))
+              ∙ writings_further (segment_size_of old) so_far.count (waiting_of old) (waiting_of mid) (waiting_of new) step.first so_far.gone step.is (ledger_of old) (trace (device_of old));
+          written = (
+              let one : synced_writes (trace (device_of new)) ≡ suc (synced_writes (trace (device_of mid))) =
+              ap synced_writes (came ∙ ap (λ (es : List Event). after_all es (trace (device_of mid))) it) ∙ one_counted (segment_size_of mid) step.first (ledger_of mid) (trace (device_of mid)) in
+              let before = so_far.written in
+              omega (arith, one, before));
+          front = front_further to so_far.count (waiting_of old) (waiting_of mid) (waiting_of new) step.first so_far.gone step.is step.below so_far.front;
+          ledger = ledger ∙ one_ledger;
+        }
 
   -- All calls are those of the sealed buffers.
   pub all_sealed : (old : Log D C) → to ≤ current_begin old → writing_below sum old to ≡ writings (segment_size_of old) (free_below to (waiting_of old)) (ledger_of old)
@@ -216,7 +245,7 @@ module _ {D C : Type 0} (trace : D → Trace) (sum : List ℕ → ℕ) (faults :
       all_sealed old sealed
       ∙ ap (λ (bs : List BufferAt). writings size bs (ledger_of old)) so_far.free
       ∙ writings_joined size done (free_below to (waiting_of mid)) (ledger_of old)
-      ∙ (λ i. writings size done (ledger_of old) ++ writings (sym so_far.position.size i) (free_below to (waiting_of mid)) (sym so_far.ledger i))
+      ∙ (λ i. writings size done (ledger_of old) ++ writings (sym so_far.keeps.position.size i) (free_below to (waiting_of mid)) (sym so_far.ledger i))
 
   -- The calls and the one that failed are among those of all.
   pub failed_further : (old mid new : Log D C) → to ≤ current_begin old → Advanced old mid → ready_below (line_of mid) to ≡ true → Performs (writing_in (segment_size_of mid) (ledger_of mid) (line_of mid) 0 0) (trace (device_of mid)) (trace (device_of new))
@@ -247,21 +276,21 @@ module _ {D C : Type 0} (trace : D → Trace) (sum : List ℕ → ℕ) (faults :
       let all = all_behind old mid sealed so_far in
       absurd (omega (arith, ap length none, ap length all, left, length-append done (writings size (free_below to (waiting_of mid)) (ledger_of mid))))
 
-  -- Where there was one at most, and it can be written, none was.
-  pub failed_one : (old mid new : Log D C) → Advanced old mid → ready_below (line_of mid) to ≡ true → line_of new ≡ line_of mid → length (waiting_of old) ≤ 1 → synced_end new ≡ synced_end old
-  failed_one old mid new so_far ready same few = by_left (so_far.one few) where
+  -- The step behind a further one failed.
+  pub failed_since : (old mid new : Log D C) → Advanced old mid → FailedStep mid new → FailedStep old new
+  failed_since old mid new so_far failed = failed_over old mid new (so_far.keeps.preserves.goes_on.sound so_far.fault) so_far.keeps.position.pins failed
+
+  -- Where there was one at most, and it can be written, none was: nor is it then, or the step behind it failed.
+  pub failed_one : (old mid new : Log D C) → Advanced old mid → ready_below (line_of mid) to ≡ true → FailedStep mid new ⊎ (line_of new ≡ line_of mid)
+      → length (waiting_of old) ≤ 1 → FailedStep old new ⊎ (synced_end new ≡ synced_end old)
+  failed_one old mid new so_far ready (inl failed) few = inl (failed_since old mid new so_far failed)
+  failed_one old mid new so_far ready (inr same) few = inr (by_left (so_far.one few)) where
     by_left : (line_of mid ≡ line_of old) ⊎ (waiting_of mid ≡ []) → synced_end new ≡ synced_end old
     by_left (inl is) = same_synced old new (same ∙ is)
     by_left (inr none) =
         let size : ℕ = mid.config.config.segment_size in
         let step = line_first size mid.segments.first.site.place to (first_view mid) (views_behind mid) (line_segments mid) ready in
         absurd (omega (arith, ap length step.is, ap length none))
-
-  pub failed_tickets : (old mid new : Log D C) → Advanced old mid → KeepsTickets mid new → KeepsTickets old new
-  failed_tickets old mid new so_far tickets = tickets_further old mid new so_far.tickets tickets
-
-  pub failed_position : (old mid new : Log D C) → Advanced old mid → SamePlace mid new → SamePlace old new
-  failed_position old mid new so_far position = place_further old mid new so_far.position position
 
   -- Where nothing is left to write, all was made.
   pub all_made : (old now : Log D C) → to ≤ current_begin old → Advanced old now → free_below to (waiting_of now) ≡ [] → trace (device_of now) ≡ after_all (writing_below sum old to) (trace (device_of old))

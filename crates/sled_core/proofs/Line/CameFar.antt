@@ -1,5 +1,5 @@
 -- A call that writes buffers and fails: as many are gone as it wrote and synced, and unless the device failed each of them was written whole.
-use Rattle.std.proofs.Common.{◌≡◌, ◌∙◌, ◌⊎◌, ◌≤◌, ◌<◌, ◌≤ℤ◌, ◌<ℤ◌, ap, sym, refl, arith, inl, inr, ℕ, ℤ, pos, Bool, false, nat_lt, if◌then◌else◌, List, ◌∷◌, ◌++◌, take, drop, None, Result, Ok, Err, OnErr}
+use Rattle.std.proofs.Common.{◌≡◌, ◌∙◌, ◌⊎◌, ◌≤◌, ◌<◌, ◌≤ℤ◌, ◌<ℤ◌, ap, sym, refl, arith, inl, inr, ℕ, ℤ, suc, pos, Bool, true, false, nat_lt, if◌then◌else◌, List, ◌∷◌, ◌++◌, take, drop, None, Some, Result, Ok, Err, OnErr}
 use Rattle.std.specs.Prelude.{unsigned_abs}
 use Rattle.std.specs.declared.io.Error.{Error as IoError}
 use Rattle.std.proofs.Math.Seq.{take-append_seam}
@@ -12,13 +12,16 @@ use Rattle.sled_store.specs.Script.{after_all}
 use Rattle.sled_store.specs.SegmentStates.{Machine}
 use Rattle.sled_core.specs.Causes.{IsHeld}
 use Rattle.sled_core.specs.declared.logger.Log.{Log}
-use Rattle.sled_core.specs.Fits.{buffers_of, current_begin, device_of, ledger_of, ledger_sealed, position_sealed, position_with, segment_size_of, start_of, synced_end, waiting_of}
+use Rattle.sled_core.specs.Fits.{buffers_of, current_begin, device_of, ledger_for, ledger_of, ledger_sealed, line_of, position_sealed, position_with, segment_size_of, start_of, synced_end, waiting_of}
+use Rattle.sled_core.specs.Freeing.{Ledger}
 use Rattle.sled_core.specs.Fronts.{CameAround, WroteFront, WroteNone, synced_writes, syncs}
-use Rattle.sled_core.specs.Keeps.{LeavesSome, start_sealed}
+use Rattle.sled_core.specs.Keeps.{LeavesSome, position_for, sealed_for, start_for, start_sealed}
 use Rattle.sled_core.specs.Ledger.{ledger_behind, writings}
 use Rattle.sled_core.specs.ReadBuffer.{SealsAround, WritesAround, held_at, settling}
+use Rattle.sled_core.specs.inside.OneWritten.{WroteOne}
+use Rattle.sled_core.specs.inside.Turned.{ready_below}
 use Rattle.sled_core.specs.Waiting.{free_below}
-use Rattle.sled_core.proofs.Line.Advanced.{Advanced, first_view, views_behind}
+use Rattle.sled_core.proofs.Line.Advanced.{Advanced, failed_since, first_view, one_account, one_gone, one_start, views_behind}
 use Rattle.sled_core.proofs.Line.Current.{current_free}
 use Rattle.sled_core.proofs.Line.HeaderMarks.{none_begun}
 use Rattle.sled_core.proofs.Line.Lying.{synced_up}
@@ -61,9 +64,8 @@ does_unsynced e (Ok x) old new does = tt
 does_unsynced e (Err x) old new does = (left_unsynced e old new does, left_unwritten e old new does)
 
 module _ {D C : Type 0} (trace : D → Trace) (sum : List ℕ → ℕ) (faults : D → ℕ) (to : ℕ) where
-  -- Some of the buffers that begin below a place were written, all of which are sealed, and then one wasn't.
-  module _ (old mid new : Log D C) (sealed : to ≤ current_begin old) (so_far : Advanced trace sum faults to old mid) (waiting : waiting_of new ≡ waiting_of mid) (start : start_of new ≡ start_of mid)
-      (with_slots : (m : Machine) → position_with new m ≡ position_with mid m) where
+  -- Some of the buffers that begin below a place were written, all of which are sealed.
+  module _ (old mid : Log D C) (sealed : to ≤ current_begin old) (so_far : Advanced trace sum faults to old mid) where
     not_current : nat_lt (current_begin old) to ≡ false
     not_current = grind (arith, nat_tests, sealed)
 
@@ -73,19 +75,56 @@ module _ {D C : Type 0} (trace : D → Trace) (sum : List ℕ → ℕ) (faults :
         current_free sum old.config.config.segment_size old.segments.first.site.place to (first_view old) (views_behind old) (line_segments old) sealed ∙ so_far.free in
         (λ i. take (sym so_far.many i) (all i)) ∙ take-append_seam (take so_far.count (waiting_of old)) (free_below to (waiting_of mid))
 
-    pub wrote_front : WroteNone trace mid new → ledger_of new ≡ ledger_of mid → synced_end new < to → WroteFront trace sum to old new
-    wrote_front none ledger short = record {
-      count = so_far.count;
-      left = waiting ∙ so_far.gone ∙ sym (ap (λ (o : Bool). drop so_far.count (if o then buffers_of sum old else waiting_of old)) not_current);
-      start = start ∙ so_far.start ∙ sym (ap (λ (o : Bool). if o then start_sealed old else start_of old) not_current);
-      position = λ m. with_slots m ∙ so_far.with_slots m ∙ sym (ap (λ (o : Bool). if o then position_sealed old m else position_with old m) not_current);
-      ledger = ledger ∙ so_far.ledger
-          ∙ sym (ap (λ (o : Bool). ledger_behind (segment_size_of old) (take so_far.count (if o then buffers_of sum old else waiting_of old)) (if o then ledger_sealed old else ledger_of old)) not_current);
-      written = none.written ∙ so_far.written;
-      whole = λ sound. none.still sound ∙ so_far.came
-          ∙ (λ i. after_all (writings (segment_size_of old) (sym done_is i) (if sym not_current i then ledger_sealed old else ledger_of old)) (trace (device_of old)));
-      short = short;
-    }
+    left_for : (n : ℕ) → drop n (waiting_of old) ≡ drop n (sealed_for sum to old)
+    left_for n = sym (ap (λ (o : Bool). drop n (if o then buffers_of sum old else waiting_of old)) not_current)
+
+    start_is : start_of old ≡ start_for to old
+    start_is = sym (ap (λ (o : Bool). if o then start_sealed old else start_of old) not_current)
+
+    position_is : (m : Machine) → position_with old m ≡ position_for to old m
+    position_is m = sym (ap (λ (o : Bool). if o then position_sealed old m else position_with old m) not_current)
+
+    ledger_is : (n : ℕ) → ledger_behind (segment_size_of old) (take n (waiting_of old)) (ledger_of old)
+        ≡ ledger_behind (segment_size_of old) (take n (sealed_for sum to old)) (ledger_for to old)
+    ledger_is n =
+        sym (ap (λ (o : Bool). ledger_behind (segment_size_of old) (take n (if o then buffers_of sum old else waiting_of old)) (if o then ledger_sealed old else ledger_of old)) not_current)
+
+    -- Then one wasn't,
+    pub wrote_front : (new : Log D C) → waiting_of new ≡ waiting_of mid → start_of new ≡ start_of mid → ((m : Machine) → position_with new m ≡ position_with mid m)
+        → WroteNone trace mid new → ledger_of new ≡ ledger_of mid → synced_end new < to → WroteFront trace sum to old new
+    wrote_front new waiting start with_slots none ledger short =
+        let all : ledger_of new ≡ ledger_behind (segment_size_of old) (take so_far.count (sealed_for sum to old)) (ledger_for to old) = ledger ∙ so_far.ledger ∙ ledger_is so_far.count in
+        record {
+          count = so_far.count;
+          left = waiting ∙ so_far.gone ∙ left_for so_far.count;
+          start = start ∙ so_far.start ∙ start_is;
+          position = λ m. with_slots m ∙ so_far.with_slots m ∙ position_is m;
+          ledger = (ap (λ (l : Ledger). l.account) all, inr (ap (λ (l : Ledger). l.machine) all));
+          written = none.written ∙ so_far.written;
+          whole = λ sound. none.still sound ∙ so_far.came
+              ∙ (λ i. after_all (writings (segment_size_of old) (sym done_is i) (if sym not_current i then ledger_sealed old else ledger_of old)) (trace (device_of old)));
+          short = inr short;
+        }
+
+    -- or it was, and the step behind it failed.
+    pub failed_front : (new : Log D C) → ready_below (line_of mid) to ≡ true → WroteOne trace 0 0 mid new → ((m : Machine) → position_with new m ≡ position_with mid m)
+        → WroteFront trace sum to old new
+    failed_front new ready one with_slots =
+        let is = one.line (first_view mid) refl in
+        let failed = failed_since trace sum faults to old mid new so_far one.failed in
+        record {
+          count = suc so_far.count;
+          left = one_gone trace sum faults to old mid new so_far ready is ∙ left_for (suc so_far.count);
+          start = one_start trace sum faults to old mid new so_far ready is ∙ start_is;
+          position = λ m. with_slots m ∙ so_far.with_slots m ∙ position_is m;
+          ledger = (
+            one_account trace sum faults to old mid new so_far ready is (one.account (first_view mid) refl) ∙ ap (λ (l : Ledger). l.account) (ledger_is (suc so_far.count)),
+            inl failed,
+          );
+          written = (let last = one.written in let before = so_far.written in omega (arith, last, before));
+          whole = λ sound. absurd (let bad : None ≡ Some failed.fault = sym sound ∙ failed.kept in cc);
+          short = inl (failed, omega arith);
+        }
 
 -- What is left is so many of them.
 pub front_leaves : {D C : Type 0} (trace : D → Trace) (sum : List ℕ → ℕ) (to : ℕ) (old new : Log D C) → WroteFront trace sum to old new → LeavesSome sum to old new
@@ -107,7 +146,7 @@ module _ {D C : Type 0} (trace : D → Trace) (sum : List ℕ → ℕ) (old mid 
     | inl behind ↦ (
         let above : pos 0 ≤ℤ lsn = omega (arith, ints, behind) in
         let at : pos (unsigned_abs lsn) ≡ lsn = omega (arith, ints, above) in
-        inr (inr ((waiting ∙ (writes.written behind).0, start ∙ (writes.written behind).1, ledger ∙ (writes.written behind).2, λ m. with_slots m ∙ (writes.written behind).3 m), same ∙ made ∙ ap (λ z. after_all (settling sum old z) (trace (device_of old))) (sym at), ap (held_at sum old) at ∙ free)))
+        inr (inr (inl ((waiting ∙ (writes.written behind).0, start ∙ (writes.written behind).1, ledger ∙ (writes.written behind).2, λ m. with_slots m ∙ (writes.written behind).3 m), same ∙ made ∙ ap (λ z. after_all (settling sum old z) (trace (device_of old))) (sym at), ap (held_at sum old) at ∙ free))))
     | inr below ↦ inl ((waiting ∙ (writes.still below).0, start ∙ (writes.still below).1, ledger ∙ (writes.still below).2, λ m. with_slots m ∙ (writes.still below).3 m), same ∙ still below, λ above. (let up = synced_up old in absurd (omega (arith, ints, below, above, up))))
   ]
 

@@ -1,14 +1,14 @@
-use Rattle.std.proofs.Common.{List, ap, take, rules, ◌≡◌, ◌∙◌, ◌+◌, true, sym, refl, arith, w64, SFits}
+use Rattle.std.proofs.Common.{List, ap, take, rules, ◌≡◌, ◌∙◌, ◌+◌, true, inl, inr, sym, refl, arith, w64, SFits}
 use Rattle.std.proofs.lemmas.Int.{to_z-of_z}
 use Rattle.std.proofs.lemmas.Result.{err_from_is_err_and}
 use Rattle.sled_store.proofs.Traces.ScriptLemmas.{performs_whole}
 use Rattle.sled_core.specs.Fits.{ledger_of, line_of, segment_size_of, waiting_of}
 use Rattle.sled_core.specs.inside.Turned.{ready_below}
-use Rattle.sled_core.proofs.Line.KeptCalls.{kept_further}
-use Rattle.sled_core.proofs.Line.Advanced.{advanced_further, advanced_still, all_made, failed_further, failed_one, failed_position, failed_tickets, failed_any, first_step, first_view, holds_up, past_left, ready_in, same_current, still_short, stuck_left, stuck_one, write_failed}
+use Rattle.sled_core.proofs.Line.KeptCalls.{writing_further}
+use Rattle.sled_core.proofs.Line.Advanced.{advanced_further, advanced_still, all_made, failed_any, failed_current, failed_further, failed_one, first_step, first_view, holds_up, past_left, ready_in, same_current, still_short, stuck_left, stuck_one, write_failed}
 use Rattle.sled_core.proofs.Line.Below.{IsStuck, begin_none, first_fewer, free_past, held_past}
 use Rattle.sled_core.proofs.Line.HeaderMarks.{segment_further, segment_same}
-use Rattle.sled_core.proofs.Line.CameFar.{wrote_front}
+use Rattle.sled_core.proofs.Line.CameFar.{failed_front, wrote_front}
 use Rattle.sled_core.proofs.Line.LogSpans.{leaves_above, same_buffers}
 use Rattle.sled_core.proofs.Line.Outcomes.{all_err}
 use Rattle.sled_core.proofs.logger.Log.write_sealed_below.Given as given
@@ -40,21 +40,18 @@ loop-self-preserved g c =
     let ready : ready_below (line_of mid) c.args.to ≡ true = sym c.has_ready_below.ensures ∙ c.loop-self-test.true in
     record {
       advanced = advanced_further g.D.Device.trace g.C.Checksum.sum_of g.D.Device.faults c.args.to c.args.self.now mid c.write_buffer.new.self c.loop-self.invariant.advanced ready (c.in_ok-write_buffer.ensures.line (first_view mid) refl)
-          c.write_buffer.ensures.keeps.preserves c.write_buffer.ensures.keeps.tickets c.write_buffer.ensures.keeps.position c.write_buffer.ensures.position c.in_ok-write_buffer.ensures.calls c.in_ok-write_buffer.ensures.answers.1 c.in_ok-write_buffer.ensures.answers.2 (c.in_ok-write_buffer.ensures.ledger (first_view mid) refl);
+          c.write_buffer.ensures.keeps c.write_buffer.ensures.position c.in_ok-write_buffer.ensures.calls c.in_ok-write_buffer.ensures.answers.1 c.in_ok-write_buffer.ensures.answers.2 (c.in_ok-write_buffer.ensures.ledger (first_view mid) refl);
     }
 
--- A write failed.
+-- A write failed: the buffer wasn't written, or the step behind it failed.
 
 pub returns-in_err-write_buffer-clause-at_most : goal.returns-in_err-write_buffer-clause-at_most
 returns-in_err-write_buffer-clause-at_most g c =
     failed_further g.D.Device.trace g.C.Checksum.sum_of g.D.Device.faults c.args.to c.args.self.now c.loop-self.self c.write_buffer.new.self c.requires.sealed c.loop-self.invariant.advanced (sym c.has_ready_below.ensures ∙ c.loop-self-test.true) c.write_buffer.ensures.at_most
 
 pub returns-in_err-write_buffer-clause-keeps : goal.returns-in_err-write_buffer-clause-keeps
-returns-in_err-write_buffer-clause-keeps g c = record {
-  preserves = kept_further g.D.Device.trace g.C.Checksum.sum_of c.args.self.now c.loop-self.self c.write_buffer.new.self c.loop-self.invariant.advanced.keeps c.write_buffer.ensures.keeps.preserves;
-  tickets = failed_tickets g.D.Device.trace g.C.Checksum.sum_of g.D.Device.faults c.args.to c.args.self.now c.loop-self.self c.write_buffer.new.self c.loop-self.invariant.advanced c.write_buffer.ensures.keeps.tickets;
-  position = failed_position g.D.Device.trace g.C.Checksum.sum_of g.D.Device.faults c.args.to c.args.self.now c.loop-self.self c.write_buffer.new.self c.loop-self.invariant.advanced c.write_buffer.ensures.keeps.position;
-}
+returns-in_err-write_buffer-clause-keeps g c =
+    writing_further g.D.Device.trace g.C.Checksum.sum_of c.args.self.now c.loop-self.self c.write_buffer.new.self c.loop-self.invariant.advanced.keeps c.write_buffer.ensures.keeps
 
 pub returns-in_err-write_buffer-clause-answers : goal.returns-in_err-write_buffer-clause-answers
 returns-in_err-write_buffer-clause-answers g c =
@@ -65,21 +62,30 @@ pub returns-in_err-write_buffer-clause-current : goal.returns-in_err-write_buffe
 returns-in_err-write_buffer-clause-current g c =
     let mid = c.loop-self.self in
     let new = c.write_buffer.new.self in
-    let same = c.in_err-write_buffer.ensures.same in
     let so_far = c.loop-self.invariant.advanced in
-    (same_current mid new same ∙ so_far.current, segment_further c.args.self.now mid new so_far.segment (segment_same mid new same))
+    elim c.in_err-write_buffer.ensures.unwritten [
+      | inl none ↦ (same_current mid new none.line ∙ so_far.current, segment_further c.args.self.now mid new so_far.segment (segment_same mid new none.line))
+      | inr one ↦ failed_current g.D.Device.trace g.C.Checksum.sum_of g.D.Device.faults c.args.to c.args.self.now mid new so_far (sym c.has_ready_below.ensures ∙ c.loop-self-test.true) (one.line (first_view mid) refl)
+    ]
 
 pub returns-in_err-write_buffer-clause-one : goal.returns-in_err-write_buffer-clause-one
 returns-in_err-write_buffer-clause-one g c = λ few.
     let e = err_from_is_err_and c.from_residual.result c.from_residual.ensures.1 in
-    rw e.1 (failed_one g.D.Device.trace g.C.Checksum.sum_of g.D.Device.faults c.args.to c.args.self.now c.loop-self.self c.write_buffer.new.self c.loop-self.invariant.advanced (sym c.has_ready_below.ensures ∙ c.loop-self-test.true) c.in_err-write_buffer.ensures.same few)
+    rw e.1 (failed_one g.D.Device.trace g.C.Checksum.sum_of g.D.Device.faults c.args.to c.args.self.now c.loop-self.self c.write_buffer.new.self c.loop-self.invariant.advanced (sym c.has_ready_below.ensures ∙ c.loop-self-test.true)
+    (elim c.in_err-write_buffer.ensures.unwritten [ inl none ↦ inr none.line | inr one ↦ inl one.failed ]) few)
 
 pub returns-in_err-write_buffer-clause-front : goal.returns-in_err-write_buffer-clause-front
 returns-in_err-write_buffer-clause-front g c =
-    let same = same_buffers c.loop-self.self c.write_buffer.new.self c.in_err-write_buffer.ensures.same in
-    all_err c.from_residual.result _
-    (wrote_front g.D.Device.trace g.C.Checksum.sum_of g.D.Device.faults c.args.to c.args.self.now c.loop-self.self c.write_buffer.new.self c.requires.sealed c.loop-self.invariant.advanced same.0 same.1 c.write_buffer.ensures.position c.in_err-write_buffer.ensures.unwritten.0 c.in_err-write_buffer.ensures.unwritten.1
-    (still_short c.args.to c.loop-self.self c.write_buffer.new.self (sym c.has_ready_below.ensures ∙ c.loop-self-test.true) c.in_err-write_buffer.ensures.same))
+    let mid = c.loop-self.self in
+    let new = c.write_buffer.new.self in
+    let ready : ready_below (line_of mid) c.args.to ≡ true = sym c.has_ready_below.ensures ∙ c.loop-self-test.true in
+    all_err c.from_residual.result _ (elim c.in_err-write_buffer.ensures.unwritten [
+      | inl none ↦
+          let same = same_buffers mid new none.line in
+          wrote_front g.D.Device.trace g.C.Checksum.sum_of g.D.Device.faults c.args.to c.args.self.now mid c.requires.sealed c.loop-self.invariant.advanced new same.0 same.1 c.write_buffer.ensures.position none.none none.ledger
+          (still_short c.args.to mid new ready none.line)
+      | inr one ↦ failed_front g.D.Device.trace g.C.Checksum.sum_of g.D.Device.faults c.args.to c.args.self.now mid c.requires.sealed c.loop-self.invariant.advanced new ready one c.write_buffer.ensures.position
+    ])
 
 pub returns-in_err-write_buffer-clause-idle : goal.returns-in_err-write_buffer-clause-idle
 returns-in_err-write_buffer-clause-idle g c = λ none.
@@ -103,11 +109,7 @@ returns-then-synced_end-to-clause-at_most g c =
     performs_whole _ _ _ (all_made g.D.Device.trace g.C.Checksum.sum_of g.D.Device.faults c.args.to c.args.self.now c.loop-self.self c.requires.sealed c.loop-self.invariant.advanced (stuck g c).none)
 
 pub returns-then-synced_end-to-clause-keeps : goal.returns-then-synced_end-to-clause-keeps
-returns-then-synced_end-to-clause-keeps g c = record {
-  preserves = c.loop-self.invariant.advanced.keeps;
-  tickets = c.loop-self.invariant.advanced.tickets;
-  position = c.loop-self.invariant.advanced.position;
-}
+returns-then-synced_end-to-clause-keeps g c = c.loop-self.invariant.advanced.keeps
 
 pub returns-then-synced_end-to-clause-answers : goal.returns-then-synced_end-to-clause-answers
 returns-then-synced_end-to-clause-answers g c =
@@ -125,12 +127,12 @@ pub returns-then-synced_end-to-clause-current : goal.returns-then-synced_end-to-
 returns-then-synced_end-to-clause-current g c = (c.loop-self.invariant.advanced.current, c.loop-self.invariant.advanced.segment)
 
 pub returns-then-synced_end-to-clause-one : goal.returns-then-synced_end-to-clause-one
-returns-then-synced_end-to-clause-one g c = λ few. stuck_one g.D.Device.trace g.C.Checksum.sum_of g.D.Device.faults c.args.to c.args.self.now c.loop-self.self c.loop-self.invariant.advanced (stuck g c) few
+returns-then-synced_end-to-clause-one g c = λ few. inr (stuck_one g.D.Device.trace g.C.Checksum.sum_of g.D.Device.faults c.args.to c.args.self.now c.loop-self.self c.loop-self.invariant.advanced (stuck g c) few)
 
 pub returns-then-synced_end-to-clause-front : goal.returns-then-synced_end-to-clause-front
 returns-then-synced_end-to-clause-front g c =
     let now = c.loop-self.self in
-    wrote_front g.D.Device.trace g.C.Checksum.sum_of g.D.Device.faults c.args.to c.args.self.now now now c.requires.sealed c.loop-self.invariant.advanced refl refl (λ m. refl) (record { synced = refl; written = refl; still = λ sound. refl; account = refl }) refl
+    wrote_front g.D.Device.trace g.C.Checksum.sum_of g.D.Device.faults c.args.to c.args.self.now now c.requires.sealed c.loop-self.invariant.advanced now refl refl (λ m. refl) (record { synced = refl; written = refl; still = λ sound. refl; account = refl }) refl
     (omega (arith, c.synced_end.ensures.is, c.if-synced_end-to.true))
 
 pub returns-then-synced_end-to-clause-idle : goal.returns-then-synced_end-to-clause-idle
@@ -151,11 +153,7 @@ returns-clause-at_most g c =
     (free_past c.args.to (waiting_of now) (past_left g.D.Device.trace g.C.Checksum.sum_of g.D.Device.faults c.args.to now (omega (arith, c.synced_end.ensures.is, c.if-synced_end-to.false)))))
 
 pub returns-clause-keeps : goal.returns-clause-keeps
-returns-clause-keeps g c = record {
-  preserves = c.loop-self.invariant.advanced.keeps;
-  tickets = c.loop-self.invariant.advanced.tickets;
-  position = c.loop-self.invariant.advanced.position;
-}
+returns-clause-keeps g c = c.loop-self.invariant.advanced.keeps
 
 pub returns-clause-answers : goal.returns-clause-answers
 returns-clause-answers g c =
