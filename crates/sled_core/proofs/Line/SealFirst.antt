@@ -1,27 +1,30 @@
 -- A call that writes the buffers that begin below a place, and seals the current one first, where that does: what it makes of the log is what the write of those makes of the sealed one.
-use Rattle.std.proofs.Common.{◌≡◌, ◌∙◌, ◌≤◌, ◌<◌, ◌+◌, ap, sym, refl, arith, subst, inl, ℕ, Bool, true, false, if◌then◌else◌, List, [], ◌∷◌, ◌++◌, length, take, drop, map, None, Some, Result, Ok, Err, OnOk, OnErr}
+use Rattle.std.proofs.Common.{◌≡◌, ◌∙◌, ◌⊎◌, ◌≤◌, ◌<◌, ◌+◌, ap, sym, refl, arith, subst, inl, inr, ℕ, Bool, true, false, if◌then◌else◌, List, [], ◌∷◌, ◌++◌, length, take, drop, map, None, Some, Result, Ok, Err, OnOk, OnErr}
 use Rattle.std.specs.declared.io.Error.{Error as IoError}
 use Rattle.std.specs.List.{Contains}
 use Rattle.std.proofs.lemmas.Bool.Decides.{nat_tests}
+use Rattle.sled_codec.specs.History.{Message}
 use Rattle.sled_codec.specs.declared.result.Error.{Error}
 use Rattle.sled_store.specs.Device.{Event, Trace}
 use Rattle.sled_store.specs.Script.{Performs, after_all}
 use Rattle.sled_store.specs.SegmentStates.{Machine}
 use Rattle.sled_store.specs.declared.config.RunningConfig.{RunningConfig}
+use Rattle.sled_store.proofs.Marks.OutdatedSteps.{KeepsBlobs, blobs_same, handed_blobs}
 use Rattle.sled_store.proofs.Segments.Elements.{in_nothing, only_in}
 use Rattle.sled_store.proofs.Traces.ScriptLemmas.{performs_nothing}
 use Rattle.sled_core.specs.Begun.{SegmentView, segment_view}
 use Rattle.sled_core.specs.declared.logger.Log.{Log}
 use Rattle.sled_core.specs.Causes.{HeldAnswers, IsHeld, OnDone}
 use Rattle.sled_core.specs.inside.Fits.{AddsBuffers}
-use Rattle.sled_core.specs.Fits.{IsUnchanged, IsUsedUp, IsUsedUpBelow, KeepsAll, KeepsTickets, NoneSealed, buffers_of, current_begin, current_of, device_of, fault_of, holding_below, ledger_for, ledger_of, ledger_sealed, machine_at, position_of, position_sealed, position_with, reserved_end, sealing_end, segment_size_of, start_of, synced_end, waiting_of, writing_below, writing_some}
+use Rattle.sled_core.specs.Fits.{IsUnchanged, IsUsedUp, IsUsedUpBelow, KeepsAll, NoneSealed, buffers_of, current_begin, current_of, device_of, fault_of, holding_below, ledger_for, ledger_of, ledger_sealed, machine_at, pins_of, position_of, position_sealed, position_with, reserved_end, sealing_end, segment_size_of, start_of, synced_end, waiting_of, writing_below, writing_some}
 use Rattle.sled_core.specs.Fronts.{CameTo, WroteFront, synced_writes}
-use Rattle.sled_core.specs.Keeps.{LeavesAbove, LeavesSome, Preserves, SamePlace, SamePosition, WritesBelow, start_sealed}
+use Rattle.sled_core.specs.Freeing.{Ledger}
+use Rattle.sled_core.specs.Keeps.{FailedStep, IsSpared, KeepsLog, KeepsWriting, LeavesAbove, LeavesSome, WritesBelow, sealed_for, start_sealed}
 use Rattle.sled_core.specs.Ledger.{ledger_behind, writings}
 use Rattle.sled_core.specs.Marked.{BeginsMarked}
-use Rattle.sled_core.specs.Positions.{Position, is_short}
+use Rattle.sled_core.specs.Positions.{Position, is_short, next_segment_at}
 use Rattle.sled_core.specs.Waiting.{BufferAt, free_below, held_below, holds_any}
-use Rattle.sled_core.proofs.Line.KeptCalls.{kept_still, place_further, position_place, position_still, tickets_further, tickets_still}
+use Rattle.sled_core.proofs.Line.KeptCalls.{failed_over, log_still, log_writing, spared_slots, writing_further}
 use Rattle.sled_core.proofs.Line.Below.{begin_all, free_front, held_front, line_past}
 use Rattle.sled_core.proofs.Line.Current.{ComeBehind, line_current}
 use Rattle.sled_core.proofs.Line.Entered.{filled_last}
@@ -86,8 +89,8 @@ module _ {D C : Type 0} (sum : List ℕ → ℕ) (to : ℕ) (old mid : Log D C) 
   -- so many of them at the front are written of the one as of the other
   pub front_first : {trace : D → Trace} (adds : AddsBuffers sum old mid) (new : Log D C) (below : current_begin old < to) (sealed : to ≤ current_begin mid) (waiting : waiting_of mid ≡ buffers_of sum old) (start : start_of mid ≡ start_sealed old)
       → device_of mid ≡ device_of old → ((m : Machine) → position_with mid m ≡ position_sealed old m) → ledger_of mid ≡ ledger_sealed old → segment_size_of mid ≡ segment_size_of old
-      → WroteFront trace sum to mid new → WroteFront trace sum to old new
-  front_first {trace} adds new below sealed waiting start device with_slots ledger size front =
+      → fault_of old ≡ None → pins_of mid ≡ pins_of old → WroteFront trace sum to mid new → WroteFront trace sum to old new
+  front_first {trace} adds new below sealed waiting start device with_slots ledger size sound pins front =
       let same = same_for sum to old mid new below sealed waiting start with_slots ledger size in
       let from = same_ledger sum to old mid new below sealed waiting start with_slots ledger size in
       record {
@@ -95,11 +98,21 @@ module _ {D C : Type 0} (sum : List ℕ → ℕ) (to : ℕ) (old mid : Log D C) 
         left = front.left ∙ ap (drop front.count) same;
         start = front.start ∙ same_start sum to old mid new below sealed waiting start with_slots ledger size;
         position = λ m. front.position m ∙ same_position sum to old mid new below sealed waiting start with_slots ledger size m;
-        ledger = front.ledger ∙ (λ i. ledger_behind (size i) (take front.count (same i)) (from i));
+        ledger = (
+          front.ledger.0 ∙ ap (λ (l : Ledger). l.account) (all front.count same from),
+          elim front.ledger.1 [
+            | inl failed ↦ inl (failed_over old mid new sound pins failed)
+            | inr machine ↦ inr (machine ∙ ap (λ (l : Ledger). l.machine) (all front.count same from))
+          ],
+        );
         written = front.written ∙ ap (λ d. front.count + synced_writes (trace d)) device;
-        whole = λ sound. front.whole sound ∙ (λ i. after_all (some_more adds size from front.count i) (trace (device i)));
-        short = front.short;
+        whole = λ none. front.whole none ∙ (λ i. after_all (some_more adds size from front.count i) (trace (device i)));
+        short = elim front.short [ inl failed ↦ inl (failed_over old mid new sound pins failed.0, failed.1) | inr less ↦ inr less ];
       }
+    where
+      all : (n : ℕ) → sealed_for sum to mid ≡ sealed_for sum to old → ledger_for to mid ≡ ledger_for to old
+          → ledger_behind (segment_size_of mid) (take n (sealed_for sum to mid)) (ledger_for to mid) ≡ ledger_behind (segment_size_of old) (take n (sealed_for sum to old)) (ledger_for to old)
+      all n same from = λ i. ledger_behind (size i) (take n (same i)) (from i)
 
   pub sealed_past : current_begin mid ≡ sealing_end old → to ≤ current_begin mid
   sealed_past begins = let most = ends_behind old in omega (arith, reserved, begins, most)
@@ -107,7 +120,8 @@ module _ {D C : Type 0} (sum : List ℕ → ℕ) (to : ℕ) (old mid : Log D C) 
   -- What is written and what is left is of the log as it was.
   module _ {T : Type 0} (new : Log D C) (result : Result T Error) (below : current_begin old < to) (begins : current_begin mid ≡ sealing_end old) (waiting : waiting_of mid ≡ buffers_of sum old) (start : start_of mid ≡ start_sealed old) (synced : synced_end mid ≡ synced_end old)
       (with_slots : (m : Machine) → position_with mid m ≡ position_sealed old m) (ledger : ledger_of mid ≡ ledger_sealed old) (size : segment_size_of mid ≡ segment_size_of old)
-      (current : current_begin new ≡ current_begin mid) (none : ((b : BufferAt) → Contains (waiting_of mid) b → b.place < to) → OnOk result (NoneSealed new)) (one : length (waiting_of mid) ≤ 1 → OnErr result (synced_end new ≡ synced_end mid))
+      (current : current_begin new ≡ current_begin mid) (none : ((b : BufferAt) → Contains (waiting_of mid) b → b.place < to) → OnOk result (NoneSealed new)) (sound : fault_of old ≡ None) (pins : pins_of mid ≡ pins_of old)
+      (one : length (waiting_of mid) ≤ 1 → OnErr result (FailedStep mid new ⊎ (synced_end new ≡ synced_end mid)))
       (above : OnOk result (LeavesAbove sum to mid new)) (some : OnErr result (LeavesSome sum to mid new)) (marked : BeginsMarked sum old new) where
     few : NoneSealed old → (length (waiting_of mid) ≤ 1) × ((b : BufferAt) → Contains (waiting_of mid) b → b.place < to)
     few unsealed =
@@ -115,12 +129,16 @@ module _ {D C : Type 0} (sum : List ℕ → ℕ) (to : ℕ) (old mid : Log D C) 
         (few_below (current_begin old) to (waiting_of old) (buffers_of sum old) unsealed
         (line_current sum (segment_size_of old) old.segments.first.site.place (segment_view old.segments.first) (map segment_view old.segments.behind.items) (line_segments old)) below)
 
+    since : FailedStep mid new ⊎ (synced_end new ≡ synced_end mid) → FailedStep old new ⊎ (synced_end new ≡ synced_end old)
+    since (inl failed) = inl (failed_over old mid new sound pins failed)
+    since (inr same) = inr (same ∙ synced)
+
     pub writes_sealed : WritesBelow sum result to old new
     writes_sealed = record {
       seals = record {
         held = λ held. (let past = sealed_past begins in omega (arith, past, current));
         none = λ unsealed. none (few unsealed).1;
-        err = λ unsealed. on_err result (synced_end new ≡ synced_end mid) (synced_end new ≡ synced_end old) (λ same. same ∙ synced) (one (few unsealed).0);
+        err = λ unsealed. on_err result _ _ since (one (few unsealed).0);
       };
       above = on_ok result (LeavesAbove sum to mid new) (LeavesAbove sum to old new) (above_first sum to old mid new below (sealed_past begins) waiting start with_slots ledger size) above;
       some = on_err result (LeavesSome sum to mid new) (LeavesSome sum to old new) (some_first sum to old mid new below (sealed_past begins) waiting start with_slots ledger size) some;
@@ -129,7 +147,7 @@ module _ {D C : Type 0} (sum : List ℕ → ℕ) (to : ℕ) (old mid : Log D C) 
 
 -- So it is where the current buffer begins behind the place.
 pub writes_still : {T D C : Type 0} (sum : List ℕ → ℕ) (to : ℕ) (old new : Log D C) (result : Result T Error) → to ≤ current_begin old → current_begin new ≡ current_begin old → (((b : BufferAt) → Contains (waiting_of old) b → b.place < to) → OnOk result (NoneSealed new))
-    → (length (waiting_of old) ≤ 1 → OnErr result (synced_end new ≡ synced_end old)) → OnOk result (LeavesAbove sum to old new) → OnErr result (LeavesSome sum to old new) → BeginsMarked sum old new → WritesBelow sum result to old new
+    → (length (waiting_of old) ≤ 1 → OnErr result (FailedStep old new ⊎ (synced_end new ≡ synced_end old))) → OnOk result (LeavesAbove sum to old new) → OnErr result (LeavesSome sum to old new) → BeginsMarked sum old new → WritesBelow sum result to old new
 writes_still sum to old new result sealed current none one above some marked = record {
   seals = record {
     held = λ held. omega (arith, sealed, current);
@@ -179,7 +197,7 @@ unchanged_performs {D} {C} old new same trace es = performs_nothing es _ _ (ap (
 -- Nothing was done.
 pub writes_none : {T D C : Type 0} (sum : List ℕ → ℕ) (to : ℕ) (log : Log D C) (e : Error) → (IsHeld {T = T} (Err e) → ⊥) → WritesBelow {T = T} sum (Err e) to log log
 writes_none sum to log e never = record {
-  seals = record { held = λ held. absurd (never held); none = λ unsealed. tt; err = λ unsealed. refl };
+  seals = record { held = λ held. absurd (never held); none = λ unsealed. tt; err = λ unsealed. inr refl };
   above = tt;
   some = inl (refl, refl);
   marked = none_begun sum log log refl (λ h there. there) (λ f there. there);
@@ -202,22 +220,31 @@ sealed_ledger old mid with_slots position account =
     ledger_parts : machine_at mid ≡ (position_of old).machine → account_of mid ≡ account_of old → ledger_of mid ≡ ledger_sealed old
     ledger_parts machine account = λ i. record { machine = machine i; account = account i }
 
+-- No blob goes with a segment that is begun.
+pub spared_sealed : {D C : Type 0} (old mid : Log D C) → machine_at mid ≡ (position_of old).machine → pins_of mid ≡ pins_of old → (m : Message) → IsSpared old m → IsSpared mid m
+spared_sealed old mid slots pins =
+    spared_slots old mid (subst (λ (x : Machine). KeepsBlobs (machine_at old).slots x.slots) (sym slots) (by (is_short (segment_size_of old) (length (current_of old).parts.bytes)))) pins
+  where
+    by : (o : Bool) → KeepsBlobs (machine_at old).slots (if o then next_segment_at (segment_size_of old) (current_of old).parts.site.place (machine_at old)
+        else record { place = (current_of old).parts.site.place + length (current_of old).parts.bytes; begins = (current_of old).parts.site.place; slot = (current_of old).parts.site.slot; machine = machine_at old }).machine.slots
+    by true = handed_blobs (machine_at old) ((current_of old).parts.site.place + segment_size_of old)
+    by false = blobs_same (machine_at old).slots
+
 -- What a call has before it writes, where the buffers that begin below a place are sealed: the log that it was, or the one with its current buffer sealed.
 module _ {D C : Type 0} (trace : D → Trace) (sum : List ℕ → ℕ) (to : ℕ) where
   pub record SealedFor (old mid : Log D C) : Type 0 where
     pub fault : fault_of mid ≡ None
     pub reserved : to ≤ reserved_end mid
     pub past : to ≤ current_begin mid
-    pub keeps : Preserves trace sum old mid
-    pub tickets : KeepsTickets old mid
-    pub position : SamePosition old mid
+    pub keeps : KeepsLog trace sum old mid
+    pub spared : (m : Message) → IsSpared old m → IsSpared mid m
     pub device : device_of mid ≡ device_of old
     pub writing : writing_below sum mid to ≡ writing_below sum old to
     pub holding : holding_below sum mid to ≡ holding_below sum old to
     pub unused : IsUsedUpBelow old to → ⊥
     pub marked : BeginsMarked sum old mid
     pub writes : (new : Log D C) (result : Result (Unit {0}) Error) → current_begin new ≡ current_begin mid → (((b : BufferAt) → Contains (waiting_of mid) b → b.place < to) → OnOk result (NoneSealed new))
-        → (length (waiting_of mid) ≤ 1 → OnErr result (synced_end new ≡ synced_end mid)) → OnOk result (LeavesAbove sum to mid new) → OnErr result (LeavesSome sum to mid new) → BeginsMarked sum old new → WritesBelow sum result to old new
+        → (length (waiting_of mid) ≤ 1 → OnErr result (FailedStep mid new ⊎ (synced_end new ≡ synced_end mid))) → OnOk result (LeavesAbove sum to mid new) → OnErr result (LeavesSome sum to mid new) → BeginsMarked sum old new → WritesBelow sum result to old new
     pub fronts : (new : Log D C) → WroteFront trace sum to mid new → WroteFront trace sum to old new
 
   pub sealed_already : (log : Log D C) → fault_of log ≡ None → to ≤ reserved_end log → to ≤ current_begin log → SealedFor log log
@@ -225,9 +252,8 @@ module _ {D C : Type 0} (trace : D → Trace) (sum : List ℕ → ℕ) (to : ℕ
     fault = fault;
     reserved = reserved;
     past = past;
-    keeps = kept_still trace sum log;
-    tickets = tickets_still log;
-    position = position_still log;
+    keeps = log_still trace sum log;
+    spared = λ m is. is;
     device = refl;
     writing = refl;
     holding = refl;
@@ -238,24 +264,23 @@ module _ {D C : Type 0} (trace : D → Trace) (sum : List ℕ → ℕ) (to : ℕ
   }
 
   pub sealed_first : (old mid : Log D C) → fault_of old ≡ None → to ≤ reserved_end old → current_begin old < to → waiting_of mid ≡ buffers_of sum old → AddsBuffers sum old mid → current_begin mid ≡ sealing_end old → start_of mid ≡ start_sealed old
-      → ((m : Machine) → position_with mid m ≡ position_sealed old m) → Preserves trace sum old mid → KeepsTickets old mid → KeepsAll old mid → SamePosition old mid → (IsUsedUp old → ⊥) → BeginsMarked sum old mid → SealedFor old mid
-  sealed_first old mid fault reserved below waiting adds begins start with_slots keeps tickets same position unused marked = record {
+      → ((m : Machine) → position_with mid m ≡ position_sealed old m) → KeepsLog trace sum old mid → KeepsAll old mid → (IsUsedUp old → ⊥) → BeginsMarked sum old mid → SealedFor old mid
+  sealed_first old mid fault reserved below waiting adds begins start with_slots keeps same unused marked = record {
     fault = same.fault ∙ fault;
-    reserved = let still = position.reserved in omega (arith, reserved, still);
+    reserved = let still = keeps.position.reserved in omega (arith, reserved, still);
     past = sealed_past sum to old mid reserved begins;
     keeps = keeps;
-    tickets = tickets;
-    position = position;
+    spared = spared_sealed old mid (ap (λ (l : Ledger). l.machine) ledger) same.pins;
     device = ap (λ (x : RunningConfig D C). x.device) same.config;
-    writing = writing_more sum to old mid reserved adds position.size (same_ledger sum to old mid mid below (sealed_past sum to old mid reserved begins) waiting start with_slots ledger position.size);
+    writing = writing_more sum to old mid reserved adds keeps.position.size (same_ledger sum to old mid mid below (sealed_past sum to old mid reserved begins) waiting start with_slots ledger keeps.position.size);
     holding = holding_more sum to old mid reserved adds;
     unused = λ used. unused used.1;
     marked = marked;
-    writes = λ new result current none one above some known. writes_sealed sum to old mid reserved new result below begins waiting start same.synced with_slots ledger position.size current none one above some known;
-    fronts = λ new front. front_first sum to old mid reserved adds new below (sealed_past sum to old mid reserved begins) waiting start (ap (λ (x : RunningConfig D C). x.device) same.config) with_slots ledger position.size front;
+    writes = λ new result current none one above some known. writes_sealed sum to old mid reserved new result below begins waiting start same.synced with_slots ledger keeps.position.size current none fault same.pins one above some known;
+    fronts = λ new front. front_first sum to old mid reserved adds new below (sealed_past sum to old mid reserved begins) waiting start (ap (λ (x : RunningConfig D C). x.device) same.config) with_slots ledger keeps.position.size fault same.pins front;
   } where
     ledger : ledger_of mid ≡ ledger_sealed old
-    ledger = sealed_ledger old mid with_slots position.position same.account
+    ledger = sealed_ledger old mid with_slots keeps.position.position same.account
 
   -- and what it makes of the log as it was
   module _ (old mid new : Log D C) (ready : SealedFor old mid) where
@@ -269,8 +294,5 @@ module _ {D C : Type 0} (trace : D → Trace) (sum : List ℕ → ℕ) (to : ℕ
         → HeldAnswers result (holding_below sum old to) (IsUsedUpBelow old to) None (fault_of new) (faults (device_of old)) (faults (device_of new))
     first_answers result faults answers = answers_used result _ _ (IsUsedUpBelow old to) (fault_of new) _ _ _ ready.holding (ap faults ready.device) ready.unused answers
 
-    pub first_tickets : KeepsTickets mid new → KeepsTickets old new
-    first_tickets tickets = tickets_further old mid new ready.tickets tickets
-
-    pub first_position : SamePlace mid new → SamePlace old new
-    first_position position = place_further old mid new (position_place old mid ready.position) position
+    pub first_keeps : KeepsWriting trace sum mid new → KeepsWriting trace sum old new
+    first_keeps keeps = writing_further trace sum old mid new (log_writing trace sum old mid ready.keeps ready.spared) keeps

@@ -6,11 +6,11 @@ use Rattle.sled_core.proofs.Line.LogSpans.{same_buffers}
 use Rattle.sled_core.proofs.Line.Advanced.{same_synced}
 use Rattle.sled_core.specs.declared.logger.Log.{Log}
 use Rattle.sled_core.specs.Fits.{current_begin}
-use Rattle.sled_core.proofs.Line.KeptCalls.{kept_further}
+use Rattle.sled_core.proofs.Line.KeptCalls.{log_writing, spared_same}
 use Rattle.sled_core.proofs.Line.HeaderMarks.{marked_same, none_begun, segment_same}
 use Rattle.sled_core.proofs.Line.CameFar.{front_leaves}
 use Rattle.sled_core.proofs.Line.Outcomes.{all_err, on_err, seal_answers, seal_not_held}
-use Rattle.sled_core.proofs.Line.SealFirst.{SealedFor, first_answers, first_calls, first_performs, first_position, first_tickets, sealed_already, sealed_first, sealed_past, some_below, unchanged_came, unchanged_performs}
+use Rattle.sled_core.proofs.Line.SealFirst.{SealedFor, first_answers, first_calls, first_keeps, first_performs, sealed_already, sealed_first, sealed_past, some_below, unchanged_came, unchanged_performs}
 use Rattle.sled_core.proofs.logger.Log.write_below.Given.{Over}
 use Rattle.sled_core.proofs.logger.Log.write_below.Goals.{then-current_begin-to+in_ok-seal, else-current_begin-to}
 use Rattle.sled_core.proofs.logger.Log.write_below.Goals as goal
@@ -39,7 +39,7 @@ ready g c = elim c.if-current_begin-to.branch [
       let did = w.in_ok-seal.ensures in
       subst (λ (l : Log _ _). SealedFor g.D.Device.trace g.C.Checksum.sum_of c.args.to c.args.self.now l) (sym w.self-is)
       (sealed_first g.D.Device.trace g.C.Checksum.sum_of c.args.to c.args.self.now w.seal.new.self c.requires.fault c.requires.reserved (omega (arith, c.current_begin.ensures.is, w.if-current_begin-to.true))
-      did.waiting did.buffers did.begins did.start did.position did.keeps.preserves did.keeps.tickets did.same did.keeps.position did.answers.0 did.marked)
+      did.waiting did.buffers did.begins did.start did.position did.keeps did.same did.answers.0 did.marked)
   | else-current_begin-to w ↦
       subst (λ (l : Log _ _). SealedFor g.D.Device.trace g.C.Checksum.sum_of c.args.to c.args.self.now l) (sym w.self-is)
       (sealed_already g.D.Device.trace g.C.Checksum.sum_of c.args.to c.args.self.now c.requires.fault c.requires.reserved (omega (arith, c.current_begin.ensures.is, w.if-current_begin-to.false)))
@@ -52,11 +52,13 @@ pub returns-clause-at_most : goal.returns-clause-at_most
 returns-clause-at_most g c = first_performs g.D.Device.trace g.C.Checksum.sum_of c.args.to c.args.self.now c.if-current_begin-to.self c.write_sealed_below.new.self (ready g c) c.write_sealed_below.ensures.at_most
 
 pub returns-clause-keeps : goal.returns-clause-keeps
-returns-clause-keeps g c = record {
-  preserves = kept_further g.D.Device.trace g.C.Checksum.sum_of c.args.self.now c.if-current_begin-to.self c.write_sealed_below.new.self (ready g c).keeps c.write_sealed_below.ensures.keeps.preserves;
-  tickets = first_tickets g.D.Device.trace g.C.Checksum.sum_of c.args.to c.args.self.now c.if-current_begin-to.self c.write_sealed_below.new.self (ready g c) c.write_sealed_below.ensures.keeps.tickets;
-  position = first_position g.D.Device.trace g.C.Checksum.sum_of c.args.to c.args.self.now c.if-current_begin-to.self c.write_sealed_below.new.self (ready g c) c.write_sealed_below.ensures.keeps.position;
-}
+returns-clause-keeps g c =
+    first_keeps g.D.Device.trace g.C.Checksum.sum_of c.args.to c.args.self.now c.if-current_begin-to.self c.write_sealed_below.new.self (ready g c) c.write_sealed_below.ensures.keeps
+
+pub returns-in_err-seal-clause-keeps : goal.returns-in_err-seal-clause-keeps
+returns-in_err-seal-clause-keeps g c =
+    let same = c.in_err-seal.ensures.err in
+    log_writing g.D.Device.trace g.C.Checksum.sum_of c.args.self.now c.seal.new.self c.in_err-seal.ensures.keeps (spared_same c.args.self.now c.seal.new.self same.machine same.pins)
 
 pub returns-clause-answers : goal.returns-clause-answers
 returns-clause-answers g c =
@@ -94,7 +96,7 @@ returns-in_err-seal-clause-buffers g c =
       seals = record {
         held = λ held. absurd (seal_not_held (Unit {0}) (Unit {0}) c.in_err-seal.field-0.0 _ c.in_err-seal.ensures.answers held);
         none = λ unsealed. tt;
-        err = λ unsealed. same_synced old new same.line;
+        err = λ unsealed. inr (same_synced old new same.line);
       };
       above = tt;
       some = inl (same_buffers old new same.line);
