@@ -15,7 +15,7 @@ use Rattle.sled_core.specs.invariants.Running.{Fits}
 use Rattle.sled_core.specs.OpenBatches.{behind_batch}
 use Rattle.sled_core.specs.Stable.{behind_place, held_for, target_for}
 use Rattle.sled_core.specs.declared.logger.Log.{Log}
-use Rattle.sled_core.proofs.Line.KeptCalls.{kept_still, place_still, tickets_still}
+use Rattle.sled_core.proofs.Line.KeptCalls.{writing_still}
 use Rattle.sled_core.proofs.Line.Shown.{fits_acknowledges}
 use Rattle.sled_core.proofs.Line.LineEnds.{stable_kept, stable_reached}
 use Rattle.sled_core.proofs.Line.SealFirst.{still_came, unused_already, writes_already, writes_err, writes_none, writes_ok}
@@ -28,11 +28,7 @@ pub returns-in-Some-clause-at_most : goal.returns-in-Some-clause-at_most
 returns-in-Some-clause-at_most g c = performs_nothing _ _ _ refl
 
 pub returns-in-Some-clause-keeps : goal.returns-in-Some-clause-keeps
-returns-in-Some-clause-keeps g c = record {
-  preserves = kept_still g.D.Device.trace g.C.Checksum.sum_of c.args.self.now;
-  tickets = tickets_still c.args.self.now;
-  position = place_still c.args.self.now;
-}
+returns-in-Some-clause-keeps g c = writing_still g.D.Device.trace g.C.Checksum.sum_of c.args.self.now
 
 pub returns-in-Some-clause-buffers : goal.returns-in-Some-clause-buffers
 returns-in-Some-clause-buffers g c =
@@ -46,11 +42,7 @@ pub returns-then-lsn-stable_offset-clause-at_most : goal.returns-then-lsn-stable
 returns-then-lsn-stable_offset-clause-at_most g c = performs_nothing _ _ _ refl
 
 pub returns-then-lsn-stable_offset-clause-keeps : goal.returns-then-lsn-stable_offset-clause-keeps
-returns-then-lsn-stable_offset-clause-keeps g c = record {
-  preserves = kept_still g.D.Device.trace g.C.Checksum.sum_of c.args.self.now;
-  tickets = tickets_still c.args.self.now;
-  position = place_still c.args.self.now;
-}
+returns-then-lsn-stable_offset-clause-keeps g c = writing_still g.D.Device.trace g.C.Checksum.sum_of c.args.self.now
 
 durable : (g : given.Over) (c : goal.Then-lsn-stable_offset g) → c.args.lsn <ℤ pos (stable_end c.args.self.now)
 durable g c = search rules
@@ -78,11 +70,7 @@ returns-then-lsn-self-clause-buffers g c =
     (writes_none g.C.Checksum.sum_of to old (NotReserved (to_z w64 (of_z w64 c.args.lsn))) (λ held. held), inl tt)
 
 pub returns-then-lsn-self-clause-keeps : goal.returns-then-lsn-self-clause-keeps
-returns-then-lsn-self-clause-keeps g c = record {
-  preserves = kept_still g.D.Device.trace g.C.Checksum.sum_of c.args.self.now;
-  tickets = tickets_still c.args.self.now;
-  position = place_still c.args.self.now;
-}
+returns-then-lsn-self-clause-keeps g c = writing_still g.D.Device.trace g.C.Checksum.sum_of c.args.self.now
 
 pub returns-then-lsn-self-clause-answers : goal.returns-then-lsn-self-clause-answers
 returns-then-lsn-self-clause-answers g c =
@@ -217,14 +205,10 @@ returns-clause-target g c =
     let written = c.in_ok-write_below.ensures.written in
     below_behind c.args.lsn (stable_end old) (stable_end new) (above_done g c) (stable_reached old new (behind_place c.args.lsn) c.write_below.ensures.keeps.preserves.noted (omega (arith, to, written)))
 
--- Where nothing was written its tickets and its position are as they were, and else as the writing leaves them.
+-- It keeps what the writing does.
 
 pub returns-in_err-write_below-clause-keeps : goal.returns-in_err-write_below-clause-keeps
-returns-in_err-write_below-clause-keeps g c = record {
-  preserves = c.in_err-write_below.ensures.keeps.preserves;
-  tickets = c.in_err-write_below.ensures.keeps.tickets;
-  position = c.in_err-write_below.ensures.keeps.position;
-}
+returns-in_err-write_below-clause-keeps g c = c.in_err-write_below.ensures.keeps
 
 pub returns-in_err-write_below-clause-spares : goal.returns-in_err-write_below-clause-spares
 returns-in_err-write_below-clause-spares g c =
@@ -235,11 +219,7 @@ returns-in_err-write_below-clause-spares g c =
     }
 
 pub returns-clause-keeps : goal.returns-clause-keeps
-returns-clause-keeps g c = record {
-  preserves = c.in_ok-write_below.ensures.keeps.preserves;
-  tickets = c.in_ok-write_below.ensures.keeps.tickets;
-  position = c.in_ok-write_below.ensures.keeps.position;
-}
+returns-clause-keeps g c = c.in_ok-write_below.ensures.keeps
 
 pub returns-clause-spares : goal.returns-clause-spares
 returns-clause-spares g c =
