@@ -77,14 +77,26 @@ io_kept (Err (Io e)) held used fault now before after (inl kept) none same io = 
 io_kept (Err (Io e)) held used fault now before after (inr failed) none same io = let bad : None ≡ Some e = sym none ∙ sym same ∙ failed.1 in cc
 io_kept _ held used fault now before after says none same io = absurd io
 
+-- It answers that, too.
+io_answers : {T : Type 0} (r : Result T Error) (held : Option ℕ) (used : Type 0) (fault now : Option IoError) (before after : ℕ) (e : IoError) → HeldAnswers r held used fault now before after → now ≡ Some e → IsIo r
+io_answers (Ok x) held used fault now before after e says kept = absurd (let bad : None ≡ Some e = sym says.3 ∙ kept in cc)
+io_answers (Err (Io x)) held used fault now before after e says kept = tt
+io_answers (Err OutOfMemory) held used fault now before after e says kept = absurd (let bad : None ≡ Some e = sym says.2 ∙ kept in cc)
+io_answers (Err PlacesUsedUp) held used fault now before after e says kept = absurd (let bad : None ≡ Some e = sym says.2 ∙ kept in cc)
+io_answers (Err (Held at)) held used fault now before after e says kept = absurd (let bad : None ≡ Some e = sym says.3 ∙ kept in cc)
+io_answers (Err _) held used fault now before after e says kept = absurd says
+
 closes_part : {T D C : Type 0} (trace : D → Trace) (sum : List ℕ → ℕ) (r : Result T Error) (old new : Log D C) → ((P : Type 0) → (fault_of new ≡ None → P) → UnlessIo r P) → (fault_of old ≡ None → fault_of new ≡ fault_of old → IsIo r → ⊥)
-    → CameTo trace sum (reserved_end old) old new → ClosedAt trace sum r old (trace (device_of new))
-closes_part trace sum r old new sound never (inl none) = inl (none.still, λ kept. (none.due kept, never kept none.fault))
-closes_part trace sum r old new sound never (inr front) = inr (record {
+    → ((e : IoError) → fault_of new ≡ Some e → IsIo r) → CameTo trace sum (reserved_end old) old new → ClosedAt trace sum r old (trace (device_of new))
+closes_part trace sum r old new sound never io (inl none) = inl (none.still, λ kept. (none.due kept, never kept none.fault))
+closes_part trace sum r old new sound never io (inr front) = inr (record {
   count = front.count;
   written = front.written;
   whole = sound _ front.whole;
-  short = subst (λ n. n < reserved_end old) (sym ((λ i. first_begin (sym front.left i) (sym front.start i)) ∙ sym (first_left new))) front.short;
+  short = elim front.short [
+    | inl failed ↦ inl (io failed.0.fault failed.0.kept, failed.0.unpinned, failed.1)
+    | inr short ↦ inr (subst (λ n. n < reserved_end old) (sym ((λ i. first_begin (sym front.left i) (sym front.start i)) ∙ sym (first_left new))) short)
+  ];
 })
 
 pub returns-clause-came : goal.returns-clause-came
@@ -94,7 +106,8 @@ returns-clause-came g c =
     let new = c.flush-flushed.new.self in
     let r = c.flush-flushed.result in
     subst (λ (x : RunningConfig _ _). OnErr r (ClosedAt g.D.Device.trace sum r old (g.D.Device.trace x.device))) (sym c.halt.ensures.config)
-    (on_err r _ _ (closes_part g.D.Device.trace sum r old new (no_fault r _ _ _ _ _ _ c.flush-flushed.ensures.answers) (io_kept r _ _ _ _ _ _ c.flush-flushed.ensures.answers)) c.flush-flushed.ensures.buffers.1)
+    (on_err r _ _ (closes_part g.D.Device.trace sum r old new (no_fault r _ _ _ _ _ _ c.flush-flushed.ensures.answers) (io_kept r _ _ _ _ _ _ c.flush-flushed.ensures.answers)
+    (λ e. io_answers r _ _ _ _ _ _ e c.flush-flushed.ensures.answers)) c.flush-flushed.ensures.buffers.1)
 
 pub returns-clause-idle : goal.returns-clause-idle
 returns-clause-idle g c = λ none. ap (λ (x : RunningConfig g.row.D.Denot g.row.C.Denot). g.D.Device.faults x.device) c.halt.ensures.config ∙ c.flush-flushed.ensures.spares.idle none
