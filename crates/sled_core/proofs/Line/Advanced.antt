@@ -14,7 +14,8 @@ use Rattle.sled_store.proofs.Traces.ScriptLemmas.{performs_behind, performs_more
 use Rattle.sled_core.specs.Begun.{SegmentView, segment_view}
 use Rattle.sled_core.specs.declared.logger.Log.{Log}
 use Rattle.sled_core.specs.Causes.{Answers, HeldAnswers}
-use Rattle.sled_core.specs.Fits.{current_begin, device_of, fault_of, holding_below, ledger_of, ledger_sealed, line_of, position_with, segment_size_of, start_of, synced_end, waiting_of, writing_below}
+use Rattle.sled_core.specs.Fits.{current_begin, device_of, fault_of, holding_below, ledger_of, ledger_sealed, line_of, position_with, segment_size_of, start_of}
+use Rattle.sled_core.specs.Fits.{synced_end, waiting_of, writing_below}
 use Rattle.sled_core.specs.Account.{account_of, written_account}
 use Rattle.sled_core.specs.Freeing.{Ledger}
 use Rattle.sled_core.specs.Fronts.{synced_writes}
@@ -159,7 +160,8 @@ module _ {D C : Type 0} (trace : D → Trace) (sum : List ℕ → ℕ) (faults :
 
     one_current : current_begin new ≡ current_begin old
     one_current =
-        ap end_of is ∙ promoted_end size (set (line_of mid) 0 (written_now 0 (first_view mid))) ∙ set_end (line_of mid) 0 (first_view mid) 0 refl ∙ so_far.current
+        ap end_of is ∙ promoted_end size (set (line_of mid) 0 (written_now 0 (first_view mid))) ∙ set_end (line_of mid) 0 (first_view mid) 0 refl
+        ∙ so_far.current
 
     one_segment : KeepsSegment old new
     one_segment = segment_further old mid new so_far.segment (segment_written mid new size 0 0 (first_view mid) refl is)
@@ -191,10 +193,13 @@ module _ {D C : Type 0} (trace : D → Trace) (sum : List ℕ → ℕ) (faults :
         let all = first_fewer to (waiting_of mid) (waiting_of new) (write_in (line_of mid) 0 0) step in
         let count : length (waiting_of mid) ≡ length (waiting_of old) = ap (λ (vs : List SegmentView). length (unwritten vs)) same in
         by_few (waiting_of new) (omega (arith, few, all, count))
-    by_left few (inr none) = let all = first_fewer to (waiting_of mid) (waiting_of new) (write_in (line_of mid) 0 0) step in absurd (omega (arith, all, ap length none))
+    by_left few (inr none) =
+        let all = first_fewer to (waiting_of mid) (waiting_of new) (write_in (line_of mid) 0 0) step in
+        absurd (omega (arith, all, ap length none))
 
     pub advanced_further : KeepsWriting trace sum mid new → ((m : Machine) → position_with new m ≡ position_with mid m)
-        → trace (device_of new) ≡ after_all (writing_in (segment_size_of mid) (ledger_of mid) (line_of mid) 0 0) (trace (device_of mid)) → fault_of new ≡ None → faults (device_of new) ≡ faults (device_of mid)
+        → trace (device_of new) ≡ after_all (writing_in (segment_size_of mid) (ledger_of mid) (line_of mid) 0 0) (trace (device_of mid))
+        → fault_of new ≡ None → faults (device_of new) ≡ faults (device_of mid)
         → ledger_of new ≡ written_ledger (segment_size_of mid) (mark_of 0 (first_view mid)) (ledger_of mid) → Advanced old new
     advanced_further keeps with_slots came fault counted ledger =
         let calls : List Event = write_in (line_of mid) 0 0 in
@@ -206,7 +211,8 @@ module _ {D C : Type 0} (trace : D → Trace) (sum : List ℕ → ℕ) (faults :
           with_slots = λ m. with_slots m ∙ so_far.with_slots m;
           held = so_far.held ∙ first_holds to (waiting_of mid) (waiting_of new) calls step;
           current = one_current;
-          below = λ below b there. so_far.below below b (subst (λ (l : List BufferAt). Contains l b) (sym step.is) (in_rest step.first b (waiting_of new) there));
+          below = λ below b there.
+              so_far.below below b (subst (λ (l : List BufferAt). Contains l b) (sym step.is) (in_rest step.first b (waiting_of new) there));
           one = λ few. inr (by_left few (so_far.one few));
           left = left_further to (waiting_of old) (waiting_of mid) (waiting_of new) calls so_far.left step;
           start = one_start;
@@ -214,14 +220,17 @@ module _ {D C : Type 0} (trace : D → Trace) (sum : List ℕ → ℕ) (faults :
           count = suc so_far.count;
           many = many_further to so_far.count (waiting_of old) (waiting_of mid) (waiting_of new) step.first so_far.gone step.is so_far.many;
           gone = one_gone;
-          free = free_further to so_far.count (waiting_of old) (waiting_of mid) (waiting_of new) step.first so_far.gone step.is (first_free to (waiting_of mid) (waiting_of new) calls step) so_far.free;
+          free = free_further to so_far.count (waiting_of old) (waiting_of mid) (waiting_of new) step.first so_far.gone step.is
+              (first_free to (waiting_of mid) (waiting_of new) calls step) so_far.free;
           came = came
               ∙ ap (λ (es : List Event). after_all es (trace (device_of mid))) it
               ∙ (λ i. after_all (writings (so_far.keeps.position.size i) (step.first ∷ []) (so_far.ledger i)) (so_far.came i))
-              ∙ writings_further (segment_size_of old) so_far.count (waiting_of old) (waiting_of mid) (waiting_of new) step.first so_far.gone step.is (ledger_of old) (trace (device_of old));
+              ∙ writings_further (segment_size_of old) so_far.count (waiting_of old) (waiting_of mid) (waiting_of new) step.first so_far.gone step.is
+              (ledger_of old) (trace (device_of old));
           written = (
               let one : synced_writes (trace (device_of new)) ≡ suc (synced_writes (trace (device_of mid))) =
-              ap synced_writes (came ∙ ap (λ (es : List Event). after_all es (trace (device_of mid))) it) ∙ one_counted (segment_size_of mid) step.first (ledger_of mid) (trace (device_of mid)) in
+              ap synced_writes (came ∙ ap (λ (es : List Event). after_all es (trace (device_of mid))) it)
+              ∙ one_counted (segment_size_of mid) step.first (ledger_of mid) (trace (device_of mid)) in
               let before = so_far.written in
               omega (arith, one, before));
           front = front_further to so_far.count (waiting_of old) (waiting_of mid) (waiting_of new) step.first so_far.gone step.is step.below so_far.front;

@@ -87,13 +87,15 @@ module _ {D C : Type 0} (trace : D → Trace) (sum : List ℕ → ℕ) (faults :
     ledger_is : (n : ℕ) → ledger_behind (segment_size_of old) (take n (waiting_of old)) (ledger_of old)
         ≡ ledger_behind (segment_size_of old) (take n (sealed_for sum to old)) (ledger_for to old)
     ledger_is n =
-        sym (ap (λ (o : Bool). ledger_behind (segment_size_of old) (take n (if o then buffers_of sum old else waiting_of old)) (if o then ledger_sealed old else ledger_of old)) not_current)
+        sym (ap (λ (o : Bool). ledger_behind (segment_size_of old) (take n (if o then buffers_of sum old else waiting_of old))
+        (if o then ledger_sealed old else ledger_of old)) not_current)
 
     -- Then one wasn't,
-    pub wrote_front : (new : Log D C) → waiting_of new ≡ waiting_of mid → start_of new ≡ start_of mid → ((m : Machine) → position_with new m ≡ position_with mid m)
-        → WroteNone trace mid new → ledger_of new ≡ ledger_of mid → synced_end new < to → WroteFront trace sum to old new
+    pub wrote_front : (new : Log D C) → waiting_of new ≡ waiting_of mid → start_of new ≡ start_of mid
+        → ((m : Machine) → position_with new m ≡ position_with mid m) → WroteNone trace mid new → ledger_of new ≡ ledger_of mid → synced_end new < to → WroteFront trace sum to old new
     wrote_front new waiting start with_slots none ledger short =
-        let all : ledger_of new ≡ ledger_behind (segment_size_of old) (take so_far.count (sealed_for sum to old)) (ledger_for to old) = ledger ∙ so_far.ledger ∙ ledger_is so_far.count in
+        let all : ledger_of new ≡ ledger_behind (segment_size_of old) (take so_far.count (sealed_for sum to old)) (ledger_for to old) =
+        ledger ∙ so_far.ledger ∙ ledger_is so_far.count in
         record {
           count = so_far.count;
           left = waiting ∙ so_far.gone ∙ left_for so_far.count;
@@ -102,13 +104,14 @@ module _ {D C : Type 0} (trace : D → Trace) (sum : List ℕ → ℕ) (faults :
           ledger = (ap (λ (l : Ledger). l.account) all, inr (ap (λ (l : Ledger). l.machine) all));
           written = none.written ∙ so_far.written;
           whole = λ sound. none.still sound ∙ so_far.came
-              ∙ (λ i. after_all (writings (segment_size_of old) (sym done_is i) (if sym not_current i then ledger_sealed old else ledger_of old)) (trace (device_of old)));
+              ∙ (λ i. after_all (writings (segment_size_of old) (sym done_is i) (if sym not_current i then ledger_sealed old else ledger_of old))
+              (trace (device_of old)));
           short = inr short;
         }
 
     -- or it was, and the step behind it failed.
-    pub failed_front : (new : Log D C) → ready_below (line_of mid) to ≡ true → WroteOne trace 0 0 mid new → ((m : Machine) → position_with new m ≡ position_with mid m)
-        → WroteFront trace sum to old new
+    pub failed_front : (new : Log D C) → ready_below (line_of mid) to ≡ true → WroteOne trace 0 0 mid new
+        → ((m : Machine) → position_with new m ≡ position_with mid m) → WroteFront trace sum to old new
     failed_front new ready one with_slots =
         let is = one.line (first_view mid) refl in
         let failed = failed_since trace sum faults to old mid new so_far one.failed in
@@ -118,7 +121,8 @@ module _ {D C : Type 0} (trace : D → Trace) (sum : List ℕ → ℕ) (faults :
           start = one_start trace sum faults to old mid new so_far ready is ∙ start_is;
           position = λ m. with_slots m ∙ so_far.with_slots m ∙ position_is m;
           ledger = (
-            one_account trace sum faults to old mid new so_far ready is (one.account (first_view mid) refl) ∙ ap (λ (l : Ledger). l.account) (ledger_is (suc so_far.count)),
+            one_account trace sum faults to old mid new so_far ready is (one.account (first_view mid) refl)
+                ∙ ap (λ (l : Ledger). l.account) (ledger_is (suc so_far.count)),
             inl failed,
           );
           written = (let last = one.written in let before = so_far.written in omega (arith, last, before));
@@ -129,11 +133,6 @@ module _ {D C : Type 0} (trace : D → Trace) (sum : List ℕ → ℕ) (faults :
 -- What is left is so many of them.
 pub front_leaves : {D C : Type 0} (trace : D → Trace) (sum : List ℕ → ℕ) (to : ℕ) (old new : Log D C) → WroteFront trace sum to old new → LeavesSome sum to old new
 front_leaves trace sum to old new front = inr (front.count, front.left, front.start)
-
--- Two things are so of a call that failed, and what follows of both.
-pub on_err_both : {T E : Type 0} (r : Result T E) (A B P : Type 0) → (A → B → P) → OnErr r A → OnErr r B → OnErr r P
-on_err_both (Ok x) A B P f a b = tt
-on_err_both (Err e) A B P f a b = f a b
 
 -- How far a read came.
 module _ {D C : Type 0} (trace : D → Trace) (sum : List ℕ → ℕ) (old mid new : Log D C) where

@@ -111,7 +111,8 @@ module _ {D C : Type 0} (sum : List ℕ → ℕ) (to : ℕ) (old mid : Log D C) 
       }
     where
       all : (n : ℕ) → sealed_for sum to mid ≡ sealed_for sum to old → ledger_for to mid ≡ ledger_for to old
-          → ledger_behind (segment_size_of mid) (take n (sealed_for sum to mid)) (ledger_for to mid) ≡ ledger_behind (segment_size_of old) (take n (sealed_for sum to old)) (ledger_for to old)
+          → ledger_behind (segment_size_of mid) (take n (sealed_for sum to mid)) (ledger_for to mid)
+          ≡ ledger_behind (segment_size_of old) (take n (sealed_for sum to old)) (ledger_for to old)
       all n same from = λ i. ledger_behind (size i) (take n (same i)) (from i)
 
   pub sealed_past : current_begin mid ≡ sealing_end old → to ≤ current_begin mid
@@ -120,7 +121,8 @@ module _ {D C : Type 0} (sum : List ℕ → ℕ) (to : ℕ) (old mid : Log D C) 
   -- What is written and what is left is of the log as it was.
   module _ {T : Type 0} (new : Log D C) (result : Result T Error) (below : current_begin old < to) (begins : current_begin mid ≡ sealing_end old) (waiting : waiting_of mid ≡ buffers_of sum old) (start : start_of mid ≡ start_sealed old) (synced : synced_end mid ≡ synced_end old)
       (with_slots : (m : Machine) → position_with mid m ≡ position_sealed old m) (ledger : ledger_of mid ≡ ledger_sealed old) (size : segment_size_of mid ≡ segment_size_of old)
-      (current : current_begin new ≡ current_begin mid) (none : ((b : BufferAt) → Contains (waiting_of mid) b → b.place < to) → OnOk result (NoneSealed new)) (sound : fault_of old ≡ None) (pins : pins_of mid ≡ pins_of old)
+      (current : current_begin new ≡ current_begin mid) (none : ((b : BufferAt) → Contains (waiting_of mid) b → b.place < to) → OnOk result (NoneSealed new))
+      (sound : fault_of old ≡ None) (pins : pins_of mid ≡ pins_of old)
       (one : length (waiting_of mid) ≤ 1 → OnErr result (FailedStep mid new ⊎ (synced_end new ≡ synced_end mid)))
       (above : OnOk result (LeavesAbove sum to mid new)) (some : OnErr result (LeavesSome sum to mid new)) (marked : BeginsMarked sum old new) where
     few : NoneSealed old → (length (waiting_of mid) ≤ 1) × ((b : BufferAt) → Contains (waiting_of mid) b → b.place < to)
@@ -147,7 +149,8 @@ module _ {D C : Type 0} (sum : List ℕ → ℕ) (to : ℕ) (old mid : Log D C) 
 
 -- So it is where the current buffer begins behind the place.
 pub writes_still : {T D C : Type 0} (sum : List ℕ → ℕ) (to : ℕ) (old new : Log D C) (result : Result T Error) → to ≤ current_begin old → current_begin new ≡ current_begin old → (((b : BufferAt) → Contains (waiting_of old) b → b.place < to) → OnOk result (NoneSealed new))
-    → (length (waiting_of old) ≤ 1 → OnErr result (FailedStep old new ⊎ (synced_end new ≡ synced_end old))) → OnOk result (LeavesAbove sum to old new) → OnErr result (LeavesSome sum to old new) → BeginsMarked sum old new → WritesBelow sum result to old new
+    → (length (waiting_of old) ≤ 1 → OnErr result (FailedStep old new ⊎ (synced_end new ≡ synced_end old)))
+    → OnOk result (LeavesAbove sum to old new) → OnErr result (LeavesSome sum to old new) → BeginsMarked sum old new → WritesBelow sum result to old new
 writes_still sum to old new result sealed current none one above some marked = record {
   seals = record {
     held = λ held. omega (arith, sealed, current);
@@ -221,14 +224,24 @@ sealed_ledger old mid with_slots position account =
     ledger_parts machine account = λ i. record { machine = machine i; account = account i }
 
 -- No blob goes with a segment that is begun.
-pub spared_sealed : {D C : Type 0} (old mid : Log D C) → machine_at mid ≡ (position_of old).machine → pins_of mid ≡ pins_of old → (m : Message) → IsSpared old m → IsSpared mid m
+pub spared_sealed : {D C : Type 0} (old mid : Log D C) → machine_at mid ≡ (position_of old).machine → pins_of mid ≡ pins_of old → (m : Message)
+    → IsSpared old m → IsSpared mid m
 spared_sealed old mid slots pins =
-    spared_slots old mid (subst (λ (x : Machine). KeepsBlobs (machine_at old).slots x.slots) (sym slots) (by (is_short (segment_size_of old) (length (current_of old).parts.bytes)))) pins
+    spared_slots old mid (subst (λ (x : Machine). KeepsBlobs m.slots x.slots) (sym slots) (by (is_short size (length v.parts.bytes)))) pins
   where
-    by : (o : Bool) → KeepsBlobs (machine_at old).slots (if o then next_segment_at (segment_size_of old) (current_of old).parts.site.place (machine_at old)
-        else record { place = (current_of old).parts.site.place + length (current_of old).parts.bytes; begins = (current_of old).parts.site.place; slot = (current_of old).parts.site.slot; machine = machine_at old }).machine.slots
-    by true = handed_blobs (machine_at old) ((current_of old).parts.site.place + segment_size_of old)
-    by false = blobs_same (machine_at old).slots
+    m : Machine
+    m = machine_at old
+
+    size : ℕ
+    size = segment_size_of old
+
+    v : SegmentView
+    v = current_of old
+
+    by : (o : Bool) → KeepsBlobs m.slots (if o then next_segment_at size v.parts.site.place m
+        else record { place = v.parts.site.place + length v.parts.bytes; begins = v.parts.site.place; slot = v.parts.site.slot; machine = m }).machine.slots
+    by true = handed_blobs m (v.parts.site.place + size)
+    by false = blobs_same m.slots
 
 -- What a call has before it writes, where the buffers that begin below a place are sealed: the log that it was, or the one with its current buffer sealed.
 module _ {D C : Type 0} (trace : D → Trace) (sum : List ℕ → ℕ) (to : ℕ) where
@@ -244,7 +257,8 @@ module _ {D C : Type 0} (trace : D → Trace) (sum : List ℕ → ℕ) (to : ℕ
     pub unused : IsUsedUpBelow old to → ⊥
     pub marked : BeginsMarked sum old mid
     pub writes : (new : Log D C) (result : Result (Unit {0}) Error) → current_begin new ≡ current_begin mid → (((b : BufferAt) → Contains (waiting_of mid) b → b.place < to) → OnOk result (NoneSealed new))
-        → (length (waiting_of mid) ≤ 1 → OnErr result (FailedStep mid new ⊎ (synced_end new ≡ synced_end mid))) → OnOk result (LeavesAbove sum to mid new) → OnErr result (LeavesSome sum to mid new) → BeginsMarked sum old new → WritesBelow sum result to old new
+        → (length (waiting_of mid) ≤ 1 → OnErr result (FailedStep mid new ⊎ (synced_end new ≡ synced_end mid)))
+        → OnOk result (LeavesAbove sum to mid new) → OnErr result (LeavesSome sum to mid new) → BeginsMarked sum old new → WritesBelow sum result to old new
     pub fronts : (new : Log D C) → WroteFront trace sum to mid new → WroteFront trace sum to old new
 
   pub sealed_already : (log : Log D C) → fault_of log ≡ None → to ≤ reserved_end log → to ≤ current_begin log → SealedFor log log
@@ -264,7 +278,8 @@ module _ {D C : Type 0} (trace : D → Trace) (sum : List ℕ → ℕ) (to : ℕ
   }
 
   pub sealed_first : (old mid : Log D C) → fault_of old ≡ None → to ≤ reserved_end old → current_begin old < to → waiting_of mid ≡ buffers_of sum old → AddsBuffers sum old mid → current_begin mid ≡ sealing_end old → start_of mid ≡ start_sealed old
-      → ((m : Machine) → position_with mid m ≡ position_sealed old m) → KeepsLog trace sum old mid → KeepsAll old mid → (IsUsedUp old → ⊥) → BeginsMarked sum old mid → SealedFor old mid
+      → ((m : Machine) → position_with mid m ≡ position_sealed old m) → KeepsLog trace sum old mid → KeepsAll old mid → (IsUsedUp old → ⊥)
+      → BeginsMarked sum old mid → SealedFor old mid
   sealed_first old mid fault reserved below waiting adds begins start with_slots keeps same unused marked = record {
     fault = same.fault ∙ fault;
     reserved = let still = keeps.position.reserved in omega (arith, reserved, still);
@@ -272,12 +287,17 @@ module _ {D C : Type 0} (trace : D → Trace) (sum : List ℕ → ℕ) (to : ℕ
     keeps = keeps;
     spared = spared_sealed old mid (ap (λ (l : Ledger). l.machine) ledger) same.pins;
     device = ap (λ (x : RunningConfig D C). x.device) same.config;
-    writing = writing_more sum to old mid reserved adds keeps.position.size (same_ledger sum to old mid mid below (sealed_past sum to old mid reserved begins) waiting start with_slots ledger keeps.position.size);
+    writing = writing_more sum to old mid reserved adds keeps.position.size
+        (same_ledger sum to old mid mid below (sealed_past sum to old mid reserved begins) waiting start with_slots ledger keeps.position.size);
     holding = holding_more sum to old mid reserved adds;
     unused = λ used. unused used.1;
     marked = marked;
-    writes = λ new result current none one above some known. writes_sealed sum to old mid reserved new result below begins waiting start same.synced with_slots ledger keeps.position.size current none fault same.pins one above some known;
-    fronts = λ new front. front_first sum to old mid reserved adds new below (sealed_past sum to old mid reserved begins) waiting start (ap (λ (x : RunningConfig D C). x.device) same.config) with_slots ledger keeps.position.size fault same.pins front;
+    writes = λ new result current none one above some known.
+        writes_sealed sum to old mid reserved new result below begins waiting start same.synced with_slots ledger keeps.position.size current none fault same.pins
+        one above some known;
+    fronts = λ new front.
+        front_first sum to old mid reserved adds new below (sealed_past sum to old mid reserved begins) waiting start
+        (ap (λ (x : RunningConfig D C). x.device) same.config) with_slots ledger keeps.position.size fault same.pins front;
   } where
     ledger : ledger_of mid ≡ ledger_sealed old
     ledger = sealed_ledger old mid with_slots keeps.position.position same.account

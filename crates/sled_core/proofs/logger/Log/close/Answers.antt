@@ -78,7 +78,8 @@ io_kept (Err (Io e)) held used fault now before after (inr failed) none same io 
 io_kept _ held used fault now before after says none same io = absurd io
 
 -- It answers that, too.
-io_answers : {T : Type 0} (r : Result T Error) (held : Option ℕ) (used : Type 0) (fault now : Option IoError) (before after : ℕ) (e : IoError) → HeldAnswers r held used fault now before after → now ≡ Some e → IsIo r
+io_answers : {T : Type 0} (r : Result T Error) (held : Option ℕ) (used : Type 0) (fault now : Option IoError) (before after : ℕ) (e : IoError)
+    → HeldAnswers r held used fault now before after → now ≡ Some e → IsIo r
 io_answers (Ok x) held used fault now before after e says kept = absurd (let bad : None ≡ Some e = sym says.3 ∙ kept in cc)
 io_answers (Err (Io x)) held used fault now before after e says kept = tt
 io_answers (Err OutOfMemory) held used fault now before after e says kept = absurd (let bad : None ≡ Some e = sym says.2 ∙ kept in cc)

@@ -65,13 +65,15 @@ returns-in_err-write_buffer-clause-current g c =
     let so_far = c.loop-self.invariant.advanced in
     elim c.in_err-write_buffer.ensures.unwritten [
       | inl none ↦ (same_current mid new none.line ∙ so_far.current, segment_further c.args.self.now mid new so_far.segment (segment_same mid new none.line))
-      | inr one ↦ failed_current g.D.Device.trace g.C.Checksum.sum_of g.D.Device.faults c.args.to c.args.self.now mid new so_far (sym c.has_ready_below.ensures ∙ c.loop-self-test.true) (one.line (first_view mid) refl)
+      | inr one ↦ failed_current g.D.Device.trace g.C.Checksum.sum_of g.D.Device.faults c.args.to c.args.self.now mid new so_far
+          (sym c.has_ready_below.ensures ∙ c.loop-self-test.true) (one.line (first_view mid) refl)
     ]
 
 pub returns-in_err-write_buffer-clause-one : goal.returns-in_err-write_buffer-clause-one
 returns-in_err-write_buffer-clause-one g c = λ few.
     let e = err_from_is_err_and c.from_residual.result c.from_residual.ensures.1 in
-    rw e.1 (failed_one g.D.Device.trace g.C.Checksum.sum_of g.D.Device.faults c.args.to c.args.self.now c.loop-self.self c.write_buffer.new.self c.loop-self.invariant.advanced (sym c.has_ready_below.ensures ∙ c.loop-self-test.true)
+    rw e.1 (failed_one g.D.Device.trace g.C.Checksum.sum_of g.D.Device.faults c.args.to c.args.self.now c.loop-self.self c.write_buffer.new.self
+    c.loop-self.invariant.advanced (sym c.has_ready_below.ensures ∙ c.loop-self-test.true)
     (elim c.in_err-write_buffer.ensures.unwritten [ inl none ↦ inr none.line | inr one ↦ inl one.failed ]) few)
 
 pub returns-in_err-write_buffer-clause-front : goal.returns-in_err-write_buffer-clause-front
@@ -82,9 +84,11 @@ returns-in_err-write_buffer-clause-front g c =
     all_err c.from_residual.result _ (elim c.in_err-write_buffer.ensures.unwritten [
       | inl none ↦
           let same = same_buffers mid new none.line in
-          wrote_front g.D.Device.trace g.C.Checksum.sum_of g.D.Device.faults c.args.to c.args.self.now mid c.requires.sealed c.loop-self.invariant.advanced new same.0 same.1 c.write_buffer.ensures.position none.none none.ledger
-          (still_short c.args.to mid new ready none.line)
-      | inr one ↦ failed_front g.D.Device.trace g.C.Checksum.sum_of g.D.Device.faults c.args.to c.args.self.now mid c.requires.sealed c.loop-self.invariant.advanced new ready one c.write_buffer.ensures.position
+          wrote_front g.D.Device.trace g.C.Checksum.sum_of g.D.Device.faults c.args.to c.args.self.now mid c.requires.sealed c.loop-self.invariant.advanced
+          new same.0 same.1 c.write_buffer.ensures.position none.none none.ledger (still_short c.args.to mid new ready none.line)
+      | inr one ↦
+          failed_front g.D.Device.trace g.C.Checksum.sum_of g.D.Device.faults c.args.to c.args.self.now mid c.requires.sealed c.loop-self.invariant.advanced
+          new ready one c.write_buffer.ensures.position
     ])
 
 pub returns-in_err-write_buffer-clause-idle : goal.returns-in_err-write_buffer-clause-idle
