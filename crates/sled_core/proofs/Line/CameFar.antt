@@ -107,7 +107,7 @@ module _ {D C : Type 0} (trace : D → Trace) (sum : List ℕ → ℕ) (old mid 
     | inl behind ↦ (
         let above : pos 0 ≤ℤ lsn = omega (arith, ints, behind) in
         let at : pos (unsigned_abs lsn) ≡ lsn = omega (arith, ints, above) in
-        inr (inr ((waiting ∙ (writes.written behind).0, start ∙ (writes.written behind).1, ledger ∙ (writes.written behind).2, λ m. with_slots m ∙ (writes.written behind).3 m), same ∙ made ∙ ap (λ z. after_all (settling sum old z) (trace (device_of old))) (sym at), ap (held_at sum old) at ∙ free)))
+        inr (inr (inl ((waiting ∙ (writes.written behind).0, start ∙ (writes.written behind).1, ledger ∙ (writes.written behind).2, λ m. with_slots m ∙ (writes.written behind).3 m), same ∙ made ∙ ap (λ z. after_all (settling sum old z) (trace (device_of old))) (sym at), ap (held_at sum old) at ∙ free))))
     | inr below ↦ inl ((waiting ∙ (writes.still below).0, start ∙ (writes.still below).1, ledger ∙ (writes.still below).2, λ m. with_slots m ∙ (writes.still below).3 m), same ∙ still below, λ above. (let up = synced_up old in absurd (omega (arith, ints, below, above, up))))
   ]
 
