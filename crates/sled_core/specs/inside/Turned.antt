@@ -212,7 +212,7 @@ ready_below [] to = false
 ready_below (v ∷ vs) to = if nat_lt (v.parts.site.place + v.parts.written_len) to then first_ready v.parts.sealed else false
 
 -- A call changes the slots of a log, its device, and the failure that it keeps, alone.
-pub record ChangesSlots {D C : Type 0} (old new : Log D C) : Type 0 where
+pub record FreesSlots {D C : Type 0} (old new : Log D C) : Type 0 where
   pub config : new.config.config ≡ old.config.config
   pub checksum : new.config.checksum ≡ old.config.checksum
   pub segments : new.segments ≡ old.segments

@@ -2,7 +2,7 @@
 //!
 //! A sealed buffer is written as a whole, by one write and one sync, in any order. The stable end lies behind those at the
 //! front that are written (`specs/Waiting.antt`).
-ghost use Rattle.std.specs.Prelude.{if◌then◌else◌, List, ℕ, ◌≡◌, ◌+◌, ◌<◌, ◌≤◌, ◌^◌, ◌∷◌, [], pos, None, Some, false, length, slice_get, set, Contains, IfOk, IfErr, OnOk, OnErr, max};
+ghost use Rattle.std.specs.Prelude.{if◌then◌else◌, List, ℕ, ◌≡◌, ◌⊎◌, ◌+◌, ◌<◌, ◌≤◌, ◌^◌, ◌∷◌, [], pos, None, Some, false, length, slice_get, set, Contains, IfOk, IfErr, OnOk, OnErr, max};
 ghost use Rattle.std.specs.declared.io.Error.{Error as IoError};
 ghost use Rattle.std.specs.IoError.{error_kind};
 ghost use Rattle.std.specs.declared.io.ErrorKind.TheVariants.{OutOfMemory};
@@ -29,7 +29,7 @@ ghost use Rattle.sled_core.specs.inside.OneWritten.{WritesNone, WroteOne};
 ghost use Rattle.sled_core.specs.invariants.Running.{Fits};
 ghost use Rattle.sled_core.specs.Running.{end_below};
 ghost use Rattle.sled_core.specs.Stable.{SparesDevice, SyncsAll};
-ghost use Rattle.sled_core.specs.inside.Turned.{ChangesDevice, ChangesSlots, IsReadyIn, mark_of, promoted, ready_below, write_in, writing_in, written_now};
+ghost use Rattle.sled_core.specs.inside.Turned.{ChangesDevice, FreesSlots, IsReadyIn, mark_of, promoted, ready_below, write_in, writing_in, written_now};
 ghost use Rattle.sled_core.specs.Waiting.{BufferAt, holds_any, one_pending, unwritten, without_pending, write_pending};
 
 use crate::logger::Log;
@@ -302,7 +302,7 @@ impl<D: Device, C: Checksum> Log<D, C> {
     fn free_segments(&mut self) -> Result<()>
         requires fault { fault_of self.old ≡ None }
         ensures ledger { OnOk result (ledger_of self.new ≡ stepped_ledger (segment_size_of self.old) (ledger_of self.old)) }
-        ensures rest { ChangesSlots self.old self.new }
+        ensures rest { FreesSlots self.old self.new }
         ensures calls { OnOk result (D.trace (device_of self.new)
             ≡ after_all (ledger_step (segment_size_of self.old) (ledger_of self.old)).calls (D.trace (device_of self.old))) }
         ensures at_most { Performs (ledger_step (segment_size_of self.old) (ledger_of self.old)).calls
