@@ -92,8 +92,8 @@ returns-then-lsn-lt0-clause-blob g c = λ H A f U m fits zeros.
     let never : pos m.place ≡ c.args.lsn → m.pointer ≡ c.args.ptr → MayBegin (segment_size_of old) (lid_of m.pointer) → ⊥ = λ place pointer begins.
     not_there g c m.place place (subst (λ (p : DiskPtr). MayBegin (segment_size_of old) (lid_of p)) pointer begins) in
     record {
-      stable = λ is. absurd (never is.place is.pointer stable_begins g.D.Device.trace g.C.Checksum.sum_of old H A f U fits c.in_default.is zeros m is.entry);
-      kept = λ is. absurd (never is.place is.pointer kept_begins g.D.Device.trace g.C.Checksum.sum_of old H A f U fits c.in_default.is zeros m is.entry);
+      stable = λ is. absurd (never is.place is.pointer (stable_begins g.D.Device.trace g.C.Checksum.sum_of old H A f U fits c.in_default.is zeros m is.entry));
+      kept = λ is. absurd (never is.place is.pointer (kept_begins g.D.Device.trace g.C.Checksum.sum_of old H A f U fits c.in_default.is zeros m is.entry));
     }
 
 pub returns-then-lsn-lt0-clause-calls : goal.returns-then-lsn-lt0-clause-calls
