@@ -79,7 +79,7 @@ pub spared_sealed : {D C : Type 0} (place : ℕ) (old new : Log D C) → ledger_
 spared_sealed place old new same pins m (inl out) = inl (omega (arith, out, pins))
 spared_sealed place old new same pins m (inr none) = inr (λ k blob there.
     none k blob (by (nat_le (current_begin old) place) k blob (subst (λ (l : Ledger). Contains (slot_at l.machine k).blobs blob) same there))) where
-  by : (o : Bool) (k : ℕ) (blob : ℤ) → Contains (slot_at (if o then ledger_sealed old else ledger_of old).machine k).blobs blob
-      → Contains (slot_at (machine_at old) k).blobs blob
-  by true k blob there = sealed_notes (segment_size_of old) (current_of old) (machine_at old) k blob there
-  by false k blob there = there
+      by : (o : Bool) (k : ℕ) (blob : ℤ) → Contains (slot_at (if o then ledger_sealed old else ledger_of old).machine k).blobs blob
+          → Contains (slot_at (machine_at old) k).blobs blob
+      by true k blob there = sealed_notes (segment_size_of old) (current_of old) (machine_at old) k blob there
+      by false k blob there = there
