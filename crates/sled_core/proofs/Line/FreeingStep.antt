@@ -116,8 +116,10 @@ module _ (size : ℕ) where
 
 -- So it is behind the write of a buffer.
 
-pub step_names : (size : ℕ) (mark : Option ℤ) (l : Ledger) (t : Trace) → (state_of (after_all (written_step size mark l).calls t)).snapshots ≡ (state_of t).snapshots
+pub step_names : (size : ℕ) (mark : Option ℤ) (l : Ledger) (t : Trace)
+    → (state_of (after_all (written_step size mark l).calls t)).snapshots ≡ (state_of t).snapshots
 step_names size mark l t = calls_names size (written_step size mark l).calls (step_any size (marked_ledger mark l)) t
 
-pub step_counts : (size : ℕ) (mark : Option ℤ) (l : Ledger) (t : Trace) → synced_writes (after_all (written_step size mark l).calls (Synced ∷ t)) ≡ synced_writes (Synced ∷ t)
+pub step_counts : (size : ℕ) (mark : Option ℤ) (l : Ledger) (t : Trace)
+    → synced_writes (after_all (written_step size mark l).calls (Synced ∷ t)) ≡ synced_writes (Synced ∷ t)
 step_counts size mark l t = calls_counts size (written_step size mark l).calls (step_any size (marked_ledger mark l)) (Synced ∷ t)

@@ -1,8 +1,7 @@
 -- A log's accountant makes a step for the mark that joined, whole or up to a call that failed: what the log fitted it fits, with the slots as they are then,
 -- and keeps what it kept but the blobs that went with segments.
-use Rattle.std.proofs.Common.{◌≡◌, ◌≢◌, ◌∙◌, ◌⊎◌, ◌+◌, ◌*◌, ◌/◌, ◌<◌, ◌≤◌, ℕ, ℤ, Bool, true, false, if◌then◌else◌, List, [], ◌∷◌, length, map, None, Some, Result}
+use Rattle.std.proofs.Common.{◌≡◌, ◌∙◌, ◌+◌, ◌*◌, ◌/◌, ◌<◌, ◌≤◌, ℕ, ℤ, Bool, true, false, if◌then◌else◌, List, [], ◌∷◌, length, map, None, Some, Result}
 use Rattle.std.proofs.Common.{refl, sym, ap, subst, arith, inl, inr}
-use Rattle.std.specs.List.{Contains}
 use Rattle.std.specs.declared.io.Error.{Error as IoError}
 use Rattle.sled_codec.specs.declared.result.DiskPtr.TheVariants.{Blob}
 use Rattle.sled_codec.specs.declared.result.Error.{Error}
@@ -11,9 +10,8 @@ use Rattle.sled_codec.specs.Snapshots.{SnapshotModel}
 use Rattle.sled_store.specs.declared.config.Config.{Config}
 use Rattle.sled_store.specs.Device.{BlobRemoved, Cut, Event, State, Synced, Trace, state_of}
 use Rattle.sled_store.specs.Moments.{LeavesOnly, Throughout}
-use Rattle.sled_store.specs.Outdated.{NamesBlob}
 use Rattle.sled_store.specs.Script.{Performs, after_all}
-use Rattle.sled_store.specs.SegmentStates.{Machine, is_due, slot_at, stabilized}
+use Rattle.sled_store.specs.SegmentStates.{Machine, is_due, stabilized}
 use Rattle.sled_store.specs.Stabilizing.{MovesSlots}
 use Rattle.sled_store.specs.Tracked.{IsAccountOf}
 use Rattle.sled_store.proofs.Histories.Ascending.{Ascends}
@@ -30,8 +28,7 @@ use Rattle.sled_core.specs.Begun.{SegmentView, line_in, segment_view}
 use Rattle.sled_core.specs.declared.logger.io_bufs.IoBufs.{IoBufs}
 use Rattle.sled_core.specs.declared.logger.joined_marks.JoinedMarks.{JoinedMarks}
 use Rattle.sled_core.specs.declared.logger.Log.{Log}
-use Rattle.sled_core.specs.declared.reservation.Reservation.{Reservation}
-use Rattle.sled_core.specs.Fits.{AwaitsIn, KeepsTickets, current_of, device_of, fault_of, kept_batches, line_of, machine_at, next_place, noted_in, pins_of}
+use Rattle.sled_core.specs.Fits.{AwaitsIn, KeepsTickets, current_of, device_of, fault_of, line_of, machine_at, next_place, noted_in, pins_of}
 use Rattle.sled_core.specs.Fits.{segment_size_of, synced_end}
 use Rattle.sled_core.specs.GivenUp.{given_up_along}
 use Rattle.sled_core.specs.inside.Fits.{written_to}
@@ -44,10 +41,9 @@ use Rattle.sled_core.specs.invariants.Running.{Fits}
 use Rattle.sled_core.specs.Keeps.{HoldsFast, IsSpared, KeepsWriting, PreservesWriting, SamePlace}
 use Rattle.sled_core.specs.LogSegments.{begins_from}
 use Rattle.sled_core.specs.Logged.{in_log}
-use Rattle.sled_core.specs.OpenBatches.{not_whole}
 use Rattle.sled_core.specs.OpenPlaces.{open_places_along}
 use Rattle.sled_core.specs.OwnBlobs.{IsBeside}
-use Rattle.sled_core.specs.Positions.{Position, is_short, next_segment_at, position_in}
+use Rattle.sled_core.specs.Positions.{is_short, next_segment_at, position_in}
 use Rattle.sled_core.specs.Recoverable.{LeavesRecoverable, RecoverableIfOwn}
 use Rattle.sled_core.specs.Running.{IsStored, KeepsItem}
 use Rattle.sled_core.specs.Unmarked.{without}
@@ -78,6 +74,10 @@ calls_items sum size MayGo MayCut x beside es (removes blob rest may are) t item
     (items_removed sum (state_of t).blobs blob true x (beside blob may) item)
 calls_items sum size MayGo MayCut x beside es (cuts k rest may are) t item =
     calls_items sum size MayGo MayCut x beside rest are (Synced ∷ Cut (k * size) (k * size) ∷ t) item
+
+-- the segment that is being filled
+abbrev last_in : IoBufs → SegmentView
+last_in segments = last_of (segment_view segments.first) (map segment_view segments.behind.items)
 
 -- The next record begins at the same place, whatever the slots are.
 place_whatever : (size : ℕ) (v : SegmentView) (m n : Machine) → (position_in size v n).place ≡ (position_in size v m).place
@@ -316,7 +316,7 @@ module _ {T D C : Type 0} {result : Result T Error} (trace : D → Trace) (sum :
   place_same : next_place new ≡ next_place old
   place_same =
       place_whatever (segment_size_of new) (current_of new) (machine_at old) (machine_at new)
-      ∙ (λ i. (position_in (rest.config i).segment_size (last_of (segment_view (rest.segments i).first) (map segment_view (rest.segments i).behind.items)) (machine_at old)).place)
+      ∙ (λ i. (position_in (rest.config i).segment_size (last_in (rest.segments i)) (machine_at old)).place)
 
   place : SamePlace old new
   place = record {
@@ -329,4 +329,9 @@ module _ {T D C : Type 0} {result : Result T Error} (trace : D → Trace) (sum :
 
   -- So the log goes on.
   pub step_keeps : KeepsWriting trace sum old new
-  step_keeps = record { preserves = preserves; tickets = tickets; position = place; spared = spared_slots old new (moved_blobs size old.marks.joined m (machine_at new) before now moved) rest.pins }
+  step_keeps = record {
+    preserves = preserves;
+    tickets = tickets;
+    position = place;
+    spared = spared_slots old new (moved_blobs size old.marks.joined m (machine_at new) before now moved) rest.pins;
+  }

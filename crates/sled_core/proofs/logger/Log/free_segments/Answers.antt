@@ -1,4 +1,4 @@
-use Rattle.std.proofs.Common.{◌≡◌, ◌≢◌, ◌∙◌, ◌≤◌, ◌<◌, ◌+◌, ◌%◌, ◌^◌, nat_lt, refl, ap, sym, subst, arith, rules, ℕ, ℤ, Bool, true, false, List, [], Option, None, Some, Result, Ok, Err, inl, inr, OnOk, OnErr}
+use Rattle.std.proofs.Common.{◌≡◌, ◌≢◌, ◌∙◌, ◌≤◌, ◌<◌, nat_lt, refl, ap, sym, subst, arith, rules, ℕ, ℤ, true, false, [], Option, None, Some, Result, Ok, Err, inl, inr, OnErr}
 use Rattle.std.proofs.lemmas.Bool.Decides.{nat_tests}
 use Rattle.std.specs.Prelude.{IfErr}
 use Rattle.std.specs.Int.{w64, cast_signed, cast_unsigned}
@@ -7,9 +7,9 @@ use Rattle.sled_codec.specs.declared.result.Error.{Error}
 use Rattle.sled_codec.specs.declared.result.Error.TheVariants as error
 use Rattle.sled_store.specs.Accounts.{machine_of}
 use Rattle.sled_store.specs.Blobs.{RemoveAnswers}
-use Rattle.sled_store.specs.Device.{Event, Trace}
+use Rattle.sled_store.specs.Device.{Trace}
 use Rattle.sled_store.specs.Script.{Performs, after_all}
-use Rattle.sled_store.specs.SegmentStates.{Machine, Step, stabilized}
+use Rattle.sled_store.specs.SegmentStates.{Step, stabilized}
 use Rattle.sled_store.specs.Stabilizing.{MovesSlots}
 use Rattle.sled_store.proofs.Traces.ScriptLemmas.{performs_none}
 use Rattle.sled_core.specs.Causes.{Answers}
@@ -66,22 +66,24 @@ handed mark = cast_signed w64 (cast_unsigned w64 mark)
 pub returns-clause-ledger : goal.returns-clause-ledger
 returns-clause-ledger g c =
     let old = c.args.self.now in
+    let step = made old (handed old.marks.joined) (search rules) c.if-self-gt0.false in
     on_ok c.stabilize-freed.result _ _
-    (λ is. λ i. record { machine = (is ∙ sym (ap (λ (s : Step). s.machine) (made old (handed old.marks.joined) (search rules) c.if-self-gt0.false))) i; account = (ledger_of old).account })
+    (λ is. λ i. record { machine = (is ∙ sym (ap (λ (s : Step). s.machine) step)) i; account = (ledger_of old).account })
     c.stabilize-freed.ensures.done
 
 pub returns-clause-calls : goal.returns-clause-calls
 returns-clause-calls g c =
     let old = c.args.self.now in
-    on_ok c.stabilize-freed.result _ _
-    (λ is. is ∙ ap (λ (s : Step). after_all s.calls (g.D.Device.trace old.config.device)) (sym (made old (handed old.marks.joined) (search rules) c.if-self-gt0.false)))
+    let step = made old (handed old.marks.joined) (search rules) c.if-self-gt0.false in
+    on_ok c.stabilize-freed.result _ _ (λ is. is ∙ ap (λ (s : Step). after_all s.calls (g.D.Device.trace old.config.device)) (sym step))
     c.stabilize-freed.ensures.made
 
 pub returns-clause-at_most : goal.returns-clause-at_most
 returns-clause-at_most g c =
     let old = c.args.self.now in
-    subst (λ (s : Step). Performs s.calls (g.D.Device.trace old.config.device) (g.D.Device.trace c.stabilize-freed.new.config.device))
-    (sym (made old (handed old.marks.joined) (search rules) c.if-self-gt0.false)) c.stabilize-freed.ensures.calls
+    let step = made old (handed old.marks.joined) (search rules) c.if-self-gt0.false in
+    subst (λ (s : Step). Performs s.calls (g.D.Device.trace old.config.device) (g.D.Device.trace c.stabilize-freed.new.config.device)) (sym step)
+    c.stabilize-freed.ensures.calls
 
 pub returns-clause-keeps : goal.returns-clause-keeps
 returns-clause-keeps g c =
@@ -110,13 +112,7 @@ step_answers : (result : Result (Unit {0}) Error) (now : Option IoError) (before
 step_answers (Ok u) now before after is did memory = (refl, is, did)
 step_answers (Err (error.Io e)) now before after is did memory = inr (refl, is ∙ kept_by e true did.0, did.1, did.0)
 step_answers (Err error.OutOfMemory) now before after is did memory = absurd (memory refl)
-step_answers (Err (error.Unsupported text)) now before after is did memory = absurd did
-step_answers (Err error.PlacesUsedUp) now before after is did memory = absurd did
-step_answers (Err (error.Corruption at)) now before after is did memory = absurd did
-step_answers (Err (error.NotReserved at)) now before after is did memory = absurd did
-step_answers (Err (error.CollectionNotFound name)) now before after is did memory = absurd did
-step_answers (Err (error.ReportableBug text)) now before after is did memory = absurd did
-step_answers (Err (error.Held at)) now before after is did memory = absurd did
+step_answers (Err _) now before after is did memory = absurd did
 
 step_failed : {D C : Type 0} (old new : Log D C) (result : Result (Unit {0}) Error) (before after : ℕ) → pins_of old ≡ 0 → fault_of old ≡ None
     → Answers result None (fault_of new) before after → IfErr result (λ e. e ≢ error.OutOfMemory) → OnErr result (FailedStep old new)
@@ -125,13 +121,7 @@ step_failed old new (Err (error.Io e)) before after pins none (inl kept) memory 
 step_failed old new (Err (error.Io e)) before after pins none (inr failed) memory =
     record { unpinned = pins; sound = none; fault = e; kept = failed.1 }
 step_failed old new (Err error.OutOfMemory) before after pins none did memory = absurd (memory refl)
-step_failed old new (Err (error.Unsupported text)) before after pins none did memory = absurd did
-step_failed old new (Err error.PlacesUsedUp) before after pins none did memory = absurd did
-step_failed old new (Err (error.Corruption at)) before after pins none did memory = absurd did
-step_failed old new (Err (error.NotReserved at)) before after pins none did memory = absurd did
-step_failed old new (Err (error.CollectionNotFound name)) before after pins none did memory = absurd did
-step_failed old new (Err (error.ReportableBug text)) before after pins none did memory = absurd did
-step_failed old new (Err (error.Held at)) before after pins none did memory = absurd did
+step_failed old new (Err _) before after pins none did memory = absurd did
 
 pub returns-clause-answers : goal.returns-clause-answers
 returns-clause-answers g c =

@@ -1,4 +1,4 @@
-use Rattle.std.proofs.Common.{◌≡◌, ◌∙◌, ◌++◌, ◌≤ℤ◌, pos, List, [], ℕ, suc, ℤ, ap, sym, subst, refl, set, Option, None, Some, Result, Ok, Err, inl, inr, OnErr, OnOk}
+use Rattle.std.proofs.Common.{◌≡◌, ◌∙◌, ◌++◌, ◌≤ℤ◌, pos, List, ℕ, suc, ℤ, ap, sym, subst, set, Option, None, Some, Result, Ok, Err, inl, inr, OnErr}
 use Rattle.std.specs.List.{slice_get}
 use Rattle.std.specs.declared.io.Error.{Error as IoError}
 use Rattle.sled_codec.specs.declared.result.Error.{Error}
@@ -7,7 +7,6 @@ use Rattle.sled_store.specs.Blobs.{UnlessFault}
 use Rattle.sled_store.specs.declared.config.Config.{Config}
 use Rattle.sled_store.specs.Device.{Event, Trace}
 use Rattle.sled_store.specs.Script.{Performs, after_all}
-use Rattle.sled_store.specs.SegmentStates.{Machine}
 use Rattle.sled_store.proofs.Traces.ScriptLemmas.{after_joined, performs_behind, performs_more}
 use Rattle.sled_core.specs.Account.{Account, account_of, written_account}
 use Rattle.sled_core.specs.Begun.{SegmentView, line_in}
@@ -15,10 +14,10 @@ use Rattle.sled_core.specs.Causes.{Answers}
 use Rattle.sled_core.specs.declared.logger.Log.{Log}
 use Rattle.sled_core.specs.Fits.{ledger_of, line_of, machine_at, pins_of, segment_size_of, synced_end}
 use Rattle.sled_core.specs.Freeing.{Ledger}
-use Rattle.sled_core.specs.Fronts.{WroteNone, synced_writes}
+use Rattle.sled_core.specs.Fronts.{synced_writes}
 use Rattle.sled_core.specs.inside.OneWritten.{WritesNone, WroteOne}
 use Rattle.sled_core.specs.inside.Turned.{FreesSlots, mark_of, promoted, write_in, write_of, writing_in, writing_of, written_now}
-use Rattle.sled_core.specs.Keeps.{FailedStep, KeepsLog, KeepsWriting}
+use Rattle.sled_core.specs.Keeps.{FailedStep}
 use Rattle.sled_core.specs.Ledger.{ledger_step, marked_ledger, stepped_ledger, written_step}
 use Rattle.sled_core.proofs.Line.AccountBehind.{account_same, ledger_same}
 use Rattle.sled_core.proofs.Line.KeptCalls.{failed_over, log_writing, spared_same, writing_further}
@@ -27,7 +26,8 @@ use Rattle.sled_core.proofs.Line.Outcomes.{all_err, all_ok, on_err, on_ok}
 use Rattle.sled_core.proofs.logger.Log.write_buffer.Goals as goal
 
 -- Behind the calls that write it come those of the step.
-more_calls : (size : ℕ) (l : Ledger) (k : ℕ) (o : Option SegmentView) (old new : Trace) → Performs (write_of k o) old new → Performs (writing_of size l k o) old new
+more_calls : (size : ℕ) (l : Ledger) (k : ℕ) (o : Option SegmentView) (old new : Trace) → Performs (write_of k o) old new
+    → Performs (writing_of size l k o) old new
 more_calls size l k None old new came = came
 more_calls size l k (Some v) old new came = performs_more (write_of k (Some v)) (written_step size (mark_of k v) l).calls old new came
 
@@ -37,13 +37,14 @@ one_more : (line : List SegmentView) (n k : ℕ) (v : SegmentView) → slice_get
 one_more line n k v among old mid is = ap synced_writes is ∙ ap (λ (o : Option SegmentView). synced_writes (after_all (write_of k o) old)) among
 
 -- A call that failed in the device may have left anything.
-step_refused : {T D C : Type 0} (result : Result T Error) (mid new : Log D C) (now : Option IoError) (before after : ℕ) (old last : Trace)
-    → Answers result None now before after → OnErr result ((e : IoError) × (now ≡ Some e)) → UnlessFault result old last
-step_refused (Ok x) mid new now before after old last answers failed = tt
-step_refused (Err (Io e)) mid new now before after old last (inl kept) failed = let never : None ≡ Some e = kept.0 in cc
-step_refused (Err (Io e)) mid new now before after old last (inr fault) failed = inl fault.3
-step_refused (Err OutOfMemory) mid new now before after old last answers failed = absurd (let clash : None ≡ Some failed.0 = sym answers.1 ∙ failed.1 in cc)
-step_refused (Err _) mid new now before after old last answers failed = absurd answers
+step_refused : {T : Type 0} (result : Result T Error) (now : Option IoError) (before after : ℕ) (old last : Trace) → Answers result None now before after
+    → OnErr result ((e : IoError) × (now ≡ Some e)) → UnlessFault result old last
+step_refused (Ok x) now before after old last answers failed = tt
+step_refused (Err (Io e)) now before after old last (inl kept) failed = let never : None ≡ Some e = kept.0 in cc
+step_refused (Err (Io e)) now before after old last (inr fault) failed = inl fault.3
+step_refused (Err OutOfMemory) now before after old last answers failed =
+    absurd (let clash : None ≡ Some failed.0 = sym answers.1 ∙ failed.1 in cc)
+step_refused (Err _) now before after old last answers failed = absurd answers
 
 module _ {D C : Type 0} (old mid : Log D C) (n k : ℕ) (v : SegmentView) (among : slice_get (line_of old) n ≡ Some v)
     (account : account_of mid ≡ written_account (mark_of k v) (account_of old)) (slots : machine_at mid ≡ machine_at old)
@@ -172,7 +173,7 @@ returns-clause-refused g c =
     let old = c.args.self.now in
     let mid = c.write_one.new.self in
     let new = c.free_segments.new.self in
-    step_refused c.free_segments.result mid new new.fault.kept (g.D.Device.faults mid.config.device) (g.D.Device.faults new.config.device)
+    step_refused c.free_segments.result new.fault.kept (g.D.Device.faults mid.config.device) (g.D.Device.faults new.config.device)
     (g.D.Device.trace old.config.device) (g.D.Device.trace new.config.device) c.free_segments.ensures.answers
     (on_err c.free_segments.result (FailedStep mid new) _ (λ failed. (failed.fault, failed.kept)) c.free_segments.ensures.failed)
 

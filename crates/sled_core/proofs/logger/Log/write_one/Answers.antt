@@ -3,9 +3,8 @@ use Rattle.std.specs.declared.io.Error.{Error as IoError}
 use Rattle.sled_codec.specs.declared.result.Error.{Error}
 use Rattle.sled_codec.specs.declared.result.Error.TheVariants.{Io, OutOfMemory}
 use Rattle.sled_store.specs.Blobs.{UnlessFault}
-use Rattle.sled_store.specs.Device.{Event, Trace}
-use Rattle.sled_store.specs.Script.{Performs, after_all}
-use Rattle.sled_store.specs.SegmentStates.{Machine, Step}
+use Rattle.sled_store.specs.Device.{Trace}
+use Rattle.sled_store.specs.SegmentStates.{Machine}
 use Rattle.sled_core.specs.Causes.{Answers}
 use Rattle.std.specs.List.{slice_get}
 use Rattle.sled_store.specs.Accounts.{machine_of}
@@ -23,8 +22,7 @@ use Rattle.sled_core.specs.declared.logger.Log.{Log}
 use Rattle.sled_core.specs.Fronts.{WroteNone}
 use Rattle.sled_core.specs.HeaderMark.{greater_mark}
 use Rattle.sled_core.specs.inside.Fits.{written_to}
-use Rattle.sled_core.specs.Fits.{AwaitsIn, ledger_of, line_of, noted_in, position_with, segment_size_of}
-use Rattle.sled_core.specs.Keeps.{SamePosition}
+use Rattle.sled_core.specs.Fits.{AwaitsIn, line_of, noted_in, position_with, segment_size_of}
 use Rattle.sled_core.specs.invariants.Fits.{Holds}
 use Rattle.sled_core.specs.GivenUp.{given_up_along}
 use Rattle.sled_core.specs.Logged.{logged, in_log}
