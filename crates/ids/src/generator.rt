@@ -25,6 +25,7 @@ const BLOCK: u64 = 100;
 /// Gives identifiers out, each above all that were given out before on its device. It is given up by `close`.
 pub struct IdGenerator<D, C> {
     log: Log<D, C>,
+    /// Of a pin that is out all along, since a generator marks no message.
     guard: Guard,
     /// The next identifier.
     next: u64,

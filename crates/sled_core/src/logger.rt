@@ -69,7 +69,7 @@ pub struct Log<D, C> {
     segments: IoBufs,
     /// Which of their sealed buffers can be written.
     ready: ReadyBuffers,
-    /// Which slot each segment has. The free slots have zeros in the log file (`specs/FreeSlots.antt`).
+    /// Which slot each segment has. A free slot counts as zeros, whatever bytes it has (`specs/inside/Cleared.antt`).
     accountant: SegmentAccountant,
     /// The place behind the greatest record that was reserved.
     reserved_to: u64,
@@ -163,7 +163,7 @@ impl<D: Device, C: Checksum> Log<D, C> {
         }
     }
 
-    /// Takes a pin, and returns the guard that stands for it. There may be fewer than 2^32 - 1.
+    /// Takes a pin, and returns the guard that stands for it. There may be fewer than 2^32 - 1. While one is out no segment comes free.
     pub fn pin(&mut self) -> Guard
         requires { pins_of self.old < 2 ^ 32 - 1 }
         ensures taken { self.new ≡ record self.old { pins = pins_of self.old + 1 } }
@@ -173,7 +173,7 @@ impl<D: Device, C: Checksum> Log<D, C> {
         Guard::new()
     }
 
-    /// Gives a pin back.
+    /// Gives a pin back. What comes free without one does so behind the next write of a buffer.
     pub fn unpin(&mut self, guard: Guard)
         requires { 0 < pins_of self.old }
         ensures given { self.new ≡ record self.old { pins = pins_of self.old - 1 } }

@@ -26,7 +26,7 @@ use std::process::ExitCode;
 use store_cases::{accountant, codecs, segment_headers, words};
 
 // The files under `data/`, one a kind.
-const FILES: [&str; 17] = [
+const FILES: [&str; 19] = [
     "codecs.txt",
     "segment_headers.txt",
     "words.txt",
@@ -37,6 +37,8 @@ const FILES: [&str; 17] = [
     "calls.txt",
     "batches.txt",
     "iterations.txt",
+    "freeing.txt",
+    "marked.txt",
     "slog.txt",
     "runs.txt",
     "own.txt",
@@ -92,7 +94,7 @@ fn run(alloc: Global, name: &str, text: &str, tally: &mut Tally<'_>) {
         }
         "stops.txt" => stops::run(alloc, text, tally),
         "hostile.txt" => hostile::run(alloc, text, tally),
-        "calls.txt" | "batches.txt" | "iterations.txt" => {
+        "calls.txt" | "batches.txt" | "iterations.txt" | "freeing.txt" | "marked.txt" => {
             if let Err(Fault(why)) = calls::run(alloc, text, tally) {
                 tally.case(0, "lines", why);
             }

@@ -130,6 +130,7 @@ impl<D: Device, C: Checksum> Log<D, C> {
     /// Writes all that was reserved, buffer by buffer, and syncs it, and returns by how many bytes the stable end grew. It
     /// lies behind what fills a segment, too, where that is written.
     /// Where nothing was reserved since the last write it does nothing. What a crash leaves at any moment of it can be recovered.
+    /// Behind each buffer segments may come free, as of `write_to_log`.
     ///
     /// # Errors
     ///
@@ -138,7 +139,7 @@ impl<D: Device, C: Checksum> Log<D, C> {
     /// this call, which it can only where a buffer is to be written: the log keeps that. `PlacesUsedUp` where the current buffer
     /// is to be sealed, no further record has room in its segment, and the next one would not end below 2^63 in the log and in
     /// the file. `OutOfMemory`, where that isn't so: the flush can be tried again. Where no buffer was sealed, the stable end is
-    /// where it was after each of them.
+    /// where it was after each of them, but where the device failed as segments came free: then all may be written.
     pub fn flush(&mut self) -> Result<usize>
         ensures answer { IfOk result (λ n. stable_end self.new ≡ stable_end self.old + n) }
         ensures status { OnOk result (status_of self.new
