@@ -29,7 +29,7 @@ use Rattle.sled_core.specs.Causes.{IsFault}
 use Rattle.sled_core.specs.Fits.{FirstWaits, HasRecordOf, current_begin, device_of, fault_of, machine_at, position_of, position_with, reserved_end}
 use Rattle.sled_core.specs.Fits.{segment_size_of, synced_end}
 use Rattle.sled_core.specs.Freeing.{Ledger}
-use Rattle.sled_core.proofs.PublicLaws.{first_waits, fits_holds, kept_still, place_still, record_of_entry}
+use Rattle.sled_core.proofs.PublicLaws.{first_waits, kept_still, place_still, record_of_entry}
 use Rattle.sled_log.specs.Replaces.{HasLast}
 use Rattle.sled_log.proofs.PublicLaws.{table_has_last, table_has_page}
 use Rattle.ids.specs.Bounds.{IsLastBound, IsLastMessage}
@@ -311,8 +311,8 @@ same_base page base frags m is same = ap base_in (sym (ap page_of is) ∙ same)
 -- A message that a log holds at a place has its record there.
 pub record_there : {D C : Type 0} (trace : D → Trace) (sum : List ℕ → ℕ) (log : Log D C) (H : History) (m : Message) (cut n : ℕ) → HoldsAt trace sum log H m cut n → HasRecordOf log H m
 record_there trace sum log H m cut n holds =
-    record_of_entry trace sum log H m cut (fits_holds trace sum log H holds.acknowledged holds.floor holds.unmarked holds.fits)
-    (let stable = holds.stable in omega (arith, stable)) holds.entry
+    let stable = holds.stable in
+    record_of_entry log H m cut (omega (arith, stable)) holds.entry
 
 -- What a read answers in place of a message.
 module _ (sum : List ℕ → ℕ) (blobs : ℤ → Option (List ℕ)) (lid : ℕ) (lsn : ℤ) (stable end : ℕ) (held : Option ℕ) (used : Type 0) (old new : Option IoError) (before now : ℕ) where

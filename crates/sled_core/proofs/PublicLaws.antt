@@ -5,7 +5,7 @@ use Rattle.std.specs.Prelude.{FitsSigned}
 use Rattle.std.specs.Int.{w64, cast_signed, cast_unsigned}
 use Rattle.std.specs.List.{All, Contains}
 use Rattle.std.proofs.lemmas.Int.{to_z-of_z, ints}
-use Rattle.std.proofs.lemmas.List.Elements.{All-tail}
+use Rattle.std.proofs.lemmas.List.Elements.{All-contains, All-tail}
 use Rattle.sled_codec.specs.declared.result.DiskPtr.TheVariants.{Blob}
 use Rattle.sled_codec.specs.declared.serialization.message.LogKind.TheVariants.{Replace}
 use Rattle.sled_codec.specs.History.{History, Message, table}
@@ -26,7 +26,6 @@ use Rattle.sled_core.proofs.Numbers.Lasting.{lasting_leaves}
 use Rattle.sled_core.proofs.Numbers.OwnLess.{less_crashed}
 use Rattle.sled_core.proofs.Numbers.Stay.{stay_less}
 use Rattle.sled_core.specs.invariants.Recoverable.{Recoverable}
-use Rattle.sled_core.specs.invariants.Fits.{Holds}
 use Rattle.sled_core.specs.invariants.Running.{Fits, Ready}
 use Rattle.sled_core.specs.Running.{IsStored}
 use Rattle.sled_core.proofs.Flush.Settled.{leaves_less}
@@ -218,13 +217,13 @@ pub own_behind_crash : (sum : List ℕ → ℕ) (size : ℕ) (left : Left) (trac
     → NoForeign sum size (state_of (Crashed left ∷ trace)) (content_of (state_of (Crashed left ∷ trace)))
 own_behind_crash sum size left trace own = own_after_crash sum size left (state_of trace) own
 
--- A log has the record of what isn't synced yet, and of an entry of the table of all that is synced: the mark that joined isn't above that.
+-- A log has the record of what isn't synced yet, and of an entry of the table of all that is synced, or of more.
 pub record_unsynced : {D C : Type 0} (log : Log D C) (H : History) (m : Message) → synced_end log ≤ m.place → HasRecordOf log H m
 record_unsynced log H m above = inl (omega (arith, above))
 
-pub record_of_entry : {D C : Type 0} (trace : D → Trace) (sum : List ℕ → ℕ) (log : Log D C) (H : History) (m : Message) (cut : ℕ) → Holds trace sum log H
-    → synced_end log ≤ cut → Contains (table H cut m.page) m → HasRecordOf log H m
-record_of_entry trace sum log H m cut holds above entry = inr (cut, (let low = mark_synced trace sum log H holds in omega (arith, ints, low, above)), entry)
+pub record_of_entry : {D C : Type 0} (log : Log D C) (H : History) (m : Message) (cut : ℕ) → synced_end log ≤ cut → Contains (table H cut m.page) m
+    → HasRecordOf log H m
+record_of_entry log H m cut above entry = inr (cut, inr above, entry)
 
 -- All below the stable end is on the device.
 pub stable_reached_at : {D C : Type 0} (log : Log D C) → stable_end log ≤ synced_end log

@@ -308,10 +308,12 @@ EndBelow place = All (λ m. (m.place < place) × (m.place + m.size ≤ place))
 abbrev pub CloseBelow : ℕ → List Batch → Type 0
 CloseBelow place = All (λ b. (b.low < place) × (b.peg < place))
 
--- A log has the record of a message: it is of a segment that isn't wholly on the device, or an entry of a table from the mark on that joined. (That isn't above
--- what is written: so it has the record of each entry of the table of all that was written, and of more.)
+-- A log has the record of a message: it is of a segment that isn't wholly on the device, or an entry of a table from the mark on that joined, or of the table of
+-- all that was written, or of more. (Where the log holds a history, the mark isn't above what is written, so the latter tables are among the former.)
 abbrev pub HasRecordOf : {D C : Type 0} → Log D C → History → Message → Type 0
-HasRecordOf log H m = (log.segments.first.site.place ≤ m.place) ⊎ ((cut : ℕ) × (log.marks.joined ≤ℤ pos cut) × Contains (table H cut m.page) m)
+HasRecordOf log H m =
+    (log.segments.first.site.place ≤ m.place)
+    ⊎ ((cut : ℕ) × ((log.marks.joined ≤ℤ pos cut) ⊎ (synced_end log ≤ cut)) × Contains (table H cut m.page) m)
 
 -- All of a history is on the device and settled: the log file has the messages of the current segment and those that stay: the entries of the table at the
 -- beginning of the mark's segment, or at the place where the log began, where that is greater, and all messages from there on.

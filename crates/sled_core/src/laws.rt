@@ -292,12 +292,12 @@ pub fn the_first_buffer_waits_behind_what_is_synced<D: Device, C: Checksum>()
 {}
 
 /// A log has the record of each message that begins where what is synced ends, or behind that, and of each that is in the table of all
-/// that is synced, or of more: the mark that joined isn't above that.
+/// that is synced, or of more. The mark that joined isn't above what is synced, where the log holds a history.
 pub fn what_is_not_synced_has_its_record<D: Device, C: Checksum>()
     ensures mark { (log : Log D C) (H : History) → Holds D.trace C.sum_of log H → (account_of log).mark ≤ℤ pos (synced_end log) }
     ensures unsynced { (log : Log D C) (H : History) (m : Message) → synced_end log ≤ m.place → HasRecordOf log H m }
-    ensures entry { (log : Log D C) (H : History) (m : Message) (cut : ℕ) → Holds D.trace C.sum_of log H → synced_end log ≤ cut
-        → Contains (table H cut m.page) m → HasRecordOf log H m }
+    ensures entry { (log : Log D C) (H : History) (m : Message) (cut : ℕ) → synced_end log ≤ cut → Contains (table H cut m.page) m
+        → HasRecordOf log H m }
 {}
 
 /// A log still has the segment of each message that it has the record of: so its iterator passes over none of them for want of a segment.

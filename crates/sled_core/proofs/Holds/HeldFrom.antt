@@ -1,6 +1,6 @@
 -- What is held counts from a place that isn't above what is written, nor is its segment above the first one; and the mark that joined isn't below it. So it
 -- may count from that of a mark that is no lower.
-use Rattle.std.proofs.Common.{◌≡◌, ◌+◌, ◌*◌, ◌/◌, ◌≤◌, ◌≤ℤ◌, ℕ, ℤ, pos, List, Option, ap, arith, inl, inr}
+use Rattle.std.proofs.Common.{◌≡◌, ◌⊎◌, ◌+◌, ◌*◌, ◌/◌, ◌≤◌, ◌≤ℤ◌, ℕ, ℤ, pos, List, Option, ap, arith, inl, inr}
 use Rattle.std.proofs.lemmas.Bool.{cases_lt}
 use Rattle.std.proofs.lemmas.Int.{ints}
 use Rattle.sled_codec.specs.History.{History}
@@ -28,6 +28,13 @@ module _ {sum : List ℕ → ℕ} {mark durable : ℤ} {size : ℕ} {snapshots :
       let above : began ≤ cut = omega (arith, ints, low, joined) in
       let under = begins_under size mark cut joined in
       omega (arith, above, under)
+
+  -- So no cut is below it that isn't below the mark that joined, or isn't below what is written.
+  pub held_under : (cut : ℕ) → (mark ≤ℤ pos cut) ⊎ (site.place + from ≤ cut) → held_of begun ≤ cut
+  held_under cut far = elim far [
+    | inl joined ↦ held_marked cut joined
+    | inr written ↦ (let reached = held_reached in omega (arith, reached, written))
+  ]
 
   pub held_least : 256 ≤ size → held_of begun / size * size ≤ site.place
   held_least some = elim (cases_lt began (begins_from size mark)) [

@@ -1,5 +1,5 @@
 -- A log still has the segment of each message that it has the record of: of one that isn't wholly on the device, and of an entry of the table of what was written.
-use Rattle.std.proofs.Common.{◌≡◌, ◌∙◌, ◌+◌, ◌*◌, ◌/◌, ◌%◌, ◌<◌, ◌≤◌, ℕ, zero, suc, pos, List, [], ◌∷◌, length, map, Some, refl, ap, arith, inl, inr, ◌≤ℤ◌}
+use Rattle.std.proofs.Common.{◌≡◌, ◌∙◌, ◌⊎◌, ◌+◌, ◌*◌, ◌/◌, ◌%◌, ◌<◌, ◌≤◌, ℕ, zero, suc, pos, List, [], ◌∷◌, length, map, Some, refl, ap, arith, inl, inr, ◌≤ℤ◌}
 use Rattle.std.specs.List.{Contains, slice_get}
 use Rattle.std.proofs.Math.Nat.{suc-mul}
 use Rattle.std.proofs.lemmas.Bool.{cases_lt}
@@ -13,7 +13,7 @@ use Rattle.sled_store.proofs.Histories.EarlierEntries.{entry_earlier}
 use Rattle.sled_core.specs.inside.Shown.{shown_of}
 use Rattle.sled_core.specs.Begun.{SegmentView, segment_view}
 use Rattle.sled_core.specs.declared.logger.Log.{Log}
-use Rattle.sled_core.specs.Fits.{HasRecordOf, current_of, line_of, machine_at, noted_in, segment_size_of, held_of}
+use Rattle.sled_core.specs.Fits.{HasRecordOf, current_of, held_of, line_of, machine_at, noted_in, segment_size_of, synced_end}
 use Rattle.sled_core.specs.inside.FreeSlots.{HasSlot}
 use Rattle.sled_core.specs.Logged.{in_log, logged}
 use Rattle.sled_core.specs.OnFile.{HasSegment}
@@ -22,7 +22,7 @@ use Rattle.sled_core.specs.inside.Running.{FitsWith}
 use Rattle.sled_core.proofs.Holds.ReachLemmas.{line_below}
 use Rattle.sled_core.proofs.Holds.WholeHistory.{whole_apart}
 use Rattle.sled_core.proofs.Holds.Facts.{current_facts}
-use Rattle.sled_core.proofs.Holds.HeldFrom.{held_marked}
+use Rattle.sled_core.proofs.Holds.HeldFrom.{held_under}
 use Rattle.sled_core.proofs.Line.Segments.{AreSegments, line_segments}
 use Rattle.sled_core.proofs.Logged.Messages.{logged_apart, logged_there}
 use Rattle.sled_core.proofs.Reserve.Ranges.{at_there}
@@ -90,9 +90,9 @@ module _ {D C : Type 0} (trace : D → Trace) (sum : List ℕ → ℕ) (log : Lo
         let h = its_slot (m.place / size * size) b in
         (h.number, h.taken, h.is ∙ b.at)
 
-    -- And it has that of an entry of a table from the mark on: the entry is in its slot.
-    of_entry : (m : Message) → Contains H.messages m → (cut : ℕ) → log.marks.joined ≤ℤ pos cut → Contains (table H cut m.page) m
-        → HasSegment machine (m.place / size * size)
+    -- And it has that of an entry of a table from the mark on, or of all that is synced, or of more: the entry is in its slot.
+    of_entry : (m : Message) → Contains H.messages m → (cut : ℕ) → (log.marks.joined ≤ℤ pos cut) ⊎ (synced_end log ≤ cut)
+        → Contains (table H cut m.page) m → HasSegment machine (m.place / size * size)
     of_entry m there cut far entry =
         let begun = fits.parts.holds.begun in
         let held : ℕ = held_of begun in
@@ -102,7 +102,7 @@ module _ {D C : Type 0} (trace : D → Trace) (sum : List ℕ → ℕ) (log : Lo
         log.line.lies.in_segment in
         let is : IsInSlot size machine m = elim (cases_lt m.place held) [
           | inl under ↦ slots.older m.page m
-              (entry_earlier H (apart_ascends H.messages (logged_apart H lie)) held cut m.page (held_marked log.marks.ordered begun cut far) m under entry)
+              (entry_earlier H (apart_ascends H.messages (logged_apart H lie)) held cut m.page (held_under log.marks.ordered begun cut far) m under entry)
           | inr above ↦ slots.later m there above
         ] in
         (slot_with size m, is.taken, is.lsn)

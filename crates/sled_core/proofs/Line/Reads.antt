@@ -40,7 +40,7 @@ use Rattle.sled_core.specs.Reading.{IsNoPlace}
 use Rattle.sled_core.specs.invariants.Running.{Fits}
 use Rattle.sled_core.specs.Stable.{IsNotReserved}
 use Rattle.sled_core.specs.Waiting.{BufferAt, BufferStart}
-use Rattle.sled_core.proofs.Holds.HeldFrom.{held_marked}
+use Rattle.sled_core.proofs.Holds.HeldFrom.{held_marked, held_under}
 use Rattle.sled_core.proofs.Line.ShownParts.{line_older, line_written}
 use Rattle.sled_core.proofs.Line.HeaderMarks.{marked_same}
 use Rattle.sled_core.proofs.Line.Around.{is_none, none_found}
@@ -64,7 +64,7 @@ module _ {D C : Type 0} (sum : List ℕ → ℕ) (log : Log D C) (device : State
       → (log.segments.first.site.place ≤ m.place) ⊎ StaysFrom H (first_stable sum (segment_size_of log) device 0 log.segments.first.site.place (segment_view log.segments.first) (map segment_view log.segments.behind.items) (line_segments log) H _ holds) m
   has_record m there has = elim has [
     | inl above ↦ inl above
-    | inr (cut, far, entry) ↦ inr (entry_stays sum (segment_size_of log) device 0 log.segments.first.site.place (segment_view log.segments.first) (map segment_view log.segments.behind.items) (line_segments log) H _ holds log.line.lies.in_segment m there cut (held_marked log.marks.ordered holds.begun cut far) entry)
+    | inr (cut, far, entry) ↦ inr (entry_stays sum (segment_size_of log) device 0 log.segments.first.site.place (segment_view log.segments.first) (map segment_view log.segments.behind.items) (line_segments log) H _ holds log.line.lies.in_segment m there cut (held_under log.marks.ordered holds.begun cut far) entry)
   ]
 
 -- What it shows of its device, which stands in the file itself.

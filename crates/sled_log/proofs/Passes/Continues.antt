@@ -1,10 +1,13 @@
 -- Recovery as a whole: what comes of its steps.
-use Rattle.std.proofs.Common.{◌≡◌, ◌∙◌, ◌*◌, ◌/◌, ap, ℕ, ℤ, List, Option, Some, None, refl, sym, subst, inl, inr}
+use Rattle.std.proofs.Common.{◌≡◌, ◌∙◌, ◌-◌, ◌*◌, ◌/◌, ◌<◌, ap, ℕ, ℤ, List, Option, Some, None, length, take, drop, refl, sym, subst, arith, inl, inr}
+use Rattle.std.specs.List.{All}
 use Rattle.sled_codec.specs.Snapshots.{SnapshotModel, stable_place}
 use Rattle.sled_store.specs.Device.{Content}
 use Rattle.sled_store.specs.SnapshotFiles.{BeginsFrom, IsDamagedSnapshot}
 use Rattle.sled_core.specs.declared.iterator.Segment.{Segment}
 use Rattle.sled_log.specs.Recovery.{Scanned, IsOrdering, IsUnordered, IsTail, IsDamagedTail, tail_begins, tail_end, HaveGoodBlobs, Passes, Outcome, Recovered, Damaged, unchanged, slots_of, least_place, ContinuesFrom, Recovers}
+use Rattle.sled_log.specs.Passes.{MeetsBadTail, PassesBehind}
+use Rattle.sled_log.proofs.Passes.WholeTail.{damaged_blob, damaged_of_all, none_bad, sliced, tail_of_all}
 
 -- where the tail begins, from the place that a snapshot ends with
 pub begins_there : (size stable begin : ℕ) (first : SnapshotModel) (ss : List Segment) → begin ≡ tail_begins size (stable / size * size) ss → stable ≡ stable_place first.stable → begin ≡ tail_begins size (least_place size first) ss
@@ -32,6 +35,36 @@ module _ (sum : List ℕ → ℕ) (size : ℕ) (log : List ℕ) (blobs : ℤ →
       pub comes_passing : (end : ℕ) → tail_end scanned ≡ Some end → (o : Outcome) → Passes sum size log blobs first ordering (Some end) o → ContinuesFrom sum size log blobs first o
       unfolding ContinuesFrom
       comes_passing end ends o passes = inr (ordering, are, inr (scanned, tail, good, subst (λ e. Passes sum size log blobs first ordering e o) (sym ends) passes))
+
+    -- The tail was read of the segments from an index on.
+    module _ {stable begin : ℕ} (at : begin ≡ tail_begins size (stable / size * size) ordering) (ends : stable ≡ stable_place first.stable) where
+      begins : begin ≡ tail_begins size (least_place size first) ordering
+      begins = begins_there size stable begin first ordering at ends
+
+      -- It is damaged,
+      pub behind_damaged : (n : ℕ) → IsDamagedTail sum size log blobs (take (length ordering - n) (drop n ordering)) begin → ContinuesFrom sum size log blobs first Damaged
+      behind_damaged n damaged = comes_damaged (subst (IsDamagedTail sum size log blobs ordering) begins
+          (damaged_of_all sum size log blobs n ordering begin (subst (λ (l : List Segment). IsDamagedTail sum size log blobs l begin) (sliced ordering n) damaged)))
+
+      -- or was read to its end, and none of those before the index lies where it begins, or behind that.
+      module _ (n : ℕ) (scanned : List Scanned) (below : All (λ s. s.place < begin) (take n ordering))
+          (tail : IsTail sum size log (take (length ordering - n) (drop n ordering)) begin scanned) where
+        whole : IsTail sum size log ordering begin scanned
+        whole = tail_of_all sum size log n begin ordering below begin scanned (omega arith)
+            (subst (λ (l : List Segment). IsTail sum size log l begin scanned) (sliced ordering n) tail)
+
+        its_tail : IsTail sum size log ordering (tail_begins size (least_place size first) ordering) scanned
+        its_tail = subst (λ k. IsTail sum size log ordering k scanned) begins whole
+
+        pub behind_bad : MeetsBadTail sum blobs scanned → ContinuesFrom sum size log blobs first Damaged
+        behind_bad bad = comes_damaged (subst (IsDamagedTail sum size log blobs ordering) begins (damaged_blob sum size log blobs ordering begin scanned whole bad))
+
+        pub behind_unchanged : tail_end scanned ≡ None → ContinuesFrom sum size log blobs first (Recovered (unchanged first (slots_of ordering)))
+        behind_unchanged none = comes_unchanged scanned its_tail (none_bad sum blobs scanned none) none
+
+        pub behind_passing : (end : ℕ) → tail_end scanned ≡ Some end → (o : Outcome) → PassesBehind sum size log blobs first ordering end scanned o
+            → ContinuesFrom sum size log blobs first o
+        behind_passing end found o passes = comes_passing scanned its_tail passes.0 end found o passes.1
 
 -- From the newest snapshot on.
 module _ (sum : List ℕ → ℕ) (size : ℕ) (content : Content) where

@@ -46,7 +46,6 @@ use Rattle.sled_core.proofs.Line.Entered.{filled_last}
 use Rattle.sled_core.proofs.Holds.Facts.{current_facts}
 use Rattle.sled_core.specs.WholeBuffers.{IsWholeBuffer}
 use Rattle.sled_core.proofs.Line.Shows.{buffers_add}
-use Rattle.sled_core.specs.invariants.Fits.{Holds}
 use Rattle.sled_core.proofs.PublicLaws.{fits_reach, pinned_around, place_back, record_of_entry, reserved_small, shows_current, shows_empty, shows_long}
 use Rattle.sled_log.proofs.Sessions.MadeHistories.{of_page_same}
 use Rattle.sled_log.proofs.Sessions.MadePages.{page_present}
@@ -96,13 +95,12 @@ around_front at [] b far = ap (λ (o : Bool). if o then b.held else None) (not_b
 around_front at (x ∷ xs) b far = ap (λ (o : Option ℕ). if has_place at x then x.held else o) (around_front at xs b far)
 
 -- A message of what a page is has its record.
-pub has_record : {D C : Type 0} (trace : D → Trace) (sum : List ℕ → ℕ) (log : Log D C) (H : History) (end page : ℕ) (m : Message) → Holds trace sum log H
-    → IsOfPage H end page m → HasRecordOf log H m
-has_record trace sum log H end page m holds of =
+pub has_record : {D C : Type 0} (log : Log D C) (H : History) (end page : ℕ) (m : Message) → IsOfPage H end page m → HasRecordOf log H m
+has_record log H end page m of =
     let low = log.line.lies.place_in_reach in
     let inside = log.line.lies.in_segment in
     let written = written_behind log.segments.first.buffer in
-    record_of_entry trace sum log H m top holds (omega (arith, low, inside, written)) of.entry
+    record_of_entry log H m top (omega (arith, low, inside, written)) of.entry
 
 module _ {D C : Type 0} (log : Log D C) (sum : List ℕ → ℕ) (at begun : ℕ) (k : Unstored) (below : at < reserved_end log) where
   abbrev l : LogView

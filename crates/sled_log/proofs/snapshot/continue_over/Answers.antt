@@ -1,4 +1,4 @@
-use Rattle.std.proofs.Common.{◌∙◌, ◌≡◌, ◌⊎◌, ◌%◌, ◌/◌, ◌*◌, ◌≤◌, ℕ, ℤ, List, Option, true, map, ap, sym, subst, inl, inr, arith}
+use Rattle.std.proofs.Common.{◌∙◌, ◌≡◌, ◌⊎◌, ◌%◌, ◌/◌, ◌*◌, ◌≤◌, ℕ, ℤ, List, Option, true, map, ap, sym, subst, inl, inr}
 use Rattle.std.specs.List.{All, Contains}
 use Rattle.std.proofs.Math.Nat.{mul-mod_left}
 use Rattle.sled_core.proofs.Read.ReadingLemmas.{if_ok}
@@ -6,14 +6,14 @@ use Rattle.sled_core.specs.declared.iterator.Segment.{Segment}
 use Rattle.sled_codec.specs.Snapshots.{SnapshotModel, model_of}
 use Rattle.sled_store.specs.declared.config.Config.{Config}
 use Rattle.sled_store.specs.Device.{Trace, state_of}
-use Rattle.sled_log.specs.Recovery.{Scanned, IsTail, is_ascending, ContinuesFrom, unchanged, slots_of, greatest_mark, IsDamagedTail, Recovered, Damaged, least_place}
-use Rattle.sled_log.specs.Passes.{CanBeRead, MeetsBadTail, PassesBehind, pass_of}
+use Rattle.sled_log.specs.Recovery.{Scanned, is_ascending, ContinuesFrom, unchanged, slots_of, greatest_mark, Recovered, Damaged, least_place}
+use Rattle.sled_log.specs.Passes.{CanBeRead, ContinuesOn, MeetsBadTail, PassesBehind, pass_of}
 use Rattle.sled_log.specs.WritesBack.{result_of}
 use Rattle.sled_log.proofs.Passes.Ascending.{ascends_behind}
-use Rattle.sled_log.proofs.Passes.WholeTail.{damaged_blob, damaged_of_all, in_dropped, none_bad, placed_from, sliced, tail_of_all}
+use Rattle.sled_log.proofs.Passes.WholeTail.{in_dropped, placed_from, sliced}
 use Rattle.sled_log.proofs.Passes.Same.{was_so_in, still_so}
 use Rattle.sled_log.proofs.Passes.Found.{all_ready}
-use Rattle.sled_log.proofs.Passes.Continues.{begins_there, comes_damaged, comes_unchanged, comes_passing}
+use Rattle.sled_log.proofs.Passes.Continues.{behind_bad, behind_damaged, behind_passing, behind_unchanged}
 use Rattle.sled_log.proofs.snapshot.continue_over.Goals as goal
 
 pub read_tail-requires-clause-ready : goal.read_tail-requires-clause-ready
@@ -58,23 +58,17 @@ pub returns-in-Some-clause-ok : goal.returns-in-Some-clause-ok
 returns-in-Some-clause-ok g c =
     let sum : List ℕ → ℕ = g.C.Checksum.sum_of in
     let cfg : Config = c.args.config.now.config in
-    let size : ℕ = cfg.segment_size in
     let old : Trace = g.D.Device.trace c.args.config.now.device in
-    let log : List ℕ = (state_of old).log.bytes in
-    let blobs : ℤ → Option (List ℕ) = (state_of old).blobs.file in
-    let ss : List Segment = c.args.segments.now in
     let first : SnapshotModel = model_of c.args.first in
-    let n : ℕ = c.count_below-from.result in
-    let begin : ℕ = c.tail_begins-begin.result in
-    let begins = begins_there size c.stable_place.result begin first ss c.tail_begins-begin.ensures c.stable_place.ensures.place in
     let xs : List Scanned = map pass_of c.in-Ok.tail.passes.items in
-    let whole = tail_of_all sum size log n begin ss c.count_below-from.ensures.below begin xs (omega arith) (subst (λ (l : List Segment). IsTail sum size log l begin xs) (sliced ss n) c.in-Ok.ensures.tail) in
-    let tail = subst (λ k. IsTail sum size log ss k xs) begins whole in
     let end : ℕ = c.in-Some.end in
-    if_ok c.replay_tail.result _ (λ x. ContinuesFrom sum size log blobs first (Recovered (result_of x)))
+    if_ok c.replay_tail.result _ (λ x. ContinuesOn g.D.Device.trace sum c.args.config.now c.args.first (Recovered (result_of x)))
     (λ x behind.
-    let here = was_so_in (λ k s. PassesBehind sum k s.log.bytes s.blobs.file first ss end xs (Recovered (result_of x))) cfg c.read_tail.new.config.config old (g.D.Device.trace c.read_tail.new.config.device) c.in-Ok.ensures.reads.config c.in-Ok.ensures.reads.unwritten behind in
-    comes_passing sum size log blobs first ss c.requires.ordering xs tail here.0 end (c.in-Ok.ensures.end ∙ c.in-Some.is) (Recovered (result_of x)) here.1)
+    behind_passing sum cfg.segment_size (state_of old).log.bytes (state_of old).blobs.file first c.args.segments.now c.requires.ordering
+    c.tail_begins-begin.ensures c.stable_place.ensures.place c.count_below-from.result xs c.count_below-from.ensures.below c.in-Ok.ensures.tail end
+    (c.in-Ok.ensures.end ∙ c.in-Some.is) (Recovered (result_of x))
+    (was_so_in (λ k s. PassesBehind sum k s.log.bytes s.blobs.file first c.args.segments.now end xs (Recovered (result_of x))) cfg
+    c.read_tail.new.config.config old (g.D.Device.trace c.read_tail.new.config.device) c.in-Ok.ensures.reads.config c.in-Ok.ensures.reads.unwritten behind))
     c.replay_tail.ensures.ok
 
 pub returns-in-Some-clause-corrupt : goal.returns-in-Some-clause-corrupt
@@ -87,50 +81,34 @@ returns-in-Some-clause-corrupt g c = λ corrupt.
     let blobs : ℤ → Option (List ℕ) = (state_of old).blobs.file in
     let ss : List Segment = c.args.segments.now in
     let first : SnapshotModel = model_of c.args.first in
-    let n : ℕ = c.count_below-from.result in
-    let begin : ℕ = c.tail_begins-begin.result in
-    let begins = begins_there size c.stable_place.result begin first ss c.tail_begins-begin.ensures c.stable_place.ensures.place in
     let xs : List Scanned = map pass_of c.in-Ok.tail.passes.items in
-    let whole = tail_of_all sum size log n begin ss c.count_below-from.ensures.below begin xs (omega arith) (subst (λ (l : List Segment). IsTail sum size log l begin xs) (sliced ss n) c.in-Ok.ensures.tail) in
-    let tail = subst (λ k. IsTail sum size log ss k xs) begins whole in
     let end : ℕ = c.in-Some.end in
-    elim (was_so_in (λ k s. MeetsBadTail sum s.blobs.file xs ⊎ PassesBehind sum k s.log.bytes s.blobs.file first ss end xs Damaged) cfg c.read_tail.new.config.config old (g.D.Device.trace c.read_tail.new.config.device) c.in-Ok.ensures.reads.config c.in-Ok.ensures.reads.unwritten (c.replay_tail.ensures.corrupt corrupt)) [
-      | inl bad ↦ comes_damaged sum size log blobs first ss c.requires.ordering (subst (IsDamagedTail sum size log blobs ss) begins (damaged_blob sum size log blobs ss begin xs whole bad))
-      | inr here ↦ comes_passing sum size log blobs first ss c.requires.ordering xs tail here.0 end (c.in-Ok.ensures.end ∙ c.in-Some.is) Damaged here.1
+    elim (was_so_in (λ k s. MeetsBadTail sum s.blobs.file xs ⊎ PassesBehind sum k s.log.bytes s.blobs.file first ss end xs Damaged) cfg
+    c.read_tail.new.config.config old (g.D.Device.trace c.read_tail.new.config.device) c.in-Ok.ensures.reads.config c.in-Ok.ensures.reads.unwritten
+    (c.replay_tail.ensures.corrupt corrupt)) [
+      | inl bad ↦ behind_bad sum size log blobs first ss c.requires.ordering c.tail_begins-begin.ensures c.stable_place.ensures.place
+          c.count_below-from.result xs c.count_below-from.ensures.below c.in-Ok.ensures.tail bad
+      | inr here ↦ behind_passing sum size log blobs first ss c.requires.ordering c.tail_begins-begin.ensures c.stable_place.ensures.place
+          c.count_below-from.result xs c.count_below-from.ensures.below c.in-Ok.ensures.tail end (c.in-Ok.ensures.end ∙ c.in-Some.is) Damaged here
     ]
 
 pub returns-in_ok-slots_of-in-None-clause-ok : goal.returns-in_ok-slots_of-in-None-clause-ok
 returns-in_ok-slots_of-in-None-clause-ok g c =
     let sum : List ℕ → ℕ = g.C.Checksum.sum_of in
-    let cfg : Config = c.args.config.now.config in
-    let size : ℕ = cfg.segment_size in
+    let size : ℕ = c.args.config.now.config.segment_size in
     let old : Trace = g.D.Device.trace c.args.config.now.device in
     let log : List ℕ = (state_of old).log.bytes in
     let blobs : ℤ → Option (List ℕ) = (state_of old).blobs.file in
     let ss : List Segment = c.args.segments.now in
     let first : SnapshotModel = model_of c.args.first in
-    let n : ℕ = c.count_below-from.result in
-    let begin : ℕ = c.tail_begins-begin.result in
-    let begins = begins_there size c.stable_place.result begin first ss c.tail_begins-begin.ensures c.stable_place.ensures.place in
-    let xs : List Scanned = map pass_of c.in-Ok.tail.passes.items in
-    let whole = tail_of_all sum size log n begin ss c.count_below-from.ensures.below begin xs (omega arith) (subst (λ (l : List Segment). IsTail sum size log l begin xs) (sliced ss n) c.in-Ok.ensures.tail) in
-    let tail = subst (λ k. IsTail sum size log ss k xs) begins whole in
-    let ends = c.in-Ok.ensures.end ∙ c.in-None.is in
     let is : result_of c.unchanged.result ≡ unchanged first (slots_of ss) = c.unchanged.ensures ∙ ap (unchanged first) c.in_ok-slots_of-in-None.ensures.slots in
-    subst (λ x. ContinuesFrom sum size log blobs first (Recovered x)) (sym is) (comes_unchanged sum size log blobs first ss c.requires.ordering xs tail (none_bad sum blobs xs ends) ends)
+    subst (λ x. ContinuesFrom sum size log blobs first (Recovered x)) (sym is)
+    (behind_unchanged sum size log blobs first ss c.requires.ordering c.tail_begins-begin.ensures c.stable_place.ensures.place
+    c.count_below-from.result (map pass_of c.in-Ok.tail.passes.items) c.count_below-from.ensures.below c.in-Ok.ensures.tail (c.in-Ok.ensures.end ∙ c.in-None.is))
 
 pub returns-in-Err-clause-corrupt : goal.returns-in-Err-clause-corrupt
 returns-in-Err-clause-corrupt g c = λ corrupt.
-    let sum : List ℕ → ℕ = g.C.Checksum.sum_of in
-    let cfg : Config = c.args.config.now.config in
-    let size : ℕ = cfg.segment_size in
+    let size : ℕ = c.args.config.now.config.segment_size in
     let old : Trace = g.D.Device.trace c.args.config.now.device in
-    let log : List ℕ = (state_of old).log.bytes in
-    let blobs : ℤ → Option (List ℕ) = (state_of old).blobs.file in
-    let ss : List Segment = c.args.segments.now in
-    let first : SnapshotModel = model_of c.args.first in
-    let n : ℕ = c.count_below-from.result in
-    let begin : ℕ = c.tail_begins-begin.result in
-    let begins = begins_there size c.stable_place.result begin first ss c.tail_begins-begin.ensures c.stable_place.ensures.place in
-    let damaged = damaged_of_all sum size log blobs n ss begin (subst (λ (l : List Segment). IsDamagedTail sum size log blobs l begin) (sliced ss n) (c.in-Err.ensures.damaged corrupt)) in
-    comes_damaged sum size log blobs first ss c.requires.ordering (subst (IsDamagedTail sum size log blobs ss) begins damaged)
+    behind_damaged g.C.Checksum.sum_of size (state_of old).log.bytes (state_of old).blobs.file (model_of c.args.first) c.args.segments.now
+    c.requires.ordering c.tail_begins-begin.ensures c.stable_place.ensures.place c.count_below-from.result (c.in-Err.ensures.damaged corrupt)

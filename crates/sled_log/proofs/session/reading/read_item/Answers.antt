@@ -34,7 +34,7 @@ returns-in_err-item-clause-reads g c =
       item = λ k m begun is of here points none a.
           let at = here ∙ sym (to_z-of_z w64 c.args.place c.ranges.place) in
           let whole = is_whole trace sum old k c.args.page m place is of at c.args.pointer e points
-          (came.undamaged k.history k.acknowledged k.floor is.unmarked m is.fits of.there (has_record trace sum old k.history (reserved_end old) c.args.page m (fits_holds trace sum old k.history k.acknowledged k.floor is.unmarked is.fits) of) at points)
+          (came.undamaged k.history k.acknowledged k.floor is.unmarked m is.fits of.there (has_record old k.history (reserved_end old) c.args.page m of) at points)
           (came.blob k.history k.acknowledged k.floor is.unmarked m is.fits is.zeros).kept in
           read_failed view sum old new k c.args.page m begun of (whole_of trace sum old k.given_up k.heads k.history k.acknowledged k.floor is.unmarked is.given_up is.heads is.fits) (stays_put trace sum old new c.read.ensures.keeps.tickets (place_pinned old new (is_out old is.pinned) c.read.ensures.keeps.position) c.read.ensures.keeps.preserves) (is_out old is.pinned) blobs e place c.args.pointer at points
           (came.calls, (came.buffers.1, came.answers, came.buffers.2)) whole none a;
@@ -58,7 +58,7 @@ returns-in-Inline-clause-reads g c =
       item = λ k m begun is of here points.
           let at = here ∙ sym (to_z-of_z w64 c.args.place c.ranges.place) in
           let gives : GivesMessage m r = is_given trace sum old k c.args.page m place is of at c.args.pointer r points
-          (came.message k.history m (fits_holds trace sum old k.history k.acknowledged k.floor is.unmarked is.fits) of.there (has_record trace sum old k.history (reserved_end old) c.args.page m (fits_holds trace sum old k.history k.acknowledged k.floor is.unmarked is.fits) of) at points)
+          (came.message k.history m (fits_holds trace sum old k.history k.acknowledged k.floor is.unmarked is.fits) of.there (has_record old k.history (reserved_end old) c.args.page m of) at points)
           (came.blob k.history k.acknowledged k.floor is.unmarked m is.fits is.zeros).kept in
           let bytes : c.in-Inline.item.items ≡ m.bytes = elim c.in-Inline.is [
             | inl x ↦ (subst (GivesMessage m) x.2 gives).2
@@ -85,7 +85,7 @@ returns-in-Canceled g c =
         item = λ k m begun is of here points.
             let at = here ∙ sym (to_z-of_z w64 c.args.place c.ranges.place) in
             let gives : GivesMessage m c.in_ok-item.field-0 = is_given trace sum old k c.args.page m place is of at c.args.pointer c.in_ok-item.field-0 points
-            (came.message k.history m (fits_holds trace sum old k.history k.acknowledged k.floor is.unmarked is.fits) of.there (has_record trace sum old k.history (reserved_end old) c.args.page m (fits_holds trace sum old k.history k.acknowledged k.floor is.unmarked is.fits) of) at points)
+            (came.message k.history m (fits_holds trace sum old k.history k.acknowledged k.floor is.unmarked is.fits) of.there (has_record old k.history (reserved_end old) c.args.page m of) at points)
             (came.blob k.history k.acknowledged k.floor is.unmarked m is.fits is.zeros).kept in
             absurd (elim c.in-Canceled.is [
               | inl x ↦ subst (GivesMessage m) x.1 gives

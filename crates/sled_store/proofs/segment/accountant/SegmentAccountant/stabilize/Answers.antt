@@ -1,41 +1,56 @@
 -- The first active segment is deactivated while it is due, and behind one that is not due none is.
-use Rattle.std.proofs.Common.{rules, ◌≡◌, ◌∙◌, ◌<◌, ◌^◌, ℕ, ℤ, pos, true, false, refl, sym, ap, subst, arith, unsigned_abs, w64, to_z, of_z}
+use Rattle.std.proofs.Common.{rules, ◌≡◌, ◌∙◌, ◌≤◌, ◌<◌, ◌+◌, ◌*◌, ◌/◌, ◌^◌, ℕ, ℤ, pos, Result, true, false, [], ◌∷◌, drop, refl, sym, ap, subst, arith, unsigned_abs, w64, to_z, of_z}
 use Rattle.std.proofs.lemmas.Int.{to_z-of_z}
 use lib.Signed.{lt_z}
+use Rattle.sled_codec.specs.declared.result.Error.{Error}
 use Rattle.sled_store.specs.Device.{Trace}
-use Rattle.sled_store.specs.SegmentStates.{Machine, active_among, deactivated, is_due, stabilized}
+use Rattle.sled_store.specs.Script.{Performs}
+use Rattle.sled_store.specs.SegmentStates.{Machine, Step, active_among, deactivated, is_due, stabilized}
 use Rattle.sled_store.specs.Accounts.{IsAccountant, machine_of}
+use Rattle.sled_store.specs.Stabilizing.{MovesSlots}
 use Rattle.sled_store.proofs.Traces.ScriptLemmas.{performs_whole}
-use Rattle.sled_store.proofs.Accounts.StabilSteps.{LeadsTo, leads_itself, made_same, calls_same, turn_on, turn_failed, turns_done}
+use Rattle.sled_store.proofs.Accounts.StabilSteps.{IsMade, LeadsTo, leads_itself, made_same, calls_same, turn_on, turn_failed, turns_done}
 use Rattle.sled_store.proofs.Accounts.StabilDue.{due_among, due_so, due_not, none_negative, first_there, first_active, first_small, due_first, due_none, fewer_active, due_left, due_nothing}
-use Rattle.sled_store.proofs.Marks.MovesMade.{exit_failed, exit_moved, moved_at, moves_same, none_moved, then_moved, whole_moved}
+use Rattle.sled_store.proofs.Marks.MovesMade.{Moved, exit_failed, exit_moved, moved_at, moves_same, none_moved, then_moved, whole_moved}
+use Rattle.sled_store.proofs.segment.accountant.SegmentAccountant.stabilize.Given.{Over}
 use Rattle.sled_store.proofs.segment.accountant.SegmentAccountant.stabilize.Goals as goal
+use Rattle.sled_store.proofs.segment.accountant.SegmentAccountant.stabilize.Goals.{After-deactivate, After-first, In-Some}
 
 -- the mark as the code holds it is the mark
 leads_at : (size : ℕ) (held mark : ℤ) (m : Machine) (mid : Trace) (from : Machine) (old : Trace) → held ≡ mark → LeadsTo (stabilized size held m) mid (stabilized size held from) old → LeadsTo (stabilized size mark m) mid (stabilized size mark from) old
 leads_at size held mark m mid from old same leads = subst (λ (z : ℤ). LeadsTo (stabilized size z m) mid (stabilized size z from) old) same leads
 
-pub returns-then-mark-lt0-clause-done : goal.returns-then-mark-lt0-clause-done
-returns-then-mark-lt0-clause-done g c =
+-- what was made was called
+all_called : {step : Step} {old new : Trace} {m : Machine} → IsMade step old m new → Performs step.calls old new
+all_called {step} {old} {new} is = performs_whole step.calls old new is.trace
+
+-- For a mark below zero there is nothing to do.
+low : (g : Over) (c : goal.Then-mark-lt0 g)
+    → IsMade (stabilized c.args.config.now.config.segment_size c.args.mark (machine_of c.args.self.now)) (g.D.Device.trace c.args.config.now.device)
+    (machine_of c.args.self.now) (g.D.Device.trace c.args.config.now.device)
+low g c =
     let size : ℕ = c.args.config.now.config.segment_size in
     let m : Machine = machine_of c.args.self.now in
     let below : lt_z c.args.mark (pos 0) ≡ true = subst (λ (z : ℤ). lt_z z (pos 0) ≡ true) (to_z-of_z w64 c.args.mark c.ranges.mark) c.if-mark-lt0.true in
     let old : Trace = g.D.Device.trace c.args.config.now.device in
-    (turns_done (deactivated size) (due_among size c.args.mark (active_among m.slots)) m old (stabilized size c.args.mark m) old (leads_itself (stabilized size c.args.mark m) old)
-    (none_negative size c.args.mark (active_among m.slots) below)).machine
+    turns_done (deactivated size) (due_among size c.args.mark (active_among m.slots)) m old (stabilized size c.args.mark m) old
+    (leads_itself (stabilized size c.args.mark m) old) (none_negative size c.args.mark (active_among m.slots) below)
+
+pub returns-then-mark-lt0-clause-done : goal.returns-then-mark-lt0-clause-done
+returns-then-mark-lt0-clause-done g c = (low g c).machine
 
 pub returns-then-mark-lt0-clause-made : goal.returns-then-mark-lt0-clause-made
-returns-then-mark-lt0-clause-made g c =
-    let size : ℕ = c.args.config.now.config.segment_size in
-    let m : Machine = machine_of c.args.self.now in
-    let below : lt_z c.args.mark (pos 0) ≡ true = subst (λ (z : ℤ). lt_z z (pos 0) ≡ true) (to_z-of_z w64 c.args.mark c.ranges.mark) c.if-mark-lt0.true in
-    let old : Trace = g.D.Device.trace c.args.config.now.device in
-    (turns_done (deactivated size) (due_among size c.args.mark (active_among m.slots)) m old (stabilized size c.args.mark m) old (leads_itself (stabilized size c.args.mark m) old)
-    (none_negative size c.args.mark (active_among m.slots) below)).trace
+returns-then-mark-lt0-clause-made g c = (low g c).trace
 
 pub returns-then-mark-lt0-clause-calls : goal.returns-then-mark-lt0-clause-calls
-returns-then-mark-lt0-clause-calls g c =
-    performs_whole (stabilized c.args.config.now.config.segment_size c.args.mark (machine_of c.args.self.now)).calls (g.D.Device.trace c.args.config.now.device) (g.D.Device.trace c.args.config.now.device) (returns-then-mark-lt0-clause-made g c)
+returns-then-mark-lt0-clause-calls g c = all_called (low g c)
+
+pub returns-then-mark-lt0-clause-moves : goal.returns-then-mark-lt0-clause-moves
+returns-then-mark-lt0-clause-moves g c =
+    let size : ℕ = c.args.config.now.config.segment_size in
+    let m : Machine = machine_of c.args.self.now in
+    let before : Trace = g.D.Device.trace c.args.config.now.device in
+    exit_moved size c.args.mark _ m m m before before before (none_moved size c.args.mark m m before before refl refl)
 
 pub loop-place-init : goal.loop-place-init
 loop-place-init g c =
@@ -52,40 +67,103 @@ loop-place-init g c =
       checksum = refl;
     }
 
+-- What is left of it at the head of the loop, for the mark itself, ends where all of it does,
+leads : (g : Over) (c : goal.After-first g)
+    → let size : ℕ = c.args.config.now.config.segment_size in
+    LeadsTo (stabilized size c.args.mark (machine_of c.loop-place.self)) (g.D.Device.trace c.loop-place.config.device)
+    (stabilized size c.args.mark (machine_of c.args.self.now)) (g.D.Device.trace c.args.config.now.device)
+leads g c =
+    leads_at c.args.config.now.config.segment_size (to_z w64 (of_z w64 c.args.mark)) c.args.mark (machine_of c.loop-place.self)
+    (g.D.Device.trace c.loop-place.config.device) (machine_of c.args.self.now) (g.D.Device.trace c.args.config.now.device)
+    (to_z-of_z w64 c.args.mark c.ranges.mark) c.loop-place.invariant.leads
+
+-- and the moves up to there are for it.
+moved : (g : Over) (c : goal.After-first g)
+    → Moved c.args.config.now.config.segment_size c.args.mark (machine_of c.args.self.now) (machine_of c.loop-place.self)
+    (g.D.Device.trace c.args.config.now.device) (g.D.Device.trace c.loop-place.config.device)
+moved g c =
+    moved_at c.args.config.now.config.segment_size (to_z w64 (of_z w64 c.args.mark)) c.args.mark (machine_of c.args.self.now) (machine_of c.loop-place.self)
+    (g.D.Device.trace c.args.config.now.device) (g.D.Device.trace c.loop-place.config.device) (to_z-of_z w64 c.args.mark c.ranges.mark)
+    c.loop-place.invariant.moves
+
+-- Nothing is due there, so all was made.
+ended : (g : Over) (c : goal.After-first g)
+    → due_among c.args.config.now.config.segment_size c.args.mark (active_among (machine_of c.loop-place.self).slots) ≡ []
+    → IsMade (stabilized c.args.config.now.config.segment_size c.args.mark (machine_of c.args.self.now)) (g.D.Device.trace c.args.config.now.device)
+    (machine_of c.loop-place.self) (g.D.Device.trace c.loop-place.config.device)
+ended g c none =
+    let size : ℕ = c.args.config.now.config.segment_size in
+    let m : Machine = machine_of c.loop-place.self in
+    turns_done (deactivated size) (due_among size c.args.mark (active_among m.slots)) m _ _ _ (leads g c) none
+
 pub overflow_add-place : goal.overflow_add-place
 overflow_add-place g c =
     let small : c.in-Some.place < 2 ^ 63 = first_small c.args.config.now.config.segment_size c.args.mark c.loop-place.self c.loop-place.invariant.account (c.in-Some.place, c.in-Some.slot) c.in-Some.ensures in
     omega (arith, small, c.loop-place.invariant.account.small, c.loop-place.invariant.account.size_is)
 
-pub returns-then-place-self-clause-done : goal.returns-then-place-self-clause-done
-returns-then-place-self-clause-done g c =
+-- The mark isn't below zero,
+above : (g : Over) (c : goal.In-Some g) → lt_z c.args.mark (pos 0) ≡ false
+above g c = subst (λ (z : ℤ). lt_z z (pos 0) ≡ false) (to_z-of_z w64 c.args.mark c.ranges.mark) c.if-mark-lt0.false
+
+abs : (g : Over) (c : goal.In-Some g) → c.unsigned_abs.result ≡ unsigned_abs c.args.mark
+abs g c = c.unsigned_abs.ensures.value ∙ ap unsigned_abs (to_z-of_z w64 c.args.mark c.ranges.mark)
+
+-- and the first active segment isn't due, so none is,
+late : (g : Over) (c : goal.Then-place-self g)
+    → IsMade (stabilized c.args.config.now.config.segment_size c.args.mark (machine_of c.args.self.now)) (g.D.Device.trace c.args.config.now.device)
+    (machine_of c.loop-place.self) (g.D.Device.trace c.loop-place.config.device)
+late g c =
     let size : ℕ = c.args.config.now.config.segment_size in
-    let same_mark = to_z-of_z w64 c.args.mark c.ranges.mark in
-    let above : lt_z c.args.mark (pos 0) ≡ false = subst (λ (z : ℤ). lt_z z (pos 0) ≡ false) same_mark c.if-mark-lt0.false in
-    let abs : c.unsigned_abs.result ≡ unsigned_abs c.args.mark = c.unsigned_abs.ensures.value ∙ ap unsigned_abs same_mark in
-    let w : ℕ × ℕ = (c.in-Some.place, c.in-Some.slot) in
-    let m : Machine = machine_of c.loop-place.self in
-    let same = c.loop-place.invariant.account.size_is in
-    let late = due_not size c.loop-place.self.size c.args.self.now.size c.unsigned_abs.result c.in-Some.place c.args.mark same c.requires.account.size_is abs above c.if-place-self.true in
-    (turns_done (deactivated size) (due_among size c.args.mark (active_among m.slots)) m _ _ _ (leads_at size (to_z w64 (of_z w64 c.args.mark)) c.args.mark m (g.D.Device.trace c.loop-place.config.device) (machine_of c.args.self.now) (g.D.Device.trace c.args.config.now.device) (to_z-of_z w64 c.args.mark c.ranges.mark) c.loop-place.invariant.leads)
-    (due_none size c.args.mark c.loop-place.self c.loop-place.invariant.account w c.in-Some.ensures late)).machine
+    let at = goal.at.returns-then-place-self-clause-done g c in
+    let account = c.loop-place.invariant.account in
+    ended g at.After-first (due_none size c.args.mark c.loop-place.self account (c.in-Some.place, c.in-Some.slot) c.in-Some.ensures
+    (due_not size c.loop-place.self.size c.args.self.now.size c.unsigned_abs.result c.in-Some.place c.args.mark account.size_is
+    c.requires.account.size_is (abs g at.In-Some) (above g at.In-Some) c.if-place-self.true))
+
+pub returns-then-place-self-clause-done : goal.returns-then-place-self-clause-done
+returns-then-place-self-clause-done g c = (late g c).machine
 
 pub returns-then-place-self-clause-made : goal.returns-then-place-self-clause-made
-returns-then-place-self-clause-made g c =
-    let size : ℕ = c.args.config.now.config.segment_size in
-    let same_mark = to_z-of_z w64 c.args.mark c.ranges.mark in
-    let above : lt_z c.args.mark (pos 0) ≡ false = subst (λ (z : ℤ). lt_z z (pos 0) ≡ false) same_mark c.if-mark-lt0.false in
-    let abs : c.unsigned_abs.result ≡ unsigned_abs c.args.mark = c.unsigned_abs.ensures.value ∙ ap unsigned_abs same_mark in
-    let w : ℕ × ℕ = (c.in-Some.place, c.in-Some.slot) in
-    let m : Machine = machine_of c.loop-place.self in
-    let same = c.loop-place.invariant.account.size_is in
-    let late = due_not size c.loop-place.self.size c.args.self.now.size c.unsigned_abs.result c.in-Some.place c.args.mark same c.requires.account.size_is abs above c.if-place-self.true in
-    (turns_done (deactivated size) (due_among size c.args.mark (active_among m.slots)) m _ _ _ (leads_at size (to_z w64 (of_z w64 c.args.mark)) c.args.mark m (g.D.Device.trace c.loop-place.config.device) (machine_of c.args.self.now) (g.D.Device.trace c.args.config.now.device) (to_z-of_z w64 c.args.mark c.ranges.mark) c.loop-place.invariant.leads)
-    (due_none size c.args.mark c.loop-place.self c.loop-place.invariant.account w c.in-Some.ensures late)).trace
+returns-then-place-self-clause-made g c = (late g c).trace
 
 pub returns-then-place-self-clause-calls : goal.returns-then-place-self-clause-calls
-returns-then-place-self-clause-calls g c =
-    performs_whole (stabilized c.args.config.now.config.segment_size c.args.mark (machine_of c.args.self.now)).calls (g.D.Device.trace c.args.config.now.device) (g.D.Device.trace c.loop-place.config.device) (returns-then-place-self-clause-made g c)
+returns-then-place-self-clause-calls g c = all_called (late g c)
+
+pub returns-then-place-self-clause-moves : goal.returns-then-place-self-clause-moves
+returns-then-place-self-clause-moves g c =
+    let first : Machine = machine_of c.args.self.now in
+    let before : Trace = g.D.Device.trace c.args.config.now.device in
+    exit_moved c.args.config.now.config.segment_size c.args.mark _ first first (machine_of c.loop-place.self) before before
+    (g.D.Device.trace c.loop-place.config.device) (moved g (goal.at.returns-then-place-self-clause-moves g c).After-first)
+
+-- or it is, and the first of those that are.
+due : (g : Over) (c : goal.In-Some g) → c.in-Some.place + c.loop-place.self.size ≤ c.unsigned_abs.result / c.args.self.now.size * c.args.self.now.size
+    → is_due c.args.config.now.config.segment_size c.args.mark c.in-Some.place ≡ true
+due g c below =
+    due_so c.args.config.now.config.segment_size c.loop-place.self.size c.args.self.now.size c.unsigned_abs.result c.in-Some.place c.args.mark
+    c.loop-place.invariant.account.size_is c.requires.account.size_is (abs g c) (above g c) below
+
+list : (g : Over) (c : goal.In-Some g) → is_due c.args.config.now.config.segment_size c.args.mark c.in-Some.place ≡ true
+    → let size : ℕ = c.args.config.now.config.segment_size in
+    due_among size c.args.mark (active_among (machine_of c.loop-place.self).slots)
+    ≡ (c.in-Some.place, c.in-Some.slot) ∷ due_among size c.args.mark (drop 1 c.loop-place.self.active.0)
+list g c =
+    due_first c.args.config.now.config.segment_size c.args.mark c.loop-place.self c.loop-place.invariant.account (c.in-Some.place, c.in-Some.slot)
+    c.in-Some.ensures
+
+-- So the moves of its step are for the mark.
+moves : (g : Over) (c : goal.After-deactivate g) → is_due c.args.config.now.config.segment_size c.args.mark c.in-Some.place ≡ true
+    → (r : Result (Unit {0}) Error)
+    → ((mark : ℤ) → is_due c.loop-place.self.size mark c.in-Some.place ≡ true
+    → MovesSlots c.loop-place.self.size mark r (machine_of c.loop-place.self) (machine_of c.deactivate.new.self)
+    (g.D.Device.trace c.loop-place.config.device) (g.D.Device.trace c.deactivate.new.device))
+    → MovesSlots c.args.config.now.config.segment_size c.args.mark r (machine_of c.loop-place.self) (machine_of c.deactivate.new.self)
+    (g.D.Device.trace c.loop-place.config.device) (g.D.Device.trace c.deactivate.new.device)
+moves g c is r made =
+    let same = c.loop-place.invariant.account.size_is in
+    moves_same c.args.config.now.config.segment_size c.loop-place.self.size c.args.mark r (machine_of c.loop-place.self)
+    (machine_of c.deactivate.new.self) (g.D.Device.trace c.loop-place.config.device) (g.D.Device.trace c.deactivate.new.device) same
+    (made c.args.mark (ap (λ k. is_due k c.args.mark c.in-Some.place) same ∙ is))
 
 pub deactivate-requires-clause-slot : goal.deactivate-requires-clause-slot
 deactivate-requires-clause-slot g c =
@@ -102,32 +180,33 @@ loop-place-smaller g c =
 pub loop-place-preserved : goal.loop-place-preserved
 loop-place-preserved g c =
     let size : ℕ = c.args.config.now.config.segment_size in
-    let same_mark = to_z-of_z w64 c.args.mark c.ranges.mark in
-    let above : lt_z c.args.mark (pos 0) ≡ false = subst (λ (z : ℤ). lt_z z (pos 0) ≡ false) same_mark c.if-mark-lt0.false in
-    let abs : c.unsigned_abs.result ≡ unsigned_abs c.args.mark = c.unsigned_abs.ensures.value ∙ ap unsigned_abs same_mark in
+    let held : ℤ = to_z w64 (of_z w64 c.args.mark) in
+    let back : c.args.mark ≡ held = sym (to_z-of_z w64 c.args.mark c.ranges.mark) in
     let w : ℕ × ℕ = (c.in-Some.place, c.in-Some.slot) in
+    let first : Machine = machine_of c.args.self.now in
     let m : Machine = machine_of c.loop-place.self in
+    let n : Machine = machine_of c.deactivate.new.self in
+    let before : Trace = g.D.Device.trace c.args.config.now.device in
+    let between : Trace = g.D.Device.trace c.loop-place.config.device in
+    let after : Trace = g.D.Device.trace c.deactivate.new.device in
     let same = c.loop-place.invariant.account.size_is in
-    let due = due_so size c.loop-place.self.size c.args.self.now.size c.unsigned_abs.result c.in-Some.place c.args.mark same c.requires.account.size_is abs above c.if-place-self.false in
-    let list = due_first size c.args.mark c.loop-place.self c.loop-place.invariant.account w c.in-Some.ensures due in
-    let account = subst (λ n. IsAccountant n c.deactivate.new.self) same c.in_ok-deactivate.ensures.step.account in
-    let left = due_left size c.args.mark c.loop-place.self c.loop-place.invariant.account w c.in-Some.ensures c.deactivate.new.self c.in_ok-deactivate.ensures.active account in
-    let made = made_same (λ n. deactivated n w m) size c.loop-place.self.size (g.D.Device.trace c.loop-place.config.device) (machine_of c.deactivate.new.self) (g.D.Device.trace c.deactivate.new.device) same c.in_ok-deactivate.ensures.step.done c.in_ok-deactivate.ensures.step.made in
+    let step = c.in_ok-deactivate.ensures.step in
+    let account = subst (λ k. IsAccountant k c.deactivate.new.self) same step.account in
+    let left = due_left size c.args.mark c.loop-place.self c.loop-place.invariant.account w c.in-Some.ensures c.deactivate.new.self
+    c.in_ok-deactivate.ensures.active account in
+    let made = made_same (λ k. deactivated k w m) size c.loop-place.self.size between n after same step.done step.made in
+    let at = goal.at.loop-place-preserved g c in
+    let head = at.After-first in
+    let is = due g at.In-Some c.if-place-self.false in
     record {
       account = account;
-      leads = leads_at size c.args.mark (to_z w64 (of_z w64 c.args.mark)) (machine_of c.deactivate.new.self) (g.D.Device.trace c.deactivate.new.device) (machine_of c.args.self.now) (g.D.Device.trace c.args.config.now.device) (sym (to_z-of_z w64 c.args.mark c.ranges.mark)) (turn_on (deactivated size) (due_among size c.args.mark (active_among m.slots)) m _ _ _ (leads_at size (to_z w64 (of_z w64 c.args.mark)) c.args.mark m (g.D.Device.trace c.loop-place.config.device) (machine_of c.args.self.now) (g.D.Device.trace c.args.config.now.device) (to_z-of_z w64 c.args.mark c.ranges.mark) c.loop-place.invariant.leads) w _ (due_among size c.args.mark (active_among (machine_of c.deactivate.new.self).slots)) (machine_of c.deactivate.new.self) (g.D.Device.trace c.deactivate.new.device) list made left);
-      moves =
-          let before : Trace = g.D.Device.trace c.args.config.now.device in
-          let mid : Trace = g.D.Device.trace c.loop-place.config.device in
-          let after : Trace = g.D.Device.trace c.deactivate.new.device in
-          let first : Machine = machine_of c.args.self.now in
-          let n : Machine = machine_of c.deactivate.new.self in
-          moved_at size c.args.mark (to_z w64 (of_z w64 c.args.mark)) first n before after (sym same_mark)
-          (then_moved size c.args.mark first m n before mid after
-          (moved_at size (to_z w64 (of_z w64 c.args.mark)) c.args.mark first m before mid same_mark c.loop-place.invariant.moves)
-          (whole_moved size c.args.mark _ m n mid after (moves_same size c.loop-place.self.size c.args.mark _ m n mid after same
-          (c.in_ok-deactivate.ensures.moves c.args.mark (ap (λ k. is_due k c.args.mark c.in-Some.place) same ∙ due)))));
-      faults = c.in_ok-deactivate.ensures.step.answers ∙ c.loop-place.invariant.faults;
+      leads = leads_at size c.args.mark held n after first before back
+          (turn_on (deactivated size) (due_among size c.args.mark (active_among m.slots)) m _ _ _ (leads g head) w _
+          (due_among size c.args.mark (active_among n.slots)) n after (list g at.In-Some is) made left);
+      moves = moved_at size c.args.mark held first n before after back
+          (then_moved size c.args.mark first m n before between after (moved g head)
+          (whole_moved size c.args.mark _ m n between after (moves g at.After-deactivate is _ c.in_ok-deactivate.ensures.moves)));
+      faults = step.answers ∙ c.loop-place.invariant.faults;
       config = c.loop-place.invariant.config;
       checksum = c.loop-place.invariant.checksum;
     }
@@ -135,81 +214,45 @@ loop-place-preserved g c =
 pub returns-in_err-deactivate-clause-calls : goal.returns-in_err-deactivate-clause-calls
 returns-in_err-deactivate-clause-calls g c =
     let size : ℕ = c.args.config.now.config.segment_size in
-    let same_mark = to_z-of_z w64 c.args.mark c.ranges.mark in
-    let above : lt_z c.args.mark (pos 0) ≡ false = subst (λ (z : ℤ). lt_z z (pos 0) ≡ false) same_mark c.if-mark-lt0.false in
-    let abs : c.unsigned_abs.result ≡ unsigned_abs c.args.mark = c.unsigned_abs.ensures.value ∙ ap unsigned_abs same_mark in
     let w : ℕ × ℕ = (c.in-Some.place, c.in-Some.slot) in
     let m : Machine = machine_of c.loop-place.self in
-    let same = c.loop-place.invariant.account.size_is in
-    let due = due_so size c.loop-place.self.size c.args.self.now.size c.unsigned_abs.result c.in-Some.place c.args.mark same c.requires.account.size_is abs above c.if-place-self.false in
-    let list = due_first size c.args.mark c.loop-place.self c.loop-place.invariant.account w c.in-Some.ensures due in
-    turn_failed (deactivated size) (due_among size c.args.mark (active_among m.slots)) m _ _ _ (leads_at size (to_z w64 (of_z w64 c.args.mark)) c.args.mark m (g.D.Device.trace c.loop-place.config.device) (machine_of c.args.self.now) (g.D.Device.trace c.args.config.now.device) (to_z-of_z w64 c.args.mark c.ranges.mark) c.loop-place.invariant.leads) w _ (g.D.Device.trace c.deactivate.new.device) list
-    (calls_same (λ n. deactivated n w m) size c.loop-place.self.size (g.D.Device.trace c.loop-place.config.device) (g.D.Device.trace c.deactivate.new.device) same c.deactivate.ensures.step.calls)
+    let after : Trace = g.D.Device.trace c.deactivate.new.device in
+    let at = goal.at.returns-in_err-deactivate-clause-calls g c in
+    turn_failed (deactivated size) (due_among size c.args.mark (active_among m.slots)) m _ _ _ (leads g at.After-first) w _ after
+    (list g at.In-Some (due g at.In-Some c.if-place-self.false)) (calls_same (λ n. deactivated n w m) size c.loop-place.self.size (g.D.Device.trace c.loop-place.config.device) after
+    c.loop-place.invariant.account.size_is c.deactivate.ensures.step.calls)
 
 pub returns-in_err-deactivate-clause-account : goal.returns-in_err-deactivate-clause-account
 returns-in_err-deactivate-clause-account g c =
     subst (λ n. IsAccountant n c.deactivate.new.self) c.loop-place.invariant.account.size_is c.deactivate.ensures.step.account
 
-pub returns-clause-done : goal.returns-clause-done
-returns-clause-done g c =
-    let size : ℕ = c.args.config.now.config.segment_size in
-    let m : Machine = machine_of c.loop-place.self in
-    (turns_done (deactivated size) (due_among size c.args.mark (active_among m.slots)) m _ _ _ (leads_at size (to_z w64 (of_z w64 c.args.mark)) c.args.mark m (g.D.Device.trace c.loop-place.config.device) (machine_of c.args.self.now) (g.D.Device.trace c.args.config.now.device) (to_z-of_z w64 c.args.mark c.ranges.mark) c.loop-place.invariant.leads)
-    (due_nothing size c.args.mark c.loop-place.self c.loop-place.invariant.account c.first.result c.first.ensures c.in_default.not-Some)).machine
-
-pub returns-clause-made : goal.returns-clause-made
-returns-clause-made g c =
-    let size : ℕ = c.args.config.now.config.segment_size in
-    let m : Machine = machine_of c.loop-place.self in
-    (turns_done (deactivated size) (due_among size c.args.mark (active_among m.slots)) m _ _ _ (leads_at size (to_z w64 (of_z w64 c.args.mark)) c.args.mark m (g.D.Device.trace c.loop-place.config.device) (machine_of c.args.self.now) (g.D.Device.trace c.args.config.now.device) (to_z-of_z w64 c.args.mark c.ranges.mark) c.loop-place.invariant.leads)
-    (due_nothing size c.args.mark c.loop-place.self c.loop-place.invariant.account c.first.result c.first.ensures c.in_default.not-Some)).trace
-
-pub returns-clause-calls : goal.returns-clause-calls
-returns-clause-calls g c =
-    performs_whole (stabilized c.args.config.now.config.segment_size c.args.mark (machine_of c.args.self.now)).calls (g.D.Device.trace c.args.config.now.device) (g.D.Device.trace c.loop-place.config.device) (returns-clause-made g c)
-
-pub returns-then-mark-lt0-clause-moves : goal.returns-then-mark-lt0-clause-moves
-returns-then-mark-lt0-clause-moves g c =
-    let size : ℕ = c.args.config.now.config.segment_size in
-    let m : Machine = machine_of c.args.self.now in
-    let before : Trace = g.D.Device.trace c.args.config.now.device in
-    exit_moved size c.args.mark _ m m m before before before (none_moved size c.args.mark m m before before refl refl)
-
-pub returns-then-place-self-clause-moves : goal.returns-then-place-self-clause-moves
-returns-then-place-self-clause-moves g c =
-    let size : ℕ = c.args.config.now.config.segment_size in
-    let first : Machine = machine_of c.args.self.now in
-    let m : Machine = machine_of c.loop-place.self in
-    let before : Trace = g.D.Device.trace c.args.config.now.device in
-    let mid : Trace = g.D.Device.trace c.loop-place.config.device in
-    exit_moved size c.args.mark _ first first m before before mid
-    (moved_at size (to_z w64 (of_z w64 c.args.mark)) c.args.mark first m before mid (to_z-of_z w64 c.args.mark c.ranges.mark) c.loop-place.invariant.moves)
-
 pub returns-in_err-deactivate-clause-moves : goal.returns-in_err-deactivate-clause-moves
 returns-in_err-deactivate-clause-moves g c =
-    let size : ℕ = c.args.config.now.config.segment_size in
-    let same_mark = to_z-of_z w64 c.args.mark c.ranges.mark in
-    let above : lt_z c.args.mark (pos 0) ≡ false = subst (λ (z : ℤ). lt_z z (pos 0) ≡ false) same_mark c.if-mark-lt0.false in
-    let abs : c.unsigned_abs.result ≡ unsigned_abs c.args.mark = c.unsigned_abs.ensures.value ∙ ap unsigned_abs same_mark in
-    let first : Machine = machine_of c.args.self.now in
-    let m : Machine = machine_of c.loop-place.self in
-    let n : Machine = machine_of c.deactivate.new.self in
-    let before : Trace = g.D.Device.trace c.args.config.now.device in
-    let mid : Trace = g.D.Device.trace c.loop-place.config.device in
-    let after : Trace = g.D.Device.trace c.deactivate.new.device in
-    let same = c.loop-place.invariant.account.size_is in
-    let due = due_so size c.loop-place.self.size c.args.self.now.size c.unsigned_abs.result c.in-Some.place c.args.mark same c.requires.account.size_is abs above c.if-place-self.false in
-    exit_failed size c.args.mark c.from_residual.result first m n before mid after (λ P. search rules)
-    (moved_at size (to_z w64 (of_z w64 c.args.mark)) c.args.mark first m before mid same_mark c.loop-place.invariant.moves) c.deactivate.result
-    (moves_same size c.loop-place.self.size c.args.mark c.deactivate.result m n mid after same
-    (c.deactivate.ensures.moves c.args.mark (ap (λ k. is_due k c.args.mark c.in-Some.place) same ∙ due)))
+    let at = goal.at.returns-in_err-deactivate-clause-moves g c in
+    exit_failed c.args.config.now.config.segment_size c.args.mark c.from_residual.result (machine_of c.args.self.now) (machine_of c.loop-place.self)
+    (machine_of c.deactivate.new.self) (g.D.Device.trace c.args.config.now.device) (g.D.Device.trace c.loop-place.config.device)
+    (g.D.Device.trace c.deactivate.new.device) (λ P. search rules) (moved g at.After-first) c.deactivate.result
+    (moves g at.After-deactivate (due g at.In-Some c.if-place-self.false) _ c.deactivate.ensures.moves)
+
+-- No segment is active.
+none : (g : Over) (c : goal.In_default g)
+    → IsMade (stabilized c.args.config.now.config.segment_size c.args.mark (machine_of c.args.self.now)) (g.D.Device.trace c.args.config.now.device)
+    (machine_of c.loop-place.self) (g.D.Device.trace c.loop-place.config.device)
+none g c = ended g (goal.at.returns-clause-done g c).After-first (due_nothing c.args.config.now.config.segment_size c.args.mark c.loop-place.self
+    c.loop-place.invariant.account c.first.result c.first.ensures c.in_default.not-Some)
+
+pub returns-clause-done : goal.returns-clause-done
+returns-clause-done g c = (none g c).machine
+
+pub returns-clause-made : goal.returns-clause-made
+returns-clause-made g c = (none g c).trace
+
+pub returns-clause-calls : goal.returns-clause-calls
+returns-clause-calls g c = all_called (none g c)
 
 pub returns-clause-moves : goal.returns-clause-moves
 returns-clause-moves g c =
-    let size : ℕ = c.args.config.now.config.segment_size in
     let first : Machine = machine_of c.args.self.now in
-    let m : Machine = machine_of c.loop-place.self in
     let before : Trace = g.D.Device.trace c.args.config.now.device in
-    let mid : Trace = g.D.Device.trace c.loop-place.config.device in
-    exit_moved size c.args.mark _ first first m before before mid
-    (moved_at size (to_z w64 (of_z w64 c.args.mark)) c.args.mark first m before mid (to_z-of_z w64 c.args.mark c.ranges.mark) c.loop-place.invariant.moves)
+    exit_moved c.args.config.now.config.segment_size c.args.mark _ first first (machine_of c.loop-place.self) before before
+    (g.D.Device.trace c.loop-place.config.device) (moved g (goal.at.returns-clause-moves g c).After-first)
