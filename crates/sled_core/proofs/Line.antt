@@ -79,6 +79,7 @@ pub mod Prepares
 pub mod Promotes
 pub mod Quiet
 pub mod Reads
+pub mod ReadsOwn
 pub mod Records
 pub mod Reserved
 pub mod ReservedInline

@@ -527,7 +527,7 @@ module _ {D C : Type 0} (trace : D → Trace) (sum : List ℕ → ℕ) (old new 
             (base_low sum old.marks (noted_in old) its_size big (state_of (trace (device_of old))) (fault_of old) (line_of old) (machine_at old) (pins_of old) H A f' U fits)
             fits.shows.slots same_shown (fits.hides none zeros)) fits.marked
             (λ none. passed_next sum its_size device (fault_of old) (machine_at old) big old.account.slots first behind closes g.short small lies
-            f.place_small (noted_in old) H.batches (state_of (trace (device_of old))).snapshots.file old.marks (fits.passed none))
+            f.place_small (noted_in old) H.batches (state_of (trace (device_of old))).snapshots.file old.marks (fits.passed none)) fits.clean
             (fits_next sum its_size device (fault_of old) (machine_at old) big old.account.slots first behind closes g.short small lies f.place_small (noted_in old) (pins_of old) H A f' U fits.shows);
         noted = noted_later old new rest.noted (let same = begins_synced in omega (arith, same));
         kept = kept_same old new rest.noted;

@@ -92,14 +92,21 @@ tickets_further old mid new first then = record {
 
 -- and with where the next record begins.
 pub position_still : {D C : Type 0} (log : Log D C) → SamePosition log log
-position_still log = record { position = refl; reserved = refl; pins = refl; size = refl }
+position_still log = record { position = refl; reserved = refl; pins = refl; joined = refl; size = refl }
 
 pub position_further : {D C : Type 0} (old mid new : Log D C) → SamePosition old mid → SamePosition mid new → SamePosition old new
-position_further old mid new first then = record { position = then.position ∙ first.position; reserved = then.reserved ∙ first.reserved; pins = then.pins ∙ first.pins; size = then.size ∙ first.size }
+position_further old mid new first then = record {
+  position = then.position ∙ first.position;
+  reserved = then.reserved ∙ first.reserved;
+  pins = then.pins ∙ first.pins;
+  joined = then.joined ∙ first.joined;
+  size = then.size ∙ first.size;
+}
 
 -- So it is where slots come free.
 pub place_still : {D C : Type 0} (log : Log D C) → SamePlace log log
-place_still log = record { place = refl; pinned = λ pinned. refl; position = refl; reserved = refl; pins = refl; size = refl }
+place_still log =
+    record { place = refl; pinned = λ pinned. refl; position = refl; reserved = refl; pins = refl; joined = λ pinned. refl; size = refl }
 
 pub place_further : {D C : Type 0} (old mid new : Log D C) → SamePlace old mid → SamePlace mid new → SamePlace old new
 place_further old mid new first then = record {
@@ -108,6 +115,7 @@ place_further old mid new first then = record {
   position = then.position ∙ first.position;
   reserved = then.reserved ∙ first.reserved;
   pins = then.pins ∙ first.pins;
+  joined = λ pinned. then.joined (let same = first.pins in omega (arith, pinned, same)) ∙ first.joined pinned;
   size = then.size ∙ first.size;
 }
 
@@ -118,12 +126,14 @@ position_place old new same = record {
   position = same.position;
   reserved = same.reserved;
   pins = same.pins;
+  joined = λ pinned. same.joined;
   size = same.size;
 }
 
--- While a pin is out none does.
+-- While a pin is out none does, and no mark joins.
 pub place_pinned : {D C : Type 0} (old new : Log D C) → 0 < pins_of old → SamePlace old new → SamePosition old new
-place_pinned old new out same = record { position = same.pinned out; reserved = same.reserved; pins = same.pins; size = same.size }
+place_pinned old new out same =
+    record { position = same.pinned out; reserved = same.reserved; pins = same.pins; joined = same.joined out; size = same.size }
 
 -- All of it.
 pub writing_still : {D C : Type 0} (trace : D → Trace) (sum : List ℕ → ℕ) (log : Log D C) → KeepsWriting trace sum log log

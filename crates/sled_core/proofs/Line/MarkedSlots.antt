@@ -102,7 +102,7 @@ module _ {D C : Type 0} (trace : D → Trace) (sum : List ℕ → ℕ) (old new 
         rest.pins
         (λ none zeros. from_as sum (segment_size_of old) (state_of (trace (device_of old))) (machine_at old) m
         (line_of old) (line_of old) (logged H) (λ k. (same k).free) (λ k. (same k).lsn)
-        (same_shown (state_of (trace (device_of old))).log.bytes) (omega arith) (fits.hides none zeros)) fits.marked fits.passed
+        (same_shown (state_of (trace (device_of old))).log.bytes) (omega arith) (fits.hides none zeros)) fits.marked fits.passed fits.clean
         (record {
           reach = fits.shows.reach;
           parts = fits-pinned _ _ _ _ _ _ _ _ _ _ H A f U fits.shows.parts (pins_of old) V (λ some. fits.shows.parts.pinned (fewer some));

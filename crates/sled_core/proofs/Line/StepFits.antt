@@ -1,6 +1,6 @@
 -- A step of the accountant frees slots, and no call is made yet: a log at rest that keeps no failure, all of whose messages are marked, fits what it fitted,
 -- with the slots as they are behind the step.
-use Rattle.std.proofs.Common.{◌≡◌, ◌≢◌, ◌∙◌, ◌+◌, ◌*◌, ◌/◌, ◌<◌, ◌≤◌, ◌≤ℤ◌, ℕ, pos, true, List, [], ◌∷◌, length, None, refl, sym, ap, subst}
+use Rattle.std.proofs.Common.{◌≡◌, ◌≢◌, ◌⊎◌, ◌∙◌, ◌+◌, ◌*◌, ◌/◌, ◌<◌, ◌≤◌, ◌<ℤ◌, ◌≤ℤ◌, ℕ, ℤ, pos, negsuc, true, List, [], ◌∷◌, length, None, refl, sym, ap, subst}
 use Rattle.std.proofs.Common.{arith, inl, inr}
 use Rattle.std.specs.List.{Contains}
 use Rattle.std.proofs.Math.Nat.{mul-div_cancel}
@@ -75,6 +75,11 @@ line_rise size place v vs are =
     let short = s.short in
     ends_rise v.parts.written_len v.parts.reserved v.parts.sealed size s.are
     (let up = ends_up v.parts.written_len v.parts.reserved v.parts.sealed s.are in omega (arith, up, begins, short)) (omega (arith, begins, short))
+
+-- A mark lies above a place, or doesn't.
+mark_cases : (mark : ℤ) (place : ℕ) → (mark ≤ℤ pos place) ⊎ (pos place <ℤ mark)
+mark_cases (pos n) place = elim (cases_lt place n) [ inl above ↦ inr (omega (arith, ints, above)) | inr low ↦ inl (omega (arith, ints, low)) ]
+mark_cases (negsuc n) place = inl (omega (arith, ints))
 
 module _ (sum : List ℕ → ℕ) (marks : JoinedMarks) (noted : List Batch) (size : ℕ) (big : 256 ≤ size) (s : State) (m : Machine) (pins : ℕ) (H : History)
     (A f : ℕ) (order : Ascends H.messages) (v : SegmentView) (vs : List SegmentView) (are : AreSegments size v.parts.site.place (v ∷ vs))
@@ -238,9 +243,10 @@ module _ (sum : List ℕ → ℕ) (marks : JoinedMarks) (noted : List Batch) (si
         (fits.shows.in_slots first begins).not_above (λ k lost. unneeded k lost held) (fits.shows.in_slots first begins));
   }
 
-  pub stepped_fits : (now : FitsShown sum marks noted size s None line after pins H A f []) × (now.shows.reach ≡ fits.shows.reach)
+  -- (the mark that joined is above the floor then, with which the log may have begun, so nothing is claimed of the file itself)
+  pub stepped_fits : pos f <ℤ marks.joined → (now : FitsShown sum marks noted size s None line after pins H A f []) × (now.shows.reach ≡ fits.shows.reach)
   unfolding stepped_shows
-  stepped_fits = (
+  stepped_fits above = (
     record {
       shows = stepped_shows;
       rests = fits.rests;
@@ -252,18 +258,31 @@ module _ (sum : List ℕ → ℕ) (marks : JoinedMarks) (noted : List Batch) (si
           (one_begin sum s.snapshots.file first x begins from)
           (let its = fits.marked refl zeros first begins in record { joined = its.joined; stands = mark_kept zeros its.stands });
       passed = fits.passed;
+      clean = λ none low. absurd (omega (arith, ints, above, low));
     },
     refl,
   )
 
--- So it is where messages aren't marked yet, as long as nothing is due: then the step does nothing. What a reader reaches is the same.
+-- So it is where messages aren't marked yet, or no mark joined that is above the floor, as long as nothing is due: then the step does nothing. What a reader
+-- reaches is the same.
 pub step_fits : (sum : List ℕ → ℕ) (marks : JoinedMarks) (noted : List Batch) (size : ℕ) → 256 ≤ size → (s : State) (m : Machine) (pins : ℕ) (H : History)
     (A f : ℕ) → Ascends H.messages → (v : SegmentView) (vs : List SegmentView) → AreSegments size v.parts.site.place (v ∷ vs) → (U : List Message)
-    → (U ≢ [] → NoneDue size marks.joined m) → (fits : FitsShown sum marks noted size s None (v ∷ vs) m pins H A f U)
+    → ((U ≢ []) ⊎ (marks.joined ≤ℤ pos f) → NoneDue size marks.joined m) → (fits : FitsShown sum marks noted size s None (v ∷ vs) m pins H A f U)
     → (now : FitsShown sum marks noted size s None (v ∷ vs) (stabilized size marks.joined m).machine pins H A f U)
     × (now.shows.reach ≡ fits.shows.reach)
-step_fits sum marks noted size big s m pins H A f order v vs are [] idle fits =
-    stepped_fits sum marks noted size big s m pins H A f order v vs are fits
-step_fits sum marks noted size big s m pins H A f order v vs are (u ∷ us) idle fits =
-    subst (λ (n : Machine). (now : FitsShown sum marks noted size s None (v ∷ vs) n pins H A f (u ∷ us)) × (now.shows.reach ≡ fits.shows.reach))
-    (sym (ap (λ (x : Step). x.machine) (none_stabilized size marks.joined m (idle (λ none. let clash : u ∷ us ≡ [] = none in cc))))) (fits, refl)
+step_fits sum marks noted size big s m pins H A f order v vs are U idle fits = by U idle fits where
+  abbrev Behind : List Message → (reach : ℕ) → Machine → Type 0
+  Behind V reach n = (now : FitsShown sum marks noted size s None (v ∷ vs) n pins H A f V) × (now.shows.reach ≡ reach)
+
+  stays : (V : List Message) (was : FitsShown sum marks noted size s None (v ∷ vs) m pins H A f V) → NoneDue size marks.joined m
+      → Behind V was.shows.reach (stabilized size marks.joined m).machine
+  stays V was none =
+      subst (Behind V was.shows.reach) (sym (ap (λ (x : Step). x.machine) (none_stabilized size marks.joined m none))) (was, refl)
+
+  by : (V : List Message) → ((V ≢ []) ⊎ (marks.joined ≤ℤ pos f) → NoneDue size marks.joined m)
+      → (was : FitsShown sum marks noted size s None (v ∷ vs) m pins H A f V) → Behind V was.shows.reach (stabilized size marks.joined m).machine
+  by [] due was = elim (mark_cases marks.joined f) [
+    | inl low ↦ stays [] was (due (inr low))
+    | inr above ↦ stepped_fits sum marks noted size big s m pins H A f order v vs are was above
+  ]
+  by (u ∷ us) due was = stays (u ∷ us) was (due (inl (λ none. let clash : u ∷ us ≡ [] = none in cc)))

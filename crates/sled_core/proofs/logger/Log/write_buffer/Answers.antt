@@ -11,6 +11,7 @@ use Rattle.std.specs.List.{slice_get}
 use Rattle.sled_store.specs.Accounts.{machine_of}
 use Rattle.sled_store.proofs.Traces.ScriptLemmas.{later_performed}
 use Rattle.sled_store.specs.declared.config.Config.{Config}
+use Rattle.std.proofs.lemmas.Bool.Decides.{nat_tests}
 use Rattle.std.proofs.lemmas.Result.{err_from_is_err_and}
 use Rattle.sled_core.specs.Begun.{SegmentView, line_in, segment_view}
 use Rattle.sled_core.specs.inside.Begun.{open_segments, with_nth}
@@ -23,7 +24,7 @@ use Rattle.sled_core.specs.declared.logger.Log.{Log}
 use Rattle.sled_core.specs.Fronts.{WroteNone}
 use Rattle.sled_core.specs.HeaderMark.{greater_mark}
 use Rattle.sled_core.specs.inside.Fits.{written_to}
-use Rattle.sled_core.specs.Fits.{AwaitsIn, ledger_of, line_of, noted_in, position_with, segment_size_of}
+use Rattle.sled_core.specs.Fits.{AwaitsIn, ledger_of, line_of, noted_in, pins_of, position_with, segment_size_of}
 use Rattle.sled_core.specs.Keeps.{SamePosition}
 use Rattle.sled_core.specs.invariants.Fits.{Holds}
 use Rattle.sled_core.specs.GivenUp.{given_up_along}
@@ -331,6 +332,11 @@ returns-clause-keeps g c = record {
         position = at;
         reserved = rest.reserved;
         pins = rest.pins;
+        joined = λ pinned.
+            let out : nat_lt 0 (pins_of mid) ≡ true = (let same = rest.pins in grind (arith, nat_tests, pinned, same)) in
+            c.note_mark.ensures.joined
+            ∙ ap (λ (o : Bool). if o then mid.marks.joined else greater_mark c.mark_of-mark.result mid.marks.durable) out
+            ∙ ap (λ (x : JoinedMarks). x.joined) rest.marks;
         size = kept_size old mid rest;
       }
       );
