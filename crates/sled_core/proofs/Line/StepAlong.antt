@@ -1,7 +1,7 @@
 -- The calls of a step of the accountant, over the slots as they are behind it: a log at rest fits what it fitted behind each blob that is removed, and behind
 -- each cut with its sync. So what a crash leaves at each moment of them can be recovered, and lasts; and a log that keeps a failure from
 -- then on fits the history.
-use Rattle.std.proofs.Common.{◌≡◌, ◌≢◌, ◌∙◌, ◌+◌, ◌*◌, ◌/◌, ◌<◌, ◌≤◌, ◌≤ℤ◌, ℕ, ℤ, pos, true, false, Bool, List, [], ◌∷◌, length, take, None, Some, refl}
+use Rattle.std.proofs.Common.{◌≡◌, ◌≢◌, ◌⊎◌, ◌∙◌, ◌+◌, ◌*◌, ◌/◌, ◌<◌, ◌≤◌, ◌≤ℤ◌, ℕ, ℤ, pos, true, false, Bool, List, [], ◌∷◌, length, take, None, Some, refl}
 use Rattle.std.proofs.Common.{sym, ap, subst, arith, inl, inr}
 use Rattle.std.proofs.Math.Nat.{mul-mod_left}
 use Rattle.std.specs.List.{Contains}

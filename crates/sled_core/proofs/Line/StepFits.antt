@@ -263,26 +263,27 @@ module _ (sum : List ℕ → ℕ) (marks : JoinedMarks) (noted : List Batch) (si
     refl,
   )
 
--- So it is where messages aren't marked yet, or no mark joined that is above the floor, as long as nothing is due: then the step does nothing. What a reader
--- reaches is the same.
+-- Where nothing is due the step does nothing.
+module _ (sum : List ℕ → ℕ) (marks : JoinedMarks) (noted : List Batch) (size : ℕ) (s : State) (m : Machine) (pins : ℕ) (H : History) (A f : ℕ)
+    (line : List SegmentView) (U : List Message) where
+  -- a log fits with these slots, and a reader comes as far
+  abbrev FitsTo : ℕ → Machine → Type 0
+  FitsTo reach n = (now : FitsShown sum marks noted size s None line n pins H A f U) × (now.shows.reach ≡ reach)
+
+  idle_fits : (fits : FitsShown sum marks noted size s None line m pins H A f U) → NoneDue size marks.joined m
+      → FitsTo fits.shows.reach (stabilized size marks.joined m).machine
+  idle_fits fits none =
+      subst (FitsTo fits.shows.reach) (sym (ap (λ (x : Step). x.machine) (none_stabilized size marks.joined m none))) (fits, refl)
+
+-- So it is where messages aren't marked yet, or no mark joined that is above the floor, as long as nothing is due. What a reader reaches is the same.
 pub step_fits : (sum : List ℕ → ℕ) (marks : JoinedMarks) (noted : List Batch) (size : ℕ) → 256 ≤ size → (s : State) (m : Machine) (pins : ℕ) (H : History)
     (A f : ℕ) → Ascends H.messages → (v : SegmentView) (vs : List SegmentView) → AreSegments size v.parts.site.place (v ∷ vs) → (U : List Message)
     → ((U ≢ []) ⊎ (marks.joined ≤ℤ pos f) → NoneDue size marks.joined m) → (fits : FitsShown sum marks noted size s None (v ∷ vs) m pins H A f U)
     → (now : FitsShown sum marks noted size s None (v ∷ vs) (stabilized size marks.joined m).machine pins H A f U)
     × (now.shows.reach ≡ fits.shows.reach)
-step_fits sum marks noted size big s m pins H A f order v vs are U idle fits = by U idle fits where
-  abbrev Behind : List Message → (reach : ℕ) → Machine → Type 0
-  Behind V reach n = (now : FitsShown sum marks noted size s None (v ∷ vs) n pins H A f V) × (now.shows.reach ≡ reach)
-
-  stays : (V : List Message) (was : FitsShown sum marks noted size s None (v ∷ vs) m pins H A f V) → NoneDue size marks.joined m
-      → Behind V was.shows.reach (stabilized size marks.joined m).machine
-  stays V was none =
-      subst (Behind V was.shows.reach) (sym (ap (λ (x : Step). x.machine) (none_stabilized size marks.joined m none))) (was, refl)
-
-  by : (V : List Message) → ((V ≢ []) ⊎ (marks.joined ≤ℤ pos f) → NoneDue size marks.joined m)
-      → (was : FitsShown sum marks noted size s None (v ∷ vs) m pins H A f V) → Behind V was.shows.reach (stabilized size marks.joined m).machine
-  by [] due was = elim (mark_cases marks.joined f) [
-    | inl low ↦ stays [] was (due (inr low))
-    | inr above ↦ stepped_fits sum marks noted size big s m pins H A f order v vs are was above
-  ]
-  by (u ∷ us) due was = stays (u ∷ us) was (due (inl (λ none. let clash : u ∷ us ≡ [] = none in cc)))
+step_fits sum marks noted size big s m pins H A f order v vs are [] idle fits = elim (mark_cases marks.joined f) [
+  | inl low ↦ idle_fits sum marks noted size s m pins H A f (v ∷ vs) [] fits (idle (inr low))
+  | inr above ↦ stepped_fits sum marks noted size big s m pins H A f order v vs are fits above
+]
+step_fits sum marks noted size big s m pins H A f order v vs are (u ∷ us) idle fits =
+    idle_fits sum marks noted size s m pins H A f (v ∷ vs) (u ∷ us) fits (idle (inl (λ none. let clash : u ∷ us ≡ [] = none in cc)))
