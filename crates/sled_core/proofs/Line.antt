@@ -56,6 +56,7 @@ pub mod Marks
 pub mod MarksJoin
 pub mod Moves
 pub mod NeededSlots
+pub mod NextDue
 pub mod Nexts
 pub mod NoneLeft
 pub mod Noted

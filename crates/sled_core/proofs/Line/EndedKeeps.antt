@@ -33,7 +33,7 @@ use Rattle.sled_core.specs.Waiting.{buffer_at, unwritten_in}
 use Rattle.sled_core.proofs.Cleared.Calls.{cleared_ended}
 use Rattle.sled_core.proofs.Cleared.Shown.{ShowsSame}
 use Rattle.sled_core.proofs.Line.KeptCalls.{goes_on_quietly}
-use Rattle.sled_core.proofs.Line.Moves.{FileShown, MarksPass, MarksStand, fits_as, holds_as}
+use Rattle.sled_core.proofs.Line.Moves.{LogFreesNothing, MarksPass, MarksStand, fits_as, holds_as}
 use Rattle.sled_core.proofs.Line.PassedMarks.{passed_up}
 use Rattle.sled_core.proofs.Line.LineEnds.{end_set, kept_same, noted_later, noted_same}
 use Rattle.sled_core.proofs.Numbers.HidesAs.{from_as}
@@ -144,7 +144,7 @@ module _ {D C : Type 0} (old new : Log D C) (n : ℕ) (v : SegmentView) (there :
       (machine_of old.accountant) (line_of old) (logged H))
       → MarksStand trace sum old
       → MarksPass trace sum old (line_of old) H
-      → FileShown trace old f
+      → LogFreesNothing trace old (machine_of old.accountant) f
       → RestsWhole old.fault.kept (state_of (trace old.config.device)).log
       → FitsWith sum old.marks (noted_in old) old.config.config.segment_size (shown_of trace old) old.fault.kept (set (line_of old) n e) (machine_of old.accountant)
       old.pins H A f U

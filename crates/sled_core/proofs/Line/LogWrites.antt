@@ -370,9 +370,12 @@ module _ {D C : Type 0} (log : Log D C) (n k : ℕ) (r : IsReadyIn (line_of log)
               log.segments.first.site.place line (line_segments log) fits.shows (fits.hides whole zeros) n v r.among k r.buffer r.there r.ready);
           marked = λ none zeros. marked_now zeros;
           passed = λ none. passed_now;
-          clean = λ none low. written_clean sum size log.config.config.least device log.fault.kept whole v k r.buffer r.there r.ready
-              log.segments.first.site.place line (line_segments log) n r.among slots sees.log.bytes has
-              (fits.clean whole (let up = joins.0 in omega (arith, ints, up, low)));
+          clean = λ none low.
+              let its = fits.clean whole (let up = joins.0 in omega (arith, ints, up, low)) in (
+                written_clean sum size log.config.config.least device log.fault.kept whole v k r.buffer r.there r.ready
+                    log.segments.first.site.place line (line_segments log) n r.among slots sees.log.bytes has its.0,
+                its.1,
+              );
         }
 
       -- so at each moment of the calls a crash leaves what can be recovered, as it does of what is shown.

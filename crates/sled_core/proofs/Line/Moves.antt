@@ -18,7 +18,7 @@ use Rattle.sled_core.specs.inside.Cleared.{cleared}
 use Rattle.sled_core.specs.inside.Hides.{HidesFrom}
 use Rattle.sled_core.specs.inside.MarksFit.{ArePassedFrom, MarksFitFrom}
 use Rattle.sled_core.specs.inside.Running.{FitsShown, FitsWith}
-use Rattle.sled_core.specs.inside.Shown.{RestsWhole, ShowsAll, shown_of}
+use Rattle.sled_core.specs.inside.Shown.{FreesNothing, RestsWhole, shown_of}
 use Rattle.sled_core.proofs.Cleared.Shown.{ShowsSame}
 use Rattle.sled_core.proofs.Line.Shown.{fits_shown, holds_shown}
 use Rattle.sled_core.specs.LogSegments.{begins_from}
@@ -34,10 +34,10 @@ abbrev pub MarksPass : {D C : Type 0} → (D → Trace) → (List ℕ → ℕ) �
 MarksPass trace sum log line H =
     fault_of log ≡ None → ArePassedFrom sum (state_of (trace (device_of log))).snapshots.file (written_to line) H.batches log.marks
 
--- all of its file is shown, as long as no mark above the floor joined
-abbrev pub FileShown : {D C : Type 0} → (D → Trace) → Log D C → ℕ → Type 0
-FileShown trace log f =
-    fault_of log ≡ None → ShowsAll log.marks f
+-- nothing was freed, and with slots as these nothing is due, as long as no mark above the floor joined
+abbrev pub LogFreesNothing : {D C : Type 0} → (D → Trace) → Log D C → Machine → ℕ → Type 0
+LogFreesNothing trace log m f =
+    fault_of log ≡ None → FreesNothing (segment_size_of log) log.marks f m
     (cleared (segment_size_of log) (machine_at log) (line_of log) (state_of (trace (device_of log))).log.bytes)
     (state_of (trace (device_of log))).log.bytes
 
@@ -61,7 +61,7 @@ module _ {D C : Type 0} (trace : D → Trace) (sum : List ℕ → ℕ) (old new 
       → (fault_of old ≡ None → NoHeaderOfZeros sum → HidesFrom sum (segment_size_of old) (begins_from (segment_size_of old) old.marks.joined) (state_of (trace (device_of old))) m line (logged H))
       → MarksStand trace sum old
       → MarksPass trace sum old line H
-      → FileShown trace old f
+      → LogFreesNothing trace old m f
       → FitsWith sum old.marks bs (segment_size_of old) (shown_of trace old) (fault_of old) line m (pins_of old) H A f U → Fits trace sum new H A f U
   unfolding Fits
   fits_as A f U pins hides marked passed clean fits =

@@ -1,7 +1,7 @@
 -- The calls of a step of the accountant, over the slots as they are behind it: a log at rest fits what it fitted behind each blob that is removed, and behind
 -- each cut with its sync. So what a crash leaves at each moment of them can be recovered, and lasts; and a log that keeps a failure from
 -- then on fits the history.
-use Rattle.std.proofs.Common.{◌≡◌, ◌≢◌, ◌⊎◌, ◌∙◌, ◌+◌, ◌*◌, ◌/◌, ◌<◌, ◌≤◌, ◌≤ℤ◌, ℕ, ℤ, pos, true, false, Bool, List, [], ◌∷◌, length, take, None, Some, refl}
+use Rattle.std.proofs.Common.{◌≡◌, ◌≢◌, ◌∙◌, ◌+◌, ◌*◌, ◌/◌, ◌<◌, ◌≤◌, ℕ, ℤ, pos, true, false, Bool, List, [], ◌∷◌, length, take, None, Some, refl}
 use Rattle.std.proofs.Common.{sym, ap, subst, arith, inl, inr}
 use Rattle.std.proofs.Math.Nat.{mul-mod_left}
 use Rattle.std.specs.List.{Contains}
@@ -18,9 +18,9 @@ use Rattle.sled_store.specs.Marks.{slot_with}
 use Rattle.sled_store.specs.SegmentStates.{Machine, is_free, slot_at, stabilized}
 use Rattle.sled_store.specs.SnapshotFiles.{BeginsFrom}
 use Rattle.sled_store.specs.inside.Script.{Along}
+use Rattle.sled_store.specs.inside.SegmentStates.{NoneDue}
 use Rattle.sled_store.proofs.Crashes.StoodLemmas.{header_stands, record_stands}
 use Rattle.sled_store.proofs.Histories.Ascending.{Ascends}
-use Rattle.sled_store.proofs.Marks.FreedSteps.{NoneDue}
 use Rattle.sled_store.proofs.Marks.SlotMoves.{AreFreeFrom, GoesWith, IsDueFor, stabilized_made}
 use Rattle.sled_store.proofs.Marks.StepCalls.{AreStepCalls, along_step_calls, ends_step_calls, step_calls_more}
 use Rattle.sled_store.proofs.Names.OneBegin.{one_begin}
@@ -332,7 +332,7 @@ module _ (sum : List ℕ → ℕ) (marks : JoinedMarks) (noted : List Batch) (si
             (one_begin sum s.snapshots.file first x begins from)
             (let fit = its.fits.marked refl zeros first begins in record { joined = fit.joined; stands = mark_front zeros fit.stands });
         passed = its.fits.passed;
-        clean = λ none low. zeroed_taken (is_stale size m line) log to ∙ ap (take to) (its.fits.clean none low);
+        clean = λ none low. let was = its.fits.clean none low in (zeroed_taken (is_stale size m line) log to ∙ ap (take to) was.0, was.1);
       };
       past = its.past;
       headers = λ at text laid. header_stands short s.placed at text laid;
@@ -370,10 +370,10 @@ module _ (sum : List ℕ → ℕ) (marks : JoinedMarks) (noted : List Batch) (si
     behind_calls =
         ends_step_calls size (IsSpent size base H) (AreFreeFrom m.slots) Holds Stops within removes during cuts_off calls made s here
 
--- Along a step of the accountant for the mark that joined, where all messages are marked and that mark is above the floor, or nothing is due.
+-- Along a step of the accountant for the mark that joined, where all messages are marked, or nothing is due.
 module _ (sum : List ℕ → ℕ) (marks : JoinedMarks) (noted : List Batch) (size : ℕ) (big : 256 ≤ size) (s : State) (m : Machine) (pins : ℕ) (H : History)
     (A f : ℕ) (order : Ascends H.messages) (v : SegmentView) (vs : List SegmentView) (are : AreSegments size v.parts.site.place (v ∷ vs)) (U : List Message)
-    (idle : (U ≢ []) ⊎ (marks.joined ≤ℤ pos f) → NoneDue size marks.joined m) (its : FitsAt sum marks noted size (v ∷ vs) m pins H A f U s) where
+    (idle : U ≢ [] → NoneDue size marks.joined m) (its : FitsAt sum marks noted size (v ∷ vs) m pins H A f U s) where
   abbrev after : Machine
   after = (stabilized size marks.joined m).machine
 

@@ -15,9 +15,11 @@ use Rattle.sled_store.specs.Marks.{slot_with}
 use Rattle.sled_store.specs.SegmentStates.{Machine, Step, is_due, slot_at, stabilized}
 use Rattle.sled_store.specs.SnapshotFiles.{BeginsFrom}
 use Rattle.sled_store.specs.Tracked.{IsAccountOf}
+use Rattle.sled_store.specs.inside.SegmentStates.{NoneDue}
 use Rattle.sled_store.proofs.Histories.Ascending.{Ascends}
 use Rattle.sled_store.proofs.Marks.AccountSteps.{same_account}
-use Rattle.sled_store.proofs.Marks.FreedSteps.{NoneDue, none_stabilized}
+use Rattle.sled_store.proofs.Marks.FreedSteps.{none_stabilized}
+use Rattle.sled_store.proofs.Marks.NothingDue.{none_lower}
 use Rattle.sled_store.proofs.Marks.SlotMoves.{KeepOrLose, LosesSegment, stabilized_made}
 use Rattle.sled_store.proofs.Names.OneBegin.{one_begin}
 use Rattle.sled_store.proofs.Segments.Elements.{in_cases, in_nothing}
@@ -275,15 +277,17 @@ module _ (sum : List ℕ → ℕ) (marks : JoinedMarks) (noted : List Batch) (si
   idle_fits fits none =
       subst (FitsTo fits.shows.reach) (sym (ap (λ (x : Step). x.machine) (none_stabilized size marks.joined m none))) (fits, refl)
 
--- So it is where messages aren't marked yet, or no mark joined that is above the floor, as long as nothing is due. What a reader reaches is the same.
+-- So it is where messages aren't marked yet, as long as nothing is due; and as long as no mark joined that is above the floor, since nothing is due then.
+-- What a reader reaches is the same.
 pub step_fits : (sum : List ℕ → ℕ) (marks : JoinedMarks) (noted : List Batch) (size : ℕ) → 256 ≤ size → (s : State) (m : Machine) (pins : ℕ) (H : History)
     (A f : ℕ) → Ascends H.messages → (v : SegmentView) (vs : List SegmentView) → AreSegments size v.parts.site.place (v ∷ vs) → (U : List Message)
-    → ((U ≢ []) ⊎ (marks.joined ≤ℤ pos f) → NoneDue size marks.joined m) → (fits : FitsShown sum marks noted size s None (v ∷ vs) m pins H A f U)
+    → (U ≢ [] → NoneDue size marks.joined m) → (fits : FitsShown sum marks noted size s None (v ∷ vs) m pins H A f U)
     → (now : FitsShown sum marks noted size s None (v ∷ vs) (stabilized size marks.joined m).machine pins H A f U)
     × (now.shows.reach ≡ fits.shows.reach)
 step_fits sum marks noted size big s m pins H A f order v vs are [] idle fits = elim (mark_cases marks.joined f) [
-  | inl low ↦ idle_fits sum marks noted size s m pins H A f (v ∷ vs) [] fits (idle (inr low))
+  | inl low ↦ idle_fits sum marks noted size s m pins H A f (v ∷ vs) [] fits
+      (none_lower size marks.joined (pos f) low m (fits.clean refl low).1)
   | inr above ↦ stepped_fits sum marks noted size big s m pins H A f order v vs are fits above
 ]
 step_fits sum marks noted size big s m pins H A f order v vs are (u ∷ us) idle fits =
-    idle_fits sum marks noted size s m pins H A f (v ∷ vs) (u ∷ us) fits (idle (inl (λ none. let clash : u ∷ us ≡ [] = none in cc)))
+    idle_fits sum marks noted size s m pins H A f (v ∷ vs) (u ∷ us) fits (idle (λ none. let clash : u ∷ us ≡ [] = none in cc))

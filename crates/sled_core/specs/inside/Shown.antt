@@ -5,6 +5,7 @@ use Rattle.std.specs.Prelude.{◌≡◌, ◌≤ℤ◌, ℕ, pos, List, Option, S
 use Rattle.sled_store.specs.Accounts.{machine_of}
 use Rattle.sled_store.specs.Device.{LogState, State, Trace, at_rest, state_of}
 use Rattle.sled_store.specs.SegmentStates.{Machine}
+use Rattle.sled_store.specs.inside.SegmentStates.{NoneDue}
 use Rattle.sled_core.specs.Begun.{SegmentView}
 use Rattle.sled_core.specs.declared.logger.joined_marks.JoinedMarks.{JoinedMarks}
 use Rattle.sled_core.specs.declared.logger.Log.{Log}
@@ -35,6 +36,7 @@ shown_of trace log =
 abbrev pub RestsWhole : Option IoError → LogState → Type 0
 RestsWhole fault log = fault ≡ None → log ≡ at_rest log.bytes
 
--- As long as the mark that joined isn't above a floor, all of a log file is shown.
-abbrev pub ShowsAll : JoinedMarks → ℕ → (shown log : List ℕ) → Type 0
-ShowsAll marks floor shown log = marks.joined ≤ℤ pos floor → shown ≡ log
+-- As long as the mark that joined isn't above a floor, nothing was freed: all of a log file is shown. And no active segment is due for the floor, so for that
+-- mark.
+abbrev pub FreesNothing : ℕ → JoinedMarks → ℕ → Machine → (shown log : List ℕ) → Type 0
+FreesNothing size marks floor m shown log = marks.joined ≤ℤ pos floor → (shown ≡ log) × NoneDue size (pos floor) m
