@@ -30,10 +30,10 @@ module _ (sum : List ℕ → ℕ) (marks : JoinedMarks) (noted : List Batch) (si
   pub none_next : (place : ℕ) → v.parts.site.place ≤ place → next_slot m ≤ length m.slots → NoneDue size (pos f) m → NoneDue size (pos f) (handed_out place m)
   none_next place above within none k active = elim (cases_eq k (next_slot m)) [
     | inl here ↦ (
-      let at : (slot_at (handed_out place m) k).lsn ≡ place =
-      ap (λ j. (slot_at (handed_out place m) j).lsn) here ∙ ap (λ (x : SlotState). x.lsn) (handed_there m within place) in
-      let under = floor_under in
-      ap (λ p. is_due size (pos f) p) at ∙ not_due size f place some (omega (arith, under, above)))
+        let at : (slot_at (handed_out place m) k).lsn ≡ place =
+        ap (λ j. (slot_at (handed_out place m) j).lsn) here ∙ ap (λ (x : SlotState). x.lsn) (handed_there m within place) in
+        let under = floor_under in
+        ap (λ p. is_due size (pos f) p) at ∙ not_due size f place some (omega (arith, under, above)))
     | inr other ↦ (
         let same = handed_other m within place k other in
         ap (λ (x : SlotState). is_due size (pos f) x.lsn) same ∙ none k (ap (λ (x : SlotState). is_active x.state) (sym same) ∙ active))

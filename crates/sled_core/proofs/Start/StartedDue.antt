@@ -1,6 +1,7 @@
 -- A log that begins has no active segment that is due for its floor: the only one that is active is its own, and the floor isn't above the place at which it
 -- begins, as no snapshot lies below the floor with which a recovery may begin.
-use Rattle.std.proofs.Common.{◌≡◌, ◌∙◌, ◌+◌, ◌-◌, ◌*◌, ◌/◌, ◌≤◌, ◌<◌, ℕ, pos, Bool, true, false, List, length, Option, None, Some, IfSome, refl, sym, ap, arith, inl, inr, eqb-true}
+use Rattle.std.proofs.Common.{◌≡◌, ◌∙◌, ◌+◌, ◌-◌, ◌*◌, ◌/◌, ◌≤◌, ◌<◌, ℕ, pos, Bool, true, false, List, Option, None, Some, IfSome, refl, sym}
+use Rattle.std.proofs.Common.{ap, arith, inl, inr, eqb-true}
 use Rattle.std.proofs.Math.Nat.{div-mul-le_self, lt-div-mul-add}
 use Rattle.std.proofs.lemmas.Bool.{cases_eq, cases_lt, false≢true}
 use Rattle.std.proofs.lemmas.List.{get_or_past}
@@ -44,7 +45,7 @@ module _ (size len : ℕ) (s : SnapshotModel) where
   active_only : (k : ℕ) → states.is_active (slot_at start k).state ≡ true → is_active size s.active k ≡ true
   active_only k active = elim (cases_lt k slots) [
     | inl inside ↦ by (number_in size k (all_entries s))
-      (get_or-map-range_with_len (λ j. found_slot size s j (number_in size j (all_entries s))) 0 slots k k free_slot inside (omega arith))
+        (get_or-map-range_with_len (λ j. found_slot size s j (number_in size j (all_entries s))) 0 slots k k free_slot inside (omega arith))
     | inr past ↦ absurd (
         let long = length-map-range_with_len (λ j. found_slot size s j (number_in size j (all_entries s))) 0 slots in
         let behind : slot_at start k ≡ free_slot = get_or_past (found size slots s).slots k free_slot (omega (arith, long, past)) in
@@ -77,12 +78,12 @@ module _ (size len : ℕ) (s : SnapshotModel) where
           omega (arith, at)
       by None none may is = elim (cases_eq k (next_slot start)) [
         | inl own ↦ (
-          let at : (slot_at (handed_out (raised size stable) start) k).lsn ≡ raised size stable =
-          ap (λ j. (slot_at (handed_out (raised size stable) start) j).lsn) own
-          ∙ ap (λ (x : SlotState). x.lsn) (handed_there start (next_within size len s) (raised size stable)) in
-          let up : stable + (size - 1) < raised size stable + size = lt-div-mul-add some in
-          let low = div-mul-le_self stable size in
-          omega (arith, at, up, low, some))
+            let at : (slot_at (handed_out (raised size stable) start) k).lsn ≡ raised size stable =
+            ap (λ j. (slot_at (handed_out (raised size stable) start) j).lsn) own
+            ∙ ap (λ (x : SlotState). x.lsn) (handed_there start (next_within size len s) (raised size stable)) in
+            let up : stable + (size - 1) < raised size stable + size = lt-div-mul-add some in
+            let low = div-mul-le_self stable size in
+            omega (arith, at, up, low, some))
         | inr other ↦ absurd (
             let was = ap (λ (x : SlotState). states.is_active x.state) (sym (handed_other start (next_within size len s) (raised size stable) k other)) ∙ is in
             false≢true (ap (λ (o : Option ℕ). is_active size o k) (sym none) ∙ active_only k was))

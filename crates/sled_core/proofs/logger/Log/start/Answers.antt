@@ -248,7 +248,8 @@ returns-in-Ok-clause-fits g c = λ H A f ready.
     (start_fits g.C.Checksum.sum_of size (state_of old) now s H A f c.args.config.config.least ready c.in-Ok.ensures.answers.0
     log_now (ap (λ (t : Trace). (state_of t).blobs) c.in-Ok.ensures.made ∙ started-blobs size some (state_of old).log.bytes s old) (ap (λ (t : Trace). (state_of t).snapshots) c.in-Ok.ensures.made ∙ started-snapshots size some (state_of old).log.bytes s old)
     marks at c.in-Ok.beginning c.in-Ok.ensures.beginning c.in-Ok.buffer.bytes.items c.in-Ok.buffer.written_len c.in-Ok.buffer.sealed.items c.in-Ok.buffer.reserved.items first.header first.resumed first.from first.sealed first.reserved)) in
-    fits_begun g.C.Checksum.sum_of _ (omega (arith, c.args.config.config.least, same)) (g.D.Device.trace c.begin.new.config.device) _ _ _ marks _ H A f [] began_at
+    fits_begun g.C.Checksum.sum_of _ (omega (arith, c.args.config.config.least, same)) (g.D.Device.trace c.begin.new.config.device) _ _ _ marks _ H A f []
+    began_at
     (start_idle size same some s (length (state_of old).log.bytes) c.in-Ok.ensures.answers.0 c.in-Ok.ensures.machine f
     (let low = floor_low g.C.Checksum.sum_of size old (logged H) f ready.ready.first ready.own_names.of_snapshots ready.names in
     let place = ap stable_place ready.ready.same_place in omega (arith, low, place)))
