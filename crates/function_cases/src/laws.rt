@@ -47,6 +47,7 @@ fn laws_of_running_logs() {
     core_laws::a_log_is_stable_as_its_intervals_are::<MemDevice, PlaceSum>();
     core_laws::the_first_buffer_waits_behind_what_is_synced::<MemDevice, PlaceSum>();
     core_laws::what_is_not_synced_has_its_record::<MemDevice, PlaceSum>();
+    core_laws::what_a_log_reads_is_its_own::<MemDevice, PlaceSum>();
     core_laws::a_mark_is_that_of_its_header();
     core_laws::a_pin_defers_freeing::<MemDevice, PlaceSum>();
     core_laws::a_pin_keeps_all::<MemDevice, PlaceSum>();

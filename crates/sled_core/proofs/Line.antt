@@ -56,6 +56,7 @@ pub mod Marks
 pub mod MarksJoin
 pub mod Moves
 pub mod NeededSlots
+pub mod NextDue
 pub mod Nexts
 pub mod NoneLeft
 pub mod Noted
@@ -79,6 +80,7 @@ pub mod Prepares
 pub mod Promotes
 pub mod Quiet
 pub mod Reads
+pub mod ReadsOwn
 pub mod Records
 pub mod Reserved
 pub mod ReservedInline

@@ -19,6 +19,7 @@ pub mod SegmentSizes
 pub mod StartFits
 pub mod StartedAccount
 pub mod StartedActive
+pub mod StartedDue
 pub mod StartedMoments
 pub mod StartedNumbers
 pub mod UsedEntries

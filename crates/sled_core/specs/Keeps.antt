@@ -110,20 +110,22 @@ pub record KeepsSeen {D C : Type 0} (old new : Log D C) : Type 0 where
   pub pins : pins_of new ≡ pins_of old
   pub account : account_of new ≡ account_of old
 
--- The next record begins where it would have begun, what was reserved ends where it did, and as many pins are out.
+-- The next record begins where it would have begun, what was reserved ends where it did, as many pins are out, and no mark joins.
 pub record SamePosition {D C : Type 0} (old new : Log D C) : Type 0 where
   pub position : position_of new ≡ position_of old
   pub reserved : reserved_end new ≡ reserved_end old
   pub pins : pins_of new ≡ pins_of old
+  pub joined : (account_of new).mark ≡ (account_of old).mark
   pub size : segment_size_of new ≡ segment_size_of old
 
--- So it is with a call that writes buffers, but that slots may come free by it, and a segment that isn't begun yet gets one of those. While a pin is out none
--- comes free.
+-- So it is with a call that writes buffers, but that a mark may join by it, and slots come free, and a segment that isn't begun yet gets one of those. While a
+-- pin is out no mark joins, and no slot comes free.
 pub record SamePlace {D C : Type 0} (old new : Log D C) : Type 0 where
   pub place : next_place new ≡ next_place old
   pub pinned : 0 < pins_of old → position_of new ≡ position_of old
   pub reserved : reserved_end new ≡ reserved_end old
   pub pins : pins_of new ≡ pins_of old
+  pub joined : 0 < pins_of old → (account_of new).mark ≡ (account_of old).mark
   pub size : segment_size_of new ≡ segment_size_of old
 
 -- What a call keeps that makes no reservation, ends none and frees nothing: what the log holds and goes on fitting, its open reservations with their tickets,

@@ -343,6 +343,14 @@ pub fn what_is_not_foreign_is_the_logs_own()
     ensures { (sum : List ℕ → ℕ) (size : ℕ) (s : State) → NoForeign sum size s (content_of s) → ReadsOnlyOwn sum size s }
 {}
 
+/// What is read of the device of a log that fits a history is the log's own, as long as the log keeps no failure and the mark that
+/// joined isn't above the floor. A log that was started on what a recovery gave has the floor for its mark, and while a pin is out no
+/// other one joins. (Once a higher one does segments may be freed, and the file may have bytes of theirs that look like the log's own.)
+pub fn what_a_log_reads_is_its_own<D: Device, C: Checksum>()
+    ensures { (log : Log D C) (H : History) (A f : ℕ) (U : List Message) → Fits D.trace C.sum_of log H A f U → fault_of log ≡ None → NoHeaderOfZeros C.sum_of
+        → (account_of log).mark ≤ℤ pos f → ReadsOnlyOwn C.sum_of (segment_size_of log) (state_of (D.trace (device_of log))) }
+{}
+
 /// On an empty device nothing is foreign, where twenty zeros pass as no header (`NoHeaderOfZeros`).
 pub fn nothing_is_foreign_on_an_empty_device()
     ensures { (sum : List ℕ → ℕ) (size : ℕ) → NoHeaderOfZeros sum → NoForeign sum size fresh (content_of fresh) }

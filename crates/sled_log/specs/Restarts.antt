@@ -1,5 +1,5 @@
 -- What a restart does, and why it fails.
-use Rattle.std.specs.Prelude.{◌≡◌, ◌⊎◌, ◌+◌, ◌%◌, ◌^◌, ℕ, List, Option, None, Some, IsSome, IsTrue, Result, Ok, Err}
+use Rattle.std.specs.Prelude.{◌≡◌, ◌⊎◌, ◌≤ℤ◌, ◌+◌, ◌%◌, ◌^◌, ℕ, ℤ, pos, List, Option, None, Some, IsSome, IsTrue, Result, Ok, Err}
 use Rattle.std.specs.declared.io.Error.{Error as IoError}
 use Rattle.sled_codec.specs.declared.result.Error.{Error}
 use Rattle.sled_codec.specs.declared.serialization.snapshot.Snapshot.{Snapshot}
@@ -11,18 +11,33 @@ use Rattle.sled_store.specs.Device.{Event, Trace, state_of}
 use Rattle.sled_store.specs.Moments.{LeavesOnly}
 use Rattle.sled_store.specs.Script.{Performs, after_all}
 use Rattle.sled_core.specs.declared.logger.Log.{Log}
-use Rattle.sled_core.specs.Fits.{device_of, fault_of, flushing, segment_size_of}
-use Rattle.sled_core.specs.Recoverable.{ReadsOnlyOwn, RecoverableIfOwn}
+use Rattle.sled_core.specs.Fits.{device_of, fault_of, flushing, ledger_for, reserved_end, segment_size_of}
+use Rattle.sled_core.specs.Keeps.{sealed_for}
+use Rattle.sled_core.specs.Ledger.{ledger_behind}
+use Rattle.sled_core.specs.Recoverable.{NoHeaderOfZeros, ReadsOnlyOwn, RecoverableIfOwn}
+use Rattle.sled_core.specs.Waiting.{front_below}
 use Rattle.sled_core.specs.invariants.Running.{Fits}
 use Rattle.sled_log.specs.Orderly.{IsOrderly}
 use Rattle.sled_log.specs.Restores.{ComesOf}
 
--- A log fits an orderly history, and only what the log itself wrote passes as its own in what a recovery reads, behind all that the flush writes. (Once slots
--- come back, behind the end of what was written an item of an older segment may stand that looks like a record of the log's.)
+-- the mark that has joined once a flush has written all that was reserved
+abbrev pub mark_flushed : {D C : Type 0} → (List ℕ → ℕ) → Log D C → ℤ
+mark_flushed sum log =
+    let to = reserved_end log in (ledger_behind (segment_size_of log) (front_below to (sealed_for sum to log)) (ledger_for to log)).account.mark
+
+-- Only what the log itself wrote passes as its own in what a recovery reads, behind all that the flush writes: so it is where zeros pass as no header, as long
+-- as no mark joins that is above the floor. (Then segments may be freed, and once slots come back, behind the end of what was written an item of an older
+-- segment may stand that looks like a record of the log's.)
+abbrev pub ReadsOwnFlushed : {D C : Type 0} → (D → Trace) → (List ℕ → ℕ) → Log D C → ℕ → Type 0
+ReadsOwnFlushed trace sum log f =
+    (NoHeaderOfZeros sum × (mark_flushed sum log ≤ℤ pos f))
+    ⊎ ReadsOnlyOwn sum (segment_size_of log) (state_of (after_all (flushing sum log) (trace (device_of log))))
+
+-- A log fits an orderly history, and what is read behind its flush is its own.
 pub record CanRestart {D C : Type 0} (trace : D → Trace) (sum : List ℕ → ℕ) (log : Log D C) (H : History) (A f : ℕ) (U : List Message) : Type 0 where
   pub fits : Fits trace sum log H A f U
   pub orderly : IsOrderly H
-  pub own : fault_of log ≡ None → ReadsOnlyOwn sum (segment_size_of log) (state_of (after_all (flushing sum log) (trace (device_of log))))
+  pub own : fault_of log ≡ None → ReadsOwnFlushed trace sum log f
 
 -- a flush failed: for the failure that the log kept, for one of this call, which is counted, for want of a further segment, where it needs one that isn't
 -- in reach, or else for want of memory

@@ -1,5 +1,5 @@
 -- What stands in each phase of a session.
-use Rattle.std.specs.Prelude.{◌≡◌, ◌≢◌, ◌+◌, ◌≤◌, ◌<◌, ℕ, Bool, false, List, [], ◌∷◌, length, map, get_or, slice_get, Option, None, Some}
+use Rattle.std.specs.Prelude.{◌≡◌, ◌≢◌, ◌+◌, ◌≤◌, ◌<◌, ℕ, pos, Bool, false, List, [], ◌∷◌, length, map, get_or, slice_get, Option, None, Some}
 use Rattle.std.specs.List.{All, Contains}
 use Rattle.sled_codec.specs.declared.serialization.message.LogKind.TheVariants.{Skip}
 use Rattle.sled_codec.specs.History.{Batch, Message, History}
@@ -168,14 +168,16 @@ pub record HasHeads {D C : Type 0} (sum : List ℕ → ℕ) (log : Log D C) (hea
   pub marked : AreAmong (heads_of log) (map (headed sum) heads)
   pub filled : AreAmong (fillings_of log) (map filled_by heads)
 
--- A log is open that fits the history, with the session's pin out and no other, and with the table of it; what it counts as given up was, and its headers and
--- fillings that aren't on the device are those that were begun. Zeros pass as no header, as where its recovery read nothing foreign.
+-- A log is open that fits the history, with the session's pin out and no other, so that no mark joined since it was opened, and with the table of it; what it
+-- counts as given up was, and its headers and fillings that aren't on the device are those that were begun. Zeros pass as no header, as where its recovery read
+-- nothing foreign.
 pub record IsOpenAt {D C : Type 0} (trace : D → Trace) (sum : List ℕ → ℕ) (opened : Opened D C) (k : Unstored) : Type 0 where
   pub made : IsMade k.history
   pub unmarked : List Message
   pub fits : Fits trace sum opened.log k.history k.acknowledged k.floor unmarked
   pub zeros : NoHeaderOfZeros sum
   pub pinned : pins_of opened.log ≡ 1
+  pub joined : (account_of opened.log).mark ≡ pos k.floor
   pub table : IsTable (map page_of opened.pages.items) k.history top
   pub tickets : HasTickets trace sum opened k.history k.tickets
   pub given_up : AreAmong (given_up_of opened.log) k.given_up
@@ -216,12 +218,14 @@ pub record RunsOn {D C : Type 0} (trace : D → Trace) (old new : RunningConfig 
   pub later : IsLater (trace old.device) (trace new.device)
   pub kept : ConfigKept old new
 
--- A recovery has left this: a table of which each page is begun, with the segment in which a log goes on, and on which a log can be started.
+-- A recovery has left this: a table of which each page is begun, with the segment in which a log goes on, and on which a log can be started. Its place is the
+-- floor.
 pub record IsRecoveredAt {D C : Type 0} (trace : D → Trace) (sum : List ℕ → ℕ) (config : RunningConfig D C) (s : SnapshotModel) (k : Unstored) : Type 0 where
   pub closed : IsClosedAt sum config.config.segment_size (trace config.device) k
   pub zeros : NoHeaderOfZeros sum
   pub active : ShowsActive config.config.segment_size (stable_place s.stable) s.active
   pub ready : Ready sum config.config.segment_size (state_of (trace config.device)) s k.history k.acknowledged k.floor
+  pub floor : k.floor ≡ stable_place s.stable
   pub table : IsTable s.pages k.history top
   pub ends : All (λ m. m.place + m.size ≤ stable_place s.stable) k.history.messages
 

@@ -63,7 +63,16 @@ abbrev pub told : Bool → Reply → Reply
 told true (reply.Failed (Io e)) = reply.Stopped
 told stopped r = r
 
+-- where a log is open that keeps no failure
+abbrev pub WhileSound : Option LogView → Type 0 → Type 0
+WhileSound None P = Unit {0}
+WhileSound (Some l) P = l.fault ≡ None → P
+
 module _ (sum : List ℕ → ℕ) (size : ℕ) where
+  -- While a log is open that keeps no failure, what is read is the log's own: so it is when that log is closed, and another is opened.
+  abbrev pub KeepsOwn : RunState → Type 0
+  KeepsOwn a = WhileSound a.log (ReadsOnlyOwn sum size (state_of a.device.trace))
+
   -- Only what the log itself wrote passes as its own, in what a recovery reads and in what a crash leaves. An opening that is refused reads nothing,
   -- and so nothing is asked of it: a stopped device may have any bytes where a write failed, and the crash that comes decides which of them are left.
   abbrev pub IsOwn : State → Command → Reply → Type 0
@@ -121,6 +130,7 @@ module _ (sum : List ℕ → ℕ) (size : ℕ) where
     pub after : RunState
     pub step : IsStep a c came new after
     pub crash : IsOwn (state_of a.device.trace) c came → StaysWithin a c new after
+    pub own : IsOwn (state_of a.device.trace) c came → KeepsOwn after
     pub leads : IsOwn (state_of a.device.trace) c came → Leads after
 
   -- These commands are answered by these replies, from where a run stands on. What is claimed of each place between two commands holds behind each of them,

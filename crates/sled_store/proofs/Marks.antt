@@ -8,6 +8,7 @@ pub mod MarkSteps
 pub mod MarkedLemmas
 pub mod MovedSlots
 pub mod MovesMade
+pub mod NothingDue
 pub mod OutdatedSteps
 pub mod ReplaceSteps
 pub mod SameSlots

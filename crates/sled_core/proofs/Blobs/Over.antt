@@ -193,4 +193,5 @@ module _ (sum : List ℕ → ℕ) (size : ℕ) (device : State) (blobs snapshots
             (sym changes.same_files) (fits.marked none zeros);
         passed = λ none. subst (λ (file : ℤ → Option (List ℕ)). ArePassedFrom sum file (written_to line) H.batches marks) (sym changes.same_files)
             (fits.passed none);
+        clean = fits.clean;
       }

@@ -9,10 +9,11 @@ use Rattle.sled_store.specs.Outdated.{AreOutdated}
 use Rattle.sled_store.specs.SegmentStates.{Machine, Step, is_due, is_free, slot_at, stabilized}
 use Rattle.sled_store.specs.Tracked.{IsAccountOf}
 use Rattle.sled_store.specs.inside.Outdated.{AreInActive}
+use Rattle.sled_store.specs.inside.SegmentStates.{NoneDue}
 use Rattle.sled_store.proofs.Histories.Ascending.{Ascends}
 use Rattle.sled_store.proofs.Marks.AccountSteps.{same_account, stabilized_account}
 use Rattle.sled_store.proofs.Marks.DeactivationSteps.{from_map}
-use Rattle.sled_store.proofs.Marks.FreedSteps.{NoneDue, free_unneeded, none_stabilized}
+use Rattle.sled_store.proofs.Marks.FreedSteps.{free_unneeded, none_stabilized}
 use Rattle.sled_store.proofs.Marks.OutdatedSteps.{outdated_still, stabilized_blobs}
 use Rattle.sled_store.proofs.Segments.Elements.{in_nothing}
 use Rattle.sled_core.specs.Logged.{in_log, logged}

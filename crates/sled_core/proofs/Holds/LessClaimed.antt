@@ -126,5 +126,5 @@ module _ (sum : List ℕ → ℕ) (H : History) (A less f lower : ℕ) (U : List
   pub fits_claimed : {D C : Type 0} (trace : D → Trace) (log : Log D C) → Fits trace sum log H A f U → Fits trace sum log H less lower U
   unfolding Fits
   fits_claimed trace log fits =
-      fits_anew fits log.pins less lower
+      fits_anew fits log.pins less lower low
       (fits_line_claimed _ log.config.config.segment_size (shown_of trace log) log.fault.kept (line_of log) fits.shows.reach log.pins fits.shows.parts)

@@ -25,7 +25,7 @@ module _ {D C : Type 0} (trace : D → Trace) (sum : List ℕ → ℕ) where
   read_still log = record {
     keeps = kept_still trace sum log;
     tickets = record { awaits = λ ticket m awaits. awaits; opens = refl; given_up = λ m there. there };
-    position = record { position = refl; reserved = refl; pins = refl; size = refl };
+    position = record { position = refl; reserved = refl; pins = refl; joined = refl; size = refl };
     buffers = record { waiting = refl; start = refl };
     heads = λ h there. there;
     fillings = λ f there. there;
@@ -46,6 +46,7 @@ module _ {D C : Type 0} (trace : D → Trace) (sum : List ℕ → ℕ) where
       position = so.position.position ∙ first.position.position;
       reserved = so.position.reserved ∙ first.position.reserved;
       pins = so.position.pins ∙ first.position.pins;
+      joined = so.position.joined ∙ first.position.joined;
       size = so.position.size ∙ first.position.size;
     };
     buffers = record { waiting = so.buffers.waiting ∙ first.buffers.waiting; start = so.buffers.start ∙ first.buffers.start };

@@ -13,6 +13,7 @@ use Rattle.sled_core.specs.inside.Buffers.{IsHeaded, marking}
 use Rattle.sled_core.specs.declared.iobuf.ReservationState.TheVariants.{Manifest}
 use Rattle.sled_core.specs.declared.iobuf.Reserved.{Reserved}
 use Rattle.sled_core.specs.declared.logger.Log.{Log}
+use Rattle.sled_core.specs.declared.logger.joined_marks.JoinedMarks.{JoinedMarks}
 use Rattle.sled_core.specs.declared.reservation.Reservation.{Reservation}
 use Rattle.sled_core.specs.Fits.{KeepsAll, KeepsBuffers, config_of, current_of, fault_of, fillings_of, given_up_of, kept_batches, line_of, noted_in, open_places, reserved_end, synced_end, heads_of}
 use Rattle.sled_core.specs.invariants.Fits.{Holds}
@@ -72,6 +73,7 @@ module _ {D C : Type 0} (mid new : Log D C) (rest : NotesBatch mid new) where
     position = λ i. position_in (rest.config i).config.segment_size (noted_current i) (machine_of (rest.accountant i));
     reserved = rest.reserved;
     pins = rest.pins;
+    joined = ap (λ (x : JoinedMarks). x.joined) rest.marks;
     size = ap (λ (c : RunningConfig D C). c.config.segment_size) rest.config;
   }
 
@@ -273,5 +275,5 @@ module _ {D C : Type 0} (trace : D → Trace) (sum : List ℕ → ℕ) (old mid 
                 | inl was ↦ inl was
                 | inr own ↦ inr (let low = low_unwritten in let same = ap (λ (d : Batch). d.low) own in omega (arith, low, same))
               ])
-              sum (state_of (trace old.config.device)).snapshots.file old.marks (fits.passed whole)) now,
+              sum (state_of (trace old.config.device)).snapshots.file old.marks (fits.passed whole)) fits.clean now,
         )

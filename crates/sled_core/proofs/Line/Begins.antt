@@ -59,6 +59,7 @@ use Rattle.sled_core.proofs.Line.LineEnds.{end_at_last, kept_same, noted_later, 
 use Rattle.sled_core.proofs.Cleared.Calls.{cleared_next}
 use Rattle.sled_core.proofs.Cleared.Shown.{ShowsSame}
 use Rattle.sled_core.proofs.Line.Moves.{fits_as, holds_as}
+use Rattle.sled_core.proofs.Line.NextDue.{none_next}
 use Rattle.sled_core.proofs.Line.PassedMarks.{passed_up}
 use Rattle.sled_core.specs.inside.MarksFit.{ArePassedFrom}
 use Rattle.sled_core.proofs.Line.Among.{among_same}
@@ -528,6 +529,13 @@ module _ {D C : Type 0} (trace : D → Trace) (sum : List ℕ → ℕ) (old new 
             fits.shows.slots same_shown (fits.hides none zeros)) fits.marked
             (λ none. passed_next sum its_size device (fault_of old) (machine_at old) big old.account.slots first behind closes g.short small lies
             f.place_small (noted_in old) H.batches (state_of (trace (device_of old))).snapshots.file old.marks (fits.passed none))
+            (λ none low.
+            let its = fits.clean none low in (
+              its.0,
+              none_next sum old.marks (noted_in old) its_size (omega (arith, big)) (trace (device_of old)) (fault_of old) none first behind (machine_at old)
+                  (pins_of old) H A f' U fits ((current_of old).parts.site.place + its_size) (omega (arith, lies))
+                  (next_within (machine_at old) old.account.slots) its.1,
+            ))
             (fits_next sum its_size device (fault_of old) (machine_at old) big old.account.slots first behind closes g.short small lies f.place_small (noted_in old) (pins_of old) H A f' U fits.shows);
         noted = noted_later old new rest.noted (let same = begins_synced in omega (arith, same));
         kept = kept_same old new rest.noted;

@@ -94,6 +94,6 @@ module _ {D C : Type 0} {old : Log D C} {ticket : Reservation} {n index : ℕ} (
                 (hides_beyond sum old.marks (noted_in old) size old.config.config.least (state_of (trace old.config.device))
                 old.fault.kept (line_of old) machine old.pins H A g U fits done.0 done.3) fits.marked
                 (λ none. subst (λ (bs : List Batch).
-                ArePassedFrom sum (state_of (trace old.config.device)).snapshots.file (written_to (line_of old)) bs old.marks) (sym done.1.batches) (fits.passed none))
+                ArePassedFrom sum (state_of (trace old.config.device)).snapshots.file (written_to (line_of old)) bs old.marks) (sym done.1.batches) (fits.passed none)) fits.clean
                 fits.rests done.2,
           )

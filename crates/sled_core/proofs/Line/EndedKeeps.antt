@@ -13,6 +13,7 @@ use Rattle.sled_core.specs.declared.iobuf.Reserved.{Reserved}
 use Rattle.sled_core.specs.declared.iobuf.Sealed.{Sealed}
 use Rattle.sled_core.specs.declared.iobuf.SegmentPosition.{SegmentPosition}
 use Rattle.sled_core.specs.declared.logger.Log.{Log}
+use Rattle.sled_core.specs.declared.logger.joined_marks.JoinedMarks.{JoinedMarks}
 use Rattle.sled_core.specs.Begun.{SegmentView, segment_view}
 use Rattle.sled_core.specs.invariants.Fits.{Holds}
 use Rattle.sled_core.specs.inside.Fits.{HoldsWith, written_to}
@@ -32,7 +33,7 @@ use Rattle.sled_core.specs.Waiting.{buffer_at, unwritten_in}
 use Rattle.sled_core.proofs.Cleared.Calls.{cleared_ended}
 use Rattle.sled_core.proofs.Cleared.Shown.{ShowsSame}
 use Rattle.sled_core.proofs.Line.KeptCalls.{goes_on_quietly}
-use Rattle.sled_core.proofs.Line.Moves.{MarksPass, MarksStand, fits_as, holds_as}
+use Rattle.sled_core.proofs.Line.Moves.{LogFreesNothing, MarksPass, MarksStand, fits_as, holds_as}
 use Rattle.sled_core.proofs.Line.PassedMarks.{passed_up}
 use Rattle.sled_core.proofs.Line.LineEnds.{end_set, kept_same, noted_later, noted_same}
 use Rattle.sled_core.proofs.Numbers.HidesAs.{from_as}
@@ -102,6 +103,7 @@ module _ {D C : Type 0} (old new : Log D C) (n : ℕ) (v : SegmentView) (there :
             ∙ set_keeps (λ (w : SegmentView). position_in size w m) (line_of old) n v e there same (length behind) (current_of old) (current_of new) (last_get (segment_view old.segments.first) behind) current_there;
         reserved = rest.reserved;
         pins = rest.pins;
+        joined = ap (λ (x : JoinedMarks). x.joined) rest.marks;
         size = ap (λ (c : RunningConfig D C). c.config.segment_size) rest.config;
       }
 
@@ -142,11 +144,12 @@ module _ {D C : Type 0} (old new : Log D C) (n : ℕ) (v : SegmentView) (there :
       (machine_of old.accountant) (line_of old) (logged H))
       → MarksStand trace sum old
       → MarksPass trace sum old (line_of old) H
+      → LogFreesNothing trace old (machine_of old.accountant) f
       → RestsWhole old.fault.kept (state_of (trace old.config.device)).log
       → FitsWith sum old.marks (noted_in old) old.config.config.segment_size (shown_of trace old) old.fault.kept (set (line_of old) n e) (machine_of old.accountant)
       old.pins H A f U
       → Fits trace sum new H A f U
-  fits_ended trace sum H A f U hides marked passed rests =
+  fits_ended trace sum H A f U hides marked passed clean rests =
       fits_as trace sum old new rest.config rest.fault rest.marks (noted_in old) noted_ended (set (line_of old) n e) line (machine_of old.accountant)
       (ap machine_of rest.accountant) shows_ended rests H A f U rest.pins
       (λ none zeros. from_as sum old.config.config.segment_size (state_of (trace old.config.device))
@@ -155,4 +158,4 @@ module _ {D C : Type 0} (old new : Log D C) (n : ℕ) (v : SegmentView) (there :
       (omega (arith, end_set old.config.config.segment_size (line_of old) n v e there refl)) (hides none zeros)) marked
       (λ none. passed_up (written_to (line_of old)) (written_to (set (line_of old) n e))
       (let same = written_set (line_of old) n v e there (λ j. v.parts.site) (λ j. v.parts.written_len) in omega (arith, same))
-      H.batches sum (state_of (trace old.config.device)).snapshots.file old.marks (passed none))
+      H.batches sum (state_of (trace old.config.device)).snapshots.file old.marks (passed none)) clean

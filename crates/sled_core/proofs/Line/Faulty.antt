@@ -81,6 +81,7 @@ fits_shown_faulty sum marks noted size device new fault now line m pins H A f U 
       hides = λ none zeros. cc;
       marked = λ none zeros. cc;
       passed = λ none. cc;
+      clean = λ none low. cc;
     }
 
 -- The same, where all that it says is of equal parts.

@@ -21,6 +21,7 @@ use Rattle.sled_core.specs.Keeps.{PreservesWriting, SamePlace, SamePosition}
 use Rattle.sled_core.specs.Logged.{in_log}
 use Rattle.sled_core.specs.Positions.{Position}
 use Rattle.sled_core.specs.Recoverable.{RecoverableIfOwn}
+use Rattle.sled_core.specs.inside.OneWritten.{KeepsOne}
 use Rattle.sled_core.specs.invariants.Fits.{Holds}
 use Rattle.sled_core.specs.invariants.Running.{Fits}
 use Rattle.sled_core.proofs.Line.NumbersKept.{fits_leaves}
@@ -164,14 +165,20 @@ tickets_further old mid new first then = record {
 
 -- and with where the next record begins.
 pub position_still : {D C : Type 0} (log : Log D C) → SamePosition log log
-position_still log = record { position = refl; reserved = refl; pins = refl; size = refl }
+position_still log = record { position = refl; reserved = refl; pins = refl; joined = refl; size = refl }
 
 pub position_further : {D C : Type 0} (old mid new : Log D C) → SamePosition old mid → SamePosition mid new → SamePosition old new
-position_further old mid new first then = record { position = then.position ∙ first.position; reserved = then.reserved ∙ first.reserved; pins = then.pins ∙ first.pins; size = then.size ∙ first.size }
+position_further old mid new first then = record {
+  position = then.position ∙ first.position;
+  reserved = then.reserved ∙ first.reserved;
+  pins = then.pins ∙ first.pins;
+  joined = then.joined ∙ first.joined;
+  size = then.size ∙ first.size;
+}
 
 -- So it is where slots come free.
 pub place_still : {D C : Type 0} (log : Log D C) → SamePlace log log
-place_still log = record { place = refl; pinned = λ pinned. refl; reserved = refl; pins = refl; size = refl }
+place_still log = record { place = refl; pinned = λ pinned. refl; reserved = refl; pins = refl; joined = λ pinned. refl; size = refl }
 
 pub place_further : {D C : Type 0} (old mid new : Log D C) → SamePlace old mid → SamePlace mid new → SamePlace old new
 place_further old mid new first then = record {
@@ -179,6 +186,7 @@ place_further old mid new first then = record {
   pinned = λ pinned. then.pinned (let same = first.pins in omega (arith, pinned, same)) ∙ first.pinned pinned;
   reserved = then.reserved ∙ first.reserved;
   pins = then.pins ∙ first.pins;
+  joined = λ pinned. then.joined (let same = first.pins in omega (arith, pinned, same)) ∙ first.joined pinned;
   size = then.size ∙ first.size;
 }
 
@@ -188,12 +196,14 @@ position_place old new same = record {
   pinned = λ pinned. same.position;
   reserved = same.reserved;
   pins = same.pins;
+  joined = λ pinned. same.joined;
   size = same.size;
 }
 
--- While a pin is out none does.
+-- While a pin is out none does, and no mark joins.
 pub place_pinned : {D C : Type 0} (old new : Log D C) → 0 < pins_of old → SamePlace old new → SamePosition old new
-place_pinned old new out same = record { position = same.pinned out; reserved = same.reserved; pins = same.pins; size = same.size }
+place_pinned old new out same =
+    record { position = same.pinned out; reserved = same.reserved; pins = same.pins; joined = same.joined out; size = same.size }
 
 -- Nothing was done.
 pub log_still : {D C : Type 0} (trace : D → Trace) (sum : List ℕ → ℕ) (log : Log D C) → KeepsLog trace sum log log
@@ -220,6 +230,16 @@ pub spared_same : {D C : Type 0} (old new : Log D C) → machine_at new ≡ mach
     → IsSpared new m
 spared_same old new slots pins m (inl out) = inl (omega (arith, out, pins))
 spared_same old new slots pins m (inr none) = inr (λ k blob there. none k blob (subst (λ (x : Machine). Contains (slot_at x k).blobs blob) slots there))
+
+-- The write of a buffer keeps that, before the accountant's step.
+pub one_writing : {D C : Type 0} (trace : D → Trace) (sum : List ℕ → ℕ) (old new : Log D C) → KeepsOne trace sum old new
+    → machine_at new ≡ machine_at old → KeepsWriting trace sum old new
+one_writing trace sum old new keeps slots = record {
+  preserves = preserves_writing trace sum old new keeps.preserves;
+  tickets = keeps.tickets;
+  position = keeps.position;
+  spared = spared_same old new slots keeps.position.pins;
+}
 
 -- While a pin is out such a call keeps no less.
 pub writing_pinned : {D C : Type 0} (trace : D → Trace) (sum : List ℕ → ℕ) (old new : Log D C) → 0 < pins_of old → KeepsWriting trace sum old new

@@ -235,7 +235,7 @@ module _ {D C : Type 0} (trace : D → Trace) (sum : List ℕ → ℕ) (old new 
         (same_shown (state_of (trace (device_of old))).log.bytes)
         (omega (arith, end_at_last its_size (reserved_now more r) (λ _. refl) (line_of old))) (its.hides none zeros)) its.marked
         (λ none. passed_up (written_to (line_of old)) (written_to (at_last (reserved_now more r) (line_of old)))
-        (let same = kept_written v vs in omega (arith, same)) H.batches sum (state_of (trace (device_of old))).snapshots.file old.marks (its.passed none))
+        (let same = kept_written v vs in omega (arith, same)) H.batches sum (state_of (trace (device_of old))).snapshots.file old.marks (its.passed none)) its.clean
         (record {
           reach = its.shows.reach;
           parts = line_fits_reserved sum its_size more r (shown_of trace old) (fault_of old) _ its.shows.reach (pins_of old) H A f U v vs fits its.shows.parts;

@@ -65,7 +65,7 @@ use Rattle.sled_core.proofs.Holds.Facts.{nth_facts}
 use Rattle.sled_core.proofs.Line.Fillings.{log_recorded}
 use Rattle.sled_core.proofs.Line.Segments.{AreSegments, filled_promoted, filled_written, follow_segments, line_segments, promoted_place, promoted_waits}
 use Rattle.sled_core.proofs.Line.Segments.{run_written, segments_promoted, set_segment, written_segment}
-use Rattle.sled_core.proofs.Line.ShownWrite.{fits_moved, holds_moved, shown_written}
+use Rattle.sled_core.proofs.Line.ShownWrite.{fits_moved, holds_moved, shown_written, written_clean}
 use Rattle.sled_core.proofs.Line.Writes.{along_write, buffer_begin, buffer_bytes, buffer_calls, buffer_synced, calls_are, fits_write, holds_write, passes_line, slots_write}
 use Rattle.sled_core.proofs.Line.WrittenSlots.{whole_write}
 use Rattle.sled_core.proofs.Line.NeededSlots.{held_stable}
@@ -370,6 +370,12 @@ module _ {D C : Type 0} (log : Log D C) (n k : ℕ) (r : IsReadyIn (line_of log)
               log.segments.first.site.place line (line_segments log) fits.shows (fits.hides whole zeros) n v r.among k r.buffer r.there r.ready);
           marked = λ none zeros. marked_now zeros;
           passed = λ none. passed_now;
+          clean = λ none low.
+              let its = fits.clean whole (let up = joins.0 in omega (arith, ints, up, low)) in (
+                written_clean sum size log.config.config.least device log.fault.kept whole v k r.buffer r.there r.ready
+                    log.segments.first.site.place line (line_segments log) n r.among slots sees.log.bytes has its.0,
+                its.1,
+              );
         }
 
       -- so at each moment of the calls a crash leaves what can be recovered, as it does of what is shown.

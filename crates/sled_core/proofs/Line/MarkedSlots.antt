@@ -1,5 +1,5 @@
 -- A message is marked: the slots have the segments that they had, so the log holds what it held; and it fits the history with the others unmarked.
-use Rattle.std.proofs.Common.{◌≡◌, ◌≢◌, ◌∙◌, ◌+◌, ◌%◌, ℕ, false, List, [], length, Option, refl, sym, ap, subst, arith}
+use Rattle.std.proofs.Common.{◌≡◌, ◌≢◌, ◌∙◌, ◌+◌, ◌%◌, ℕ, pos, false, List, [], length, Option, refl, sym, ap, subst, arith}
 use Rattle.std.specs.declared.io.Error.{Error as IoError}
 use Rattle.std.proofs.lemmas.List.Elements.{All-contains}
 use Rattle.sled_codec.specs.History.{History, Message}
@@ -8,6 +8,7 @@ use Rattle.sled_store.specs.SegmentStates.{Machine, SlotState, is_free, slot_at}
 use Rattle.sled_store.specs.declared.config.RunningConfig.{RunningConfig}
 use Rattle.sled_store.specs.Tracked.{at}
 use Rattle.sled_store.proofs.Marks.MarkSteps.{IsSameSegment, SameSegments, same_segment}
+use Rattle.sled_store.proofs.Marks.NothingDue.{none_same}
 use Rattle.sled_store.proofs.Segments.Elements.{all_from_in}
 use Rattle.sled_core.specs.Logged.{logged}
 use Rattle.sled_core.specs.Begun.{SegmentView, line_in}
@@ -103,6 +104,7 @@ module _ {D C : Type 0} (trace : D → Trace) (sum : List ℕ → ℕ) (old new 
         (λ none zeros. from_as sum (segment_size_of old) (state_of (trace (device_of old))) (machine_at old) m
         (line_of old) (line_of old) (logged H) (λ k. (same k).free) (λ k. (same k).lsn)
         (same_shown (state_of (trace (device_of old))).log.bytes) (omega arith) (fits.hides none zeros)) fits.marked fits.passed
+        (λ none low. let its = fits.clean none low in (its.0, none_same (segment_size_of old) (pos f) (machine_at old) m same its.1))
         (record {
           reach = fits.shows.reach;
           parts = fits-pinned _ _ _ _ _ _ _ _ _ _ H A f U fits.shows.parts (pins_of old) V (λ some. fits.shows.parts.pinned (fewer some));

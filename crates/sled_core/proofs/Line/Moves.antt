@@ -18,7 +18,7 @@ use Rattle.sled_core.specs.inside.Cleared.{cleared}
 use Rattle.sled_core.specs.inside.Hides.{HidesFrom}
 use Rattle.sled_core.specs.inside.MarksFit.{ArePassedFrom, MarksFitFrom}
 use Rattle.sled_core.specs.inside.Running.{FitsShown, FitsWith}
-use Rattle.sled_core.specs.inside.Shown.{RestsWhole, shown_of}
+use Rattle.sled_core.specs.inside.Shown.{FreesNothing, RestsWhole, shown_of}
 use Rattle.sled_core.proofs.Cleared.Shown.{ShowsSame}
 use Rattle.sled_core.proofs.Line.Shown.{fits_shown, holds_shown}
 use Rattle.sled_core.specs.LogSegments.{begins_from}
@@ -33,6 +33,13 @@ MarksStand trace sum log =
 abbrev pub MarksPass : {D C : Type 0} → (D → Trace) → (List ℕ → ℕ) → Log D C → List SegmentView → History → Type 0
 MarksPass trace sum log line H =
     fault_of log ≡ None → ArePassedFrom sum (state_of (trace (device_of log))).snapshots.file (written_to line) H.batches log.marks
+
+-- nothing was freed, and with slots as these nothing is due, as long as no mark above the floor joined
+abbrev pub LogFreesNothing : {D C : Type 0} → (D → Trace) → Log D C → Machine → ℕ → Type 0
+LogFreesNothing trace log m f =
+    fault_of log ≡ None → FreesNothing (segment_size_of log) log.marks f m
+    (cleared (segment_size_of log) (machine_at log) (line_of log) (state_of (trace (device_of log))).log.bytes)
+    (state_of (trace (device_of log))).log.bytes
 
 module _ {D C : Type 0} (trace : D → Trace) (sum : List ℕ → ℕ) (old new : Log D C) (config : config_of new ≡ config_of old) (fault : fault_of new ≡ fault_of old) (marks : new.marks ≡ old.marks) (bs : List Batch) (noted : noted_in new ≡ bs)
     (line : List SegmentView) (is_line : line_of new ≡ line) (m : Machine) (is_machine : machine_at new ≡ m)
@@ -54,9 +61,10 @@ module _ {D C : Type 0} (trace : D → Trace) (sum : List ℕ → ℕ) (old new 
       → (fault_of old ≡ None → NoHeaderOfZeros sum → HidesFrom sum (segment_size_of old) (begins_from (segment_size_of old) old.marks.joined) (state_of (trace (device_of old))) m line (logged H))
       → MarksStand trace sum old
       → MarksPass trace sum old line H
+      → LogFreesNothing trace old m f
       → FitsWith sum old.marks bs (segment_size_of old) (shown_of trace old) (fault_of old) line m (pins_of old) H A f U → Fits trace sum new H A f U
   unfolding Fits
-  fits_as A f U pins hides marked passed fits =
+  fits_as A f U pins hides marked passed clean fits =
       subst (λ (x : JoinedMarks). FitsShown sum x (noted_in new) (segment_size_of new) (state_of (trace (device_of new))) (fault_of new) (line_of new) (machine_at new) (pins_of new) H A f U) (sym marks)
       (subst (λ (x : RunningConfig D C). FitsShown sum old.marks (noted_in new) x.config.segment_size (state_of (trace x.device)) (fault_of new) (line_of new) (machine_at new) (pins_of new) H A f U) (sym config)
       (subst (λ (e : Option IoError). FitsShown sum old.marks (noted_in new) (segment_size_of old) (state_of (trace (device_of old))) e (line_of new) (machine_at new) (pins_of new) H A f U) (sym fault)
@@ -65,4 +73,4 @@ module _ {D C : Type 0} (trace : D → Trace) (sum : List ℕ → ℕ) (old new 
       (subst (λ n. FitsShown sum old.marks (noted_in new) (segment_size_of old) (state_of (trace (device_of old))) (fault_of old) line m n H A f U) (sym pins)
       (subst (λ (l : List Batch). FitsShown sum old.marks l (segment_size_of old) (state_of (trace (device_of old))) (fault_of old) line m (pins_of old) H A f U) (sym noted)
       (fits_shown sum bs (segment_size_of old) (state_of (trace (device_of old))) (fault_of old) (machine_at old) m (line_of old) line same
-      rests old.marks (pins_of old) H A f U hides marked passed fits)))))))
+      rests old.marks (pins_of old) H A f U hides marked passed clean fits)))))))

@@ -144,6 +144,7 @@ module _ {D C : Type 0} (trace : D → Trace) (sum : List ℕ → ℕ) (old new 
     position = (λ i. position_in (size_same i) (sealed_current i) (machine i));
     reserved = rest.reserved;
     pins = rest.pins;
+    joined = ap (λ (x : JoinedMarks). x.joined) rest.marks;
     size = size_same;
   } where
     size_same : segment_size_of new ≡ size
@@ -209,7 +210,7 @@ module _ {D C : Type 0} (trace : D → Trace) (sum : List ℕ → ℕ) (old new 
         (same_shown (state_of (trace (device_of old))).log.bytes) (omega (arith, end_at_last size sealed_now (λ _. refl) (line_of old)))
         (fits.hides none zeros)) fits.marked
         (λ none. passed_up (written_to (line_of old)) (written_to (at_last sealed_now (line_of old))) (let same = kept_written v vs in omega (arith, same))
-        H.batches sum (state_of (trace (device_of old))).snapshots.file old.marks (fits.passed none))
+        H.batches sum (state_of (trace (device_of old))).snapshots.file old.marks (fits.passed none)) fits.clean
         (record {
           reach = fits.shows.reach;
           parts = line_fits_sealed sum size (shown_of trace old) (fault_of old) _ fits.shows.reach (pins_of old) H A f U v vs its fits.shows.parts;

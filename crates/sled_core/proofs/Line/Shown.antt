@@ -1,7 +1,7 @@
 -- What a log shows of its device: where a call leaves that, what is held and fitted over it is held and fitted by the log behind the call. A log that begins
 -- shows the device itself.
 use Rattle.std.specs.declared.io.Error.{Error as IoError}
-use Rattle.std.proofs.Common.{◌≡◌, ◌≢◌, ◌∙◌, ◌+◌, ◌*◌, ◌<◌, ◌≤◌, ℕ, zero, suc, max, pos, List, [], ◌∷◌, Option, Some, None, refl, sym, ap, subst, arith, inl}
+use Rattle.std.proofs.Common.{◌≡◌, ◌≢◌, ◌∙◌, ◌+◌, ◌*◌, ◌<◌, ◌≤◌, ◌≤ℤ◌, ℕ, zero, suc, max, pos, List, [], ◌∷◌, Option, Some, None, refl, sym, ap, subst, arith, inl}
 use Rattle.std.proofs.Common.{inr}
 use Rattle.std.specs.List.{slice_get}
 use Rattle.std.proofs.Math.Nat.{suc-mul}
@@ -12,6 +12,7 @@ use Rattle.sled_codec.specs.Snapshots.{SnapshotModel, stable_place}
 use Rattle.sled_store.specs.Device.{LogState, State, Trace, at_rest, state_of}
 use Rattle.sled_store.specs.SegmentStates.{Machine}
 use Rattle.sled_store.specs.SnapshotFiles.{BeginsFrom}
+use Rattle.sled_store.specs.inside.SegmentStates.{NoneDue}
 use Rattle.sled_store.proofs.Segments.FilledLemmas.{slot_before}
 use Rattle.sled_core.specs.declared.logger.joined_marks.JoinedMarks.{JoinedMarks}
 use Rattle.sled_core.specs.Begun.{SegmentView}
@@ -26,10 +27,10 @@ use Rattle.sled_core.specs.inside.FreeSlots.{HasSlot, HasSlots}
 use Rattle.sled_core.specs.inside.Running.{FitsShown, FitsWith}
 use Rattle.sled_core.specs.inside.MarksFit.{ArePassedFrom, MarksFitFrom}
 use Rattle.sled_core.specs.inside.Hides.{HidesFrom}
-use Rattle.sled_core.specs.inside.Shown.{RestsWhole, shown}
+use Rattle.sled_core.specs.inside.Shown.{FreesNothing, RestsWhole, shown}
 use Rattle.sled_core.specs.Tail.{least_place}
 use Rattle.sled_core.proofs.Cleared.Offsets.{LineRises, OthersBeside, cleared_itself, segments_apart}
-use Rattle.sled_core.proofs.Cleared.Shown.{ShowsSame, shown_same, with_log}
+use Rattle.sled_core.proofs.Cleared.Shown.{ShowsSame, shown_rests, shown_same, with_log}
 use Rattle.sled_core.proofs.Holds.FitsAnew.{fits_anew}
 use Rattle.sled_core.proofs.Holds.RunningLemmas.{fits-acknowledged, fits-pinned}
 use Rattle.sled_core.proofs.Line.Ends.{line_holds, with_part}
@@ -84,15 +85,17 @@ module _ (sum : List ℕ → ℕ) (noted : List Batch) (size : ℕ) (device : St
       → (fault ≡ None → NoHeaderOfZeros sum → HidesFrom sum size (begins_from size marks.joined) device m' line' (logged H))
       → (fault ≡ None → NoHeaderOfZeros sum → MarksFitFrom sum size device.snapshots.file (cleared size m line device.log.bytes) marks)
       → (fault ≡ None → ArePassedFrom sum device.snapshots.file (written_to line') H.batches marks)
+      → (fault ≡ None → FreesNothing size marks f m' (cleared size m line device.log.bytes) device.log.bytes)
       → FitsWith sum marks noted size (shown size fault m line device) fault line' m' pins H A f U
       → FitsShown sum marks noted size device fault line' m' pins H A f U
-  fits_shown marks pins H A f U hides marked passed fits = record {
+  fits_shown marks pins H A f U hides marked passed clean fits = record {
     shows = subst (λ (d : State). FitsWith sum marks noted size d fault line' m' pins H A f U) (sym (shown_same size fault m m' line line' same device)) fits;
     rests = rests;
     hides = hides;
     marked = λ none zeros.
         subst (λ (l : List ℕ). MarksFitFrom sum size device.snapshots.file l marks) (sym (same device.log.bytes)) (marked none zeros);
     passed = passed;
+    clean = λ none low. let its = clean none low in (same device.log.bytes ∙ its.0, its.1);
   }
 
 -- A log that holds a history over its device, as one does that begins, shows the device itself, and hides nothing.
@@ -127,8 +130,9 @@ module _ (sum : List ℕ → ℕ) (size : ℕ) (big : 256 ≤ size) (t : Trace) 
     pub fits_begun : (marks : JoinedMarks) (pins : ℕ) (H : History) (A f : ℕ) (U : List Message)
         → ((first : SnapshotModel) → BeginsFrom sum device.snapshots.file first
         → (marks.joined ≡ pos (stable_place first.stable)) × (marks.durable ≡ pos (stable_place first.stable)))
+        → NoneDue size (pos f) m
         → FitsWith sum marks noted size device None line m pins H A f U → FitsShown sum marks noted size device None line m pins H A f U
-    fits_begun marks pins H A f U at fits =
+    fits_begun marks pins H A f U at idle fits =
         let held = line_holds sum size device None _ line fits.reach pins H A f U fits.parts in
         record {
           shows = subst (λ (d : State). FitsWith sum marks noted size d None line m pins H A f U) (sym (begins_shown marks (logged H) held fits.slots)) fits;
@@ -142,16 +146,25 @@ module _ (sum : List ℕ → ℕ) (size : ℕ) (big : 256 ≤ size) (t : Trace) 
           marked = λ none zeros first begins.
               record { joined = marks.ordered; stands = inl (let same = (at first begins).1 in omega (arith, ints, same)) };
           passed = λ none first begins. let same = at first begins in record { joined = inl same.0; durable = inl same.1 };
+          clean = λ none low. (begins_same marks (logged H) held fits.slots, idle);
         }
+
+-- As long as no mark above the floor joined what is fitted over what is shown is fitted over the device itself.
+pub fits_itself : (sum : List ℕ → ℕ) (marks : JoinedMarks) (noted : List Batch) (size : ℕ) (device : State) (fault : Option IoError) (m : Machine)
+    (line : List SegmentView) (pins : ℕ) (H : History) (A f : ℕ) (U : List Message) → fault ≡ None → marks.joined ≤ℤ pos f
+    → FitsShown sum marks noted size device fault line m pins H A f U → FitsWith sum marks noted size device fault line m pins H A f U
+fits_itself sum marks noted size device fault m line pins H A f U none low fits =
+    subst (λ (d : State). FitsWith sum marks noted size d fault line m pins H A f U)
+    (ap (with_log device) (shown_rests size fault m line device none ∙ ap at_rest (fits.clean none low).0 ∙ sym (fits.rests none))) fits.shows
 
 -- Of segments of which there is one: another count of pins fits, where one is out while there are messages that aren't marked,
 module _ (sum : List ℕ → ℕ) (marks : JoinedMarks) (noted : List Batch) (size : ℕ) (device : State) (fault : Option IoError) (v : SegmentView)
     (vs : List SegmentView) (m : Machine) (pins : ℕ) (H : History) (A f : ℕ) (U : List Message)
     (fits : FitsShown sum marks noted size device fault (v ∷ vs) m pins H A f U) where
   pub fits_pins : (now : ℕ) → (U ≢ [] → 0 < now) → FitsShown sum marks noted size device fault (v ∷ vs) m now H A f U
-  fits_pins now out = fits_anew fits now A f (fits-pinned _ _ _ _ _ _ _ _ _ _ H A f U fits.shows.parts now U out)
+  fits_pins now out = fits_anew fits now A f (omega arith) (fits-pinned _ _ _ _ _ _ _ _ _ _ H A f U fits.shows.parts now U out)
 
   -- and all below the stable end counts as acknowledged.
   pub fits_acknowledges : FitsShown sum marks noted size device fault (v ∷ vs) m pins H
       (max A (end_below (stable_below (v.parts.site.place + v.parts.written_len) noted) H)) f U
-  fits_acknowledges = fits_anew fits pins _ f (fits-acknowledged _ _ _ _ _ _ _ _ _ _ H A f U fits.shows.parts _ _ fits.shows.batches)
+  fits_acknowledges = fits_anew fits pins _ f (omega arith) (fits-acknowledged _ _ _ _ _ _ _ _ _ _ H A f U fits.shows.parts _ _ fits.shows.batches)

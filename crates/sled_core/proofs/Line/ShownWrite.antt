@@ -1,6 +1,6 @@
 -- A buffer is written and synced: what is shown is written over with the same bytes, and what is held and fitted over the one is so over the other.
 use Rattle.std.specs.declared.io.Error.{Error as IoError}
-use Rattle.std.proofs.Common.{◌≡◌, ◌+◌, ◌≤◌, ℕ, suc, true, List, ◌∷◌, length, set, take, drop, Option, Some, None, refl, sym, ap, subst, arith}
+use Rattle.std.proofs.Common.{◌≡◌, ◌∙◌, ◌+◌, ◌≤◌, ℕ, suc, true, List, ◌∷◌, length, set, take, drop, Option, Some, None, refl, sym, ap, subst, arith}
 use Rattle.std.specs.List.{slice_get}
 use Rattle.sled_codec.specs.History.{History, Message}
 use Rattle.sled_store.specs.Device.{LeavesLog, LogState, State, at_rest, overwritten}
@@ -73,7 +73,11 @@ module _ (sum : List ℕ → ℕ) (size : ℕ) (big : 256 ≤ size) (device : St
       (others_beside size (omega (arith, big)) m place line are (λ j u at_j. at_there (HasSlot size m) line j u at_j slots.taken) n v among)
       bytes bytes_long
 
-  -- so what is shown is,
+  -- and it is the file itself where it was,
+  pub written_clean : cleared size m line device.log.bytes ≡ device.log.bytes → cleared size m left after.log.bytes ≡ after.log.bytes
+  written_clean same = cleared_behind device.log.bytes ∙ ap (λ (l : List ℕ). overwritten l at bytes) same
+
+  -- so what is shown is written over,
   pub shown_written : (now : Option IoError) → now ≡ None → (shown size now m left after).log ≡ sees_after.log
   shown_written now none = by now none fault whole where
     by : (o : Option IoError) → o ≡ None → (p : Option IoError) → p ≡ None

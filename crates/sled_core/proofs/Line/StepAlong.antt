@@ -1,8 +1,8 @@
 -- The calls of a step of the accountant, over the slots as they are behind it: a log at rest fits what it fitted behind each blob that is removed, and behind
 -- each cut with its sync. So what a crash leaves at each moment of them can be recovered, and lasts; and a log that keeps a failure from
 -- then on fits the history.
-use Rattle.std.proofs.Common.{◌≡◌, ◌≢◌, ◌∙◌, ◌+◌, ◌*◌, ◌/◌, ◌<◌, ◌≤◌, ℕ, ℤ, pos, true, false, Bool, List, [], ◌∷◌, length, None, Some, refl}
-use Rattle.std.proofs.Common.{sym, subst, arith, inl, inr}
+use Rattle.std.proofs.Common.{◌≡◌, ◌≢◌, ◌∙◌, ◌+◌, ◌*◌, ◌/◌, ◌<◌, ◌≤◌, ℕ, ℤ, pos, true, false, Bool, List, [], ◌∷◌, length, take, None, Some, refl}
+use Rattle.std.proofs.Common.{sym, ap, subst, arith, inl, inr}
 use Rattle.std.proofs.Math.Nat.{mul-mod_left}
 use Rattle.std.specs.List.{Contains}
 use Rattle.std.specs.declared.io.Error.{Error as IoError}
@@ -18,9 +18,9 @@ use Rattle.sled_store.specs.Marks.{slot_with}
 use Rattle.sled_store.specs.SegmentStates.{Machine, is_free, slot_at, stabilized}
 use Rattle.sled_store.specs.SnapshotFiles.{BeginsFrom}
 use Rattle.sled_store.specs.inside.Script.{Along}
+use Rattle.sled_store.specs.inside.SegmentStates.{NoneDue}
 use Rattle.sled_store.proofs.Crashes.StoodLemmas.{header_stands, record_stands}
 use Rattle.sled_store.proofs.Histories.Ascending.{Ascends}
-use Rattle.sled_store.proofs.Marks.FreedSteps.{NoneDue}
 use Rattle.sled_store.proofs.Marks.SlotMoves.{AreFreeFrom, GoesWith, IsDueFor, stabilized_made}
 use Rattle.sled_store.proofs.Marks.StepCalls.{AreStepCalls, along_step_calls, ends_step_calls, step_calls_more}
 use Rattle.sled_store.proofs.Names.OneBegin.{one_begin}
@@ -36,7 +36,7 @@ use Rattle.sled_core.specs.NoForeign.{NoHeaderOfZeros}
 use Rattle.sled_core.specs.OpenBatches.{stable_below}
 use Rattle.sled_core.specs.Tail.{least_place}
 use Rattle.sled_core.specs.inside.Begun.{line_end}
-use Rattle.sled_core.specs.inside.Cleared.{cleared}
+use Rattle.sled_core.specs.inside.Cleared.{cleared, is_stale}
 use Rattle.sled_core.specs.inside.Lasting.{IsLasting, LeavesRecovering}
 use Rattle.sled_core.specs.inside.LogSegments.{held_since}
 use Rattle.sled_core.specs.inside.MarksFit.{MarkStands, MarksFit}
@@ -44,7 +44,7 @@ use Rattle.sled_core.specs.inside.Numbers.{HasNumbers}
 use Rattle.sled_core.specs.inside.OpenBatches.{IsOpenBatch}
 use Rattle.sled_core.specs.inside.Running.{FitsShown, FitsWith}
 use Rattle.sled_core.specs.inside.Shown.{shown}
-use Rattle.sled_core.proofs.Freed.CutHides.{hides_cut}
+use Rattle.sled_core.proofs.Freed.CutHides.{hides_cut, zeroed_taken}
 use Rattle.sled_core.proofs.Freed.CutRecovers.{cut_recovers}
 use Rattle.sled_core.proofs.Freed.Known.{IsKnown}
 use Rattle.sled_core.proofs.Freed.LineCut.{cutting_leaves, fits_line_cut, numbers_cut, used_shown, whole_cut, zeros_new}
@@ -190,6 +190,7 @@ module _ (sum : List ℕ → ℕ) (marks : JoinedMarks) (noted : List Batch) (si
       hides = λ none zeros. from_names sum size s (step (BlobRemoved p done) s) m line (logged H) refl refl refl (its.fits.hides none zeros);
       marked = its.fits.marked;
       passed = its.fits.passed;
+      clean = its.fits.clean;
     };
     past = λ x there ends. let low = its.past x there ends in let up = now.past in omega (arith, low, up);
     headers = its.headers;
@@ -331,6 +332,7 @@ module _ (sum : List ℕ → ℕ) (marks : JoinedMarks) (noted : List Batch) (si
             (one_begin sum s.snapshots.file first x begins from)
             (let fit = its.fits.marked refl zeros first begins in record { joined = fit.joined; stands = mark_front zeros fit.stands });
         passed = its.fits.passed;
+        clean = λ none low. let was = its.fits.clean none low in (zeroed_taken (is_stale size m line) log to ∙ ap (take to) was.0, was.1);
       };
       past = its.past;
       headers = λ at text laid. header_stands short s.placed at text laid;

@@ -109,4 +109,5 @@ module _ (sum : List ℕ → ℕ) (marks : JoinedMarks) (noted : List Batch) (si
       hides = λ none zeros. cc;
       marked = λ none zeros. cc;
       passed = λ none. cc;
+      clean = λ none low. cc;
     }

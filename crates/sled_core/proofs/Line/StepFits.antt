@@ -1,6 +1,6 @@
 -- A step of the accountant frees slots, and no call is made yet: a log at rest that keeps no failure, all of whose messages are marked, fits what it fitted,
 -- with the slots as they are behind the step.
-use Rattle.std.proofs.Common.{◌≡◌, ◌≢◌, ◌∙◌, ◌+◌, ◌*◌, ◌/◌, ◌<◌, ◌≤◌, ◌≤ℤ◌, ℕ, pos, true, List, [], ◌∷◌, length, None, refl, sym, ap, subst}
+use Rattle.std.proofs.Common.{◌≡◌, ◌≢◌, ◌⊎◌, ◌∙◌, ◌+◌, ◌*◌, ◌/◌, ◌<◌, ◌≤◌, ◌<ℤ◌, ◌≤ℤ◌, ℕ, ℤ, pos, negsuc, true, List, [], ◌∷◌, length, None, refl, sym, ap, subst}
 use Rattle.std.proofs.Common.{arith, inl, inr}
 use Rattle.std.specs.List.{Contains}
 use Rattle.std.proofs.Math.Nat.{mul-div_cancel}
@@ -15,9 +15,11 @@ use Rattle.sled_store.specs.Marks.{slot_with}
 use Rattle.sled_store.specs.SegmentStates.{Machine, Step, is_due, slot_at, stabilized}
 use Rattle.sled_store.specs.SnapshotFiles.{BeginsFrom}
 use Rattle.sled_store.specs.Tracked.{IsAccountOf}
+use Rattle.sled_store.specs.inside.SegmentStates.{NoneDue}
 use Rattle.sled_store.proofs.Histories.Ascending.{Ascends}
 use Rattle.sled_store.proofs.Marks.AccountSteps.{same_account}
-use Rattle.sled_store.proofs.Marks.FreedSteps.{NoneDue, none_stabilized}
+use Rattle.sled_store.proofs.Marks.FreedSteps.{none_stabilized}
+use Rattle.sled_store.proofs.Marks.NothingDue.{none_lower}
 use Rattle.sled_store.proofs.Marks.SlotMoves.{KeepOrLose, LosesSegment, stabilized_made}
 use Rattle.sled_store.proofs.Names.OneBegin.{one_begin}
 use Rattle.sled_store.proofs.Segments.Elements.{in_cases, in_nothing}
@@ -75,6 +77,11 @@ line_rise size place v vs are =
     let short = s.short in
     ends_rise v.parts.written_len v.parts.reserved v.parts.sealed size s.are
     (let up = ends_up v.parts.written_len v.parts.reserved v.parts.sealed s.are in omega (arith, up, begins, short)) (omega (arith, begins, short))
+
+-- A mark lies above a place, or doesn't.
+mark_cases : (mark : ℤ) (place : ℕ) → (mark ≤ℤ pos place) ⊎ (pos place <ℤ mark)
+mark_cases (pos n) place = elim (cases_lt place n) [ inl above ↦ inr (omega (arith, ints, above)) | inr low ↦ inl (omega (arith, ints, low)) ]
+mark_cases (negsuc n) place = inl (omega (arith, ints))
 
 module _ (sum : List ℕ → ℕ) (marks : JoinedMarks) (noted : List Batch) (size : ℕ) (big : 256 ≤ size) (s : State) (m : Machine) (pins : ℕ) (H : History)
     (A f : ℕ) (order : Ascends H.messages) (v : SegmentView) (vs : List SegmentView) (are : AreSegments size v.parts.site.place (v ∷ vs))
@@ -238,9 +245,10 @@ module _ (sum : List ℕ → ℕ) (marks : JoinedMarks) (noted : List Batch) (si
         (fits.shows.in_slots first begins).not_above (λ k lost. unneeded k lost held) (fits.shows.in_slots first begins));
   }
 
-  pub stepped_fits : (now : FitsShown sum marks noted size s None line after pins H A f []) × (now.shows.reach ≡ fits.shows.reach)
+  -- (the mark that joined is above the floor then, with which the log may have begun, so nothing is claimed of the file itself)
+  pub stepped_fits : pos f <ℤ marks.joined → (now : FitsShown sum marks noted size s None line after pins H A f []) × (now.shows.reach ≡ fits.shows.reach)
   unfolding stepped_shows
-  stepped_fits = (
+  stepped_fits above = (
     record {
       shows = stepped_shows;
       rests = fits.rests;
@@ -252,18 +260,34 @@ module _ (sum : List ℕ → ℕ) (marks : JoinedMarks) (noted : List Batch) (si
           (one_begin sum s.snapshots.file first x begins from)
           (let its = fits.marked refl zeros first begins in record { joined = its.joined; stands = mark_kept zeros its.stands });
       passed = fits.passed;
+      clean = λ none low. absurd (omega (arith, ints, above, low));
     },
     refl,
   )
 
--- So it is where messages aren't marked yet, as long as nothing is due: then the step does nothing. What a reader reaches is the same.
+-- Where nothing is due the step does nothing.
+module _ (sum : List ℕ → ℕ) (marks : JoinedMarks) (noted : List Batch) (size : ℕ) (s : State) (m : Machine) (pins : ℕ) (H : History) (A f : ℕ)
+    (line : List SegmentView) (U : List Message) where
+  -- a log fits with these slots, and a reader comes as far
+  abbrev FitsTo : ℕ → Machine → Type 0
+  FitsTo reach n = (now : FitsShown sum marks noted size s None line n pins H A f U) × (now.shows.reach ≡ reach)
+
+  idle_fits : (fits : FitsShown sum marks noted size s None line m pins H A f U) → NoneDue size marks.joined m
+      → FitsTo fits.shows.reach (stabilized size marks.joined m).machine
+  idle_fits fits none =
+      subst (FitsTo fits.shows.reach) (sym (ap (λ (x : Step). x.machine) (none_stabilized size marks.joined m none))) (fits, refl)
+
+-- So it is where messages aren't marked yet, as long as nothing is due; and as long as no mark joined that is above the floor, since nothing is due then.
+-- What a reader reaches is the same.
 pub step_fits : (sum : List ℕ → ℕ) (marks : JoinedMarks) (noted : List Batch) (size : ℕ) → 256 ≤ size → (s : State) (m : Machine) (pins : ℕ) (H : History)
     (A f : ℕ) → Ascends H.messages → (v : SegmentView) (vs : List SegmentView) → AreSegments size v.parts.site.place (v ∷ vs) → (U : List Message)
     → (U ≢ [] → NoneDue size marks.joined m) → (fits : FitsShown sum marks noted size s None (v ∷ vs) m pins H A f U)
     → (now : FitsShown sum marks noted size s None (v ∷ vs) (stabilized size marks.joined m).machine pins H A f U)
     × (now.shows.reach ≡ fits.shows.reach)
-step_fits sum marks noted size big s m pins H A f order v vs are [] idle fits =
-    stepped_fits sum marks noted size big s m pins H A f order v vs are fits
+step_fits sum marks noted size big s m pins H A f order v vs are [] idle fits = elim (mark_cases marks.joined f) [
+  | inl low ↦ idle_fits sum marks noted size s m pins H A f (v ∷ vs) [] fits
+      (none_lower size marks.joined (pos f) low m (fits.clean refl low).1)
+  | inr above ↦ stepped_fits sum marks noted size big s m pins H A f order v vs are fits above
+]
 step_fits sum marks noted size big s m pins H A f order v vs are (u ∷ us) idle fits =
-    subst (λ (n : Machine). (now : FitsShown sum marks noted size s None (v ∷ vs) n pins H A f (u ∷ us)) × (now.shows.reach ≡ fits.shows.reach))
-    (sym (ap (λ (x : Step). x.machine) (none_stabilized size marks.joined m (idle (λ none. let clash : u ∷ us ≡ [] = none in cc))))) (fits, refl)
+    idle_fits sum marks noted size s m pins H A f (v ∷ vs) (u ∷ us) fits (idle (λ none. let clash : u ∷ us ≡ [] = none in cc))

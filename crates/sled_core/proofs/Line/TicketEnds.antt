@@ -36,7 +36,7 @@ use Rattle.sled_core.proofs.Holds.Facts.{nth_facts}
 use Rattle.sled_core.proofs.Line.EndedKeeps.{fits_ended, goes_on_ended, holds_ended, keeps_ended, left_ended, position_ended}
 use Rattle.sled_core.proofs.Line.EndedTickets.{ended_fillings, ended_heads, ended_keeps_given, ended_takes, others_await, says_place, ticket_among, ticket_there}
 use Rattle.sled_core.proofs.Line.LogSpans.{ended_buffers}
-use Rattle.sled_core.proofs.Line.Moves.{MarksPass, MarksStand}
+use Rattle.sled_core.proofs.Line.Moves.{LogFreesNothing, MarksPass, MarksStand}
 use Rattle.sled_core.specs.LogSegments.{begins_from}
 
 -- The reservation of a ticket, by numbers.
@@ -170,6 +170,7 @@ module _ {D C : Type 0} {old new : Log D C} {ticket : Reservation} {n index : �
           (machine_of old.accountant) (line_of old) (logged H))
           → MarksStand trace sum old
           → MarksPass trace sum old (line_of old) H
+          → LogFreesNothing trace old (machine_of old.accountant) f
           → RestsWhole old.fault.kept (state_of (trace old.config.device)).log
           → FitsWith sum old.marks (noted_in old) old.config.config.segment_size (shown_of trace old) old.fault.kept
           (set (line_of old) n (ended_now i r e.text state v)) (machine_of old.accountant) old.pins H A f U

@@ -9,6 +9,7 @@ use Rattle.sled_store.specs.SegmentStates.{Machine, handed_out}
 use Rattle.sled_store.specs.declared.config.RunningConfig.{RunningConfig}
 use Rattle.sled_core.specs.Begun.{SegmentView, segment_view}
 use Rattle.sled_core.specs.declared.logger.Log.{Log}
+use Rattle.sled_core.specs.declared.logger.joined_marks.JoinedMarks.{JoinedMarks}
 use Rattle.sled_core.specs.inside.Fits.{AddsBuffers}
 use Rattle.sled_core.specs.Fits.{buffers_of, current_begin, current_of, line_of, machine_at, position_sealed, position_with, reserved_end, sealing_end, segment_size_of, stable_end, waiting_of}
 use Rattle.sled_core.specs.Keeps.{SamePosition}
@@ -72,6 +73,7 @@ module _ {D C : Type 0} (trace : D → Trace) (sum : List ℕ → ℕ) (old new 
         ∙ sym (ap (λ (o : Bool). if o then next_segment_at size v.parts.site.place (machine_at old) else record { place = v.parts.site.place + length v.parts.bytes; begins = v.parts.site.place; slot = v.parts.site.slot; machine = machine_at old }) short);
     reserved = reserved;
     pins = rest.pins;
+    joined = ap (λ (x : JoinedMarks). x.joined) rest.marks;
     size = ap (λ (x : RunningConfig D C). x.config.segment_size) rest.config;
   }
 

@@ -5,6 +5,7 @@ use Rattle.sled_store.specs.Device.{Trace}
 use Rattle.sled_store.specs.declared.config.RunningConfig.{RunningConfig}
 use Rattle.sled_core.specs.Begun.{SegmentView, segment_view}
 use Rattle.sled_core.specs.declared.logger.Log.{Log}
+use Rattle.sled_core.specs.declared.logger.joined_marks.JoinedMarks.{JoinedMarks}
 use Rattle.sled_core.specs.inside.Fits.{written_to}
 use Rattle.sled_core.specs.Fits.{AwaitsIn, IsUnchanged, KeepsAll, KeepsTickets, current_of, given_up_of, line_of, machine_at, noted_in, segment_size_of, synced_end}
 use Rattle.sled_core.specs.invariants.Fits.{Holds}
@@ -51,6 +52,7 @@ module _ {D C : Type 0} (old new : Log D C) (same : IsUnchanged old new) where
     position = λ i. position_in (unchanged_size i) (unchanged_current i) (same.machine i);
     reserved = same.reserved;
     pins = same.pins;
+    joined = ap (λ (x : JoinedMarks). x.joined) same.marks;
     size = unchanged_size;
   }
 
@@ -62,7 +64,7 @@ module _ {D C : Type 0} (old new : Log D C) (same : IsUnchanged old new) where
     history = λ H holds. holds_as trace sum old new same.config same.fault same.marks (noted_in old) same.noted (line_of old) same.line (machine_at old)
         same.machine (λ l. refl) holds.rests H holds.shows;
     fits = λ H A f U fits. fits_as trace sum old new same.config same.fault same.marks (noted_in old) same.noted (line_of old) same.line (machine_at old)
-        same.machine (λ l. refl) fits.rests H A f U same.pins fits.hides fits.marked fits.passed fits.shows;
+        same.machine (λ l. refl) fits.rests H A f U same.pins fits.hides fits.marked fits.passed fits.clean fits.shows;
     noted = noted_quiet old new same.noted unchanged_synced;
     kept = same.kept;
   }

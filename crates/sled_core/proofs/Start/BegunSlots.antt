@@ -54,7 +54,7 @@ module _ (size len : ℕ) (s : SnapshotModel) where
       ∙ ap not (active_used size s a active)
 
   -- and has the segment of the stable place.
-  active_is : (a : ℕ) → s.active ≡ Some a → a / size < slots → (slot_at start (a / size)).lsn ≡ stable_place s.stable / size * size
+  pub active_is : (a : ℕ) → s.active ≡ Some a → a / size < slots → (slot_at start (a / size)).lsn ≡ stable_place s.stable / size * size
   active_is a active inside =
       let first : number_in size (a / size) (all_entries s) ≡ Some (stable_place s.stable / size) =
       ap (λ (o : Option ℕ). number_in size (a / size) (active_entry (stable_place s.stable) o ++ entries_of s.pages)) active

@@ -1,13 +1,20 @@
 -- What a call leaves that writes one buffer, and fails.
-use Rattle.std.specs.Prelude.{◌≡◌, ℕ, suc, set, slice_get, Some}
+use Rattle.std.specs.Prelude.{◌≡◌, ℕ, List, suc, set, slice_get, Some}
 use Rattle.sled_store.specs.Device.{Trace}
 use Rattle.sled_core.specs.Account.{account_of, written_account}
 use Rattle.sled_core.specs.Begun.{SegmentView}
 use Rattle.sled_core.specs.declared.logger.Log.{Log}
-use Rattle.sled_core.specs.Fits.{device_of, ledger_of, line_of, segment_size_of}
+use Rattle.sled_core.specs.Fits.{KeepsTickets, device_of, ledger_of, line_of, segment_size_of}
 use Rattle.sled_core.specs.Fronts.{WroteNone, synced_writes}
-use Rattle.sled_core.specs.Keeps.{FailedStep}
+use Rattle.sled_core.specs.Keeps.{FailedStep, Preserves, SamePlace}
 use Rattle.sled_core.specs.inside.Turned.{mark_of, promoted, written_now}
+
+-- What the write of a buffer keeps before the accountant's step: what the log holds and goes on fitting, and its tickets; and where the next record begins, but
+-- that a mark may join.
+pub record KeepsOne {D C : Type 0} (trace : D → Trace) (sum : List ℕ → ℕ) (old new : Log D C) : Type 0 where
+  pub preserves : Preserves trace sum old new
+  pub tickets : KeepsTickets old new
+  pub position : SamePlace old new
 
 -- None was written: segments, slots and marks are as they were.
 pub record WritesNone {D C : Type 0} (trace : D → Trace) (old new : Log D C) : Type 0 where

@@ -30,7 +30,7 @@ use Rattle.sled_core.specs.inside.Lasting.{LeavesRecovering}
 use Rattle.sled_core.specs.inside.Reached.{StandsAmong, StandsActive}
 use Rattle.sled_core.specs.inside.LogFile.{padded}
 use Rattle.sled_core.specs.Ready.{IsReady}
-use Rattle.sled_core.specs.inside.Shown.{RestsWhole, shown}
+use Rattle.sled_core.specs.inside.Shown.{FreesNothing, RestsWhole, shown}
 use Rattle.sled_core.specs.inside.Slots.{AreWhole, HasAccount}
 use Rattle.sled_core.specs.Running.{KeepsItem}
 
@@ -135,6 +135,8 @@ pub record FitsShown (sum : List ℕ → ℕ) (marks : JoinedMarks) (noted : Lis
   pub marked : fault ≡ None → NoHeaderOfZeros sum → MarksFitFrom sum size device.snapshots.file (cleared size m line device.log.bytes) marks
   -- each of them is the place with which the log began, or lies below what is written, and in no batch
   pub passed : fault ≡ None → ArePassedFrom sum device.snapshots.file (written_to line) H.batches marks
+  -- as long as no mark joined that is above the floor nothing was freed, and nothing is due
+  pub clean : fault ≡ None → FreesNothing size marks f m (cleared size m line device.log.bytes) device.log.bytes
 
 -- Snapshot and device are ready for a log that fits this history, the end of what was acknowledged and the floor. Log file and snapshots have records and
 -- tables, so they are ready for the history as the log has it; the blobs have the items of the history itself.

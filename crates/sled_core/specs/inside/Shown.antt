@@ -1,11 +1,13 @@
 -- The device of a log as one sees it who knows the slots and the segments of the log: as long as that keeps no failure its log file is cleared, and at rest.
 -- Where a failure is kept it is the device as it is.
 use Rattle.std.specs.declared.io.Error.{Error as IoError}
-use Rattle.std.specs.Prelude.{◌≡◌, ℕ, List, Option, Some, None}
+use Rattle.std.specs.Prelude.{◌≡◌, ◌≤ℤ◌, ℕ, pos, List, Option, Some, None}
 use Rattle.sled_store.specs.Accounts.{machine_of}
 use Rattle.sled_store.specs.Device.{LogState, State, Trace, at_rest, state_of}
 use Rattle.sled_store.specs.SegmentStates.{Machine}
+use Rattle.sled_store.specs.inside.SegmentStates.{NoneDue}
 use Rattle.sled_core.specs.Begun.{SegmentView}
+use Rattle.sled_core.specs.declared.logger.joined_marks.JoinedMarks.{JoinedMarks}
 use Rattle.sled_core.specs.declared.logger.Log.{Log}
 use Rattle.sled_core.specs.Fits.{line_of}
 use Rattle.sled_core.specs.inside.Cleared.{cleared}
@@ -33,3 +35,8 @@ shown_of trace log =
 -- The log file of a log that keeps no failure is at rest.
 abbrev pub RestsWhole : Option IoError → LogState → Type 0
 RestsWhole fault log = fault ≡ None → log ≡ at_rest log.bytes
+
+-- As long as the mark that joined isn't above a floor, nothing was freed: all of a log file is shown. And no active segment is due for the floor, so for that
+-- mark.
+abbrev pub FreesNothing : ℕ → JoinedMarks → ℕ → Machine → (shown log : List ℕ) → Type 0
+FreesNothing size marks floor m shown log = marks.joined ≤ℤ pos floor → (shown ≡ log) × NoneDue size (pos floor) m

@@ -25,7 +25,7 @@ ghost use Rattle.sled_core.specs.Ledger.{ledger_behind, ledger_step, stepped_led
 ghost use Rattle.sled_core.specs.LogStatus.{flushed, rolled, status_of};
 ghost use Rattle.sled_core.specs.Marked.{BeginsMarked};
 ghost use Rattle.sled_core.specs.inside.Marked.{JoinsBelow, KeepsSegment};
-ghost use Rattle.sled_core.specs.inside.OneWritten.{WritesNone, WroteOne};
+ghost use Rattle.sled_core.specs.inside.OneWritten.{KeepsOne, WritesNone, WroteOne};
 ghost use Rattle.sled_core.specs.invariants.Running.{Fits};
 ghost use Rattle.sled_core.specs.Running.{end_below};
 ghost use Rattle.sled_core.specs.Stable.{SparesDevice, SyncsAll};
@@ -282,7 +282,7 @@ impl<D: Device, C: Checksum> Log<D, C> {
         ensures calls { OnOk result (D.trace (device_of self.new) ≡ after_all (write_in (line_of self.old) n k) (D.trace (device_of self.old))) }
         ensures at_most { Performs (write_in (line_of self.old) n k) (D.trace (device_of self.old)) (D.trace (device_of self.new)) }
         ensures position { (m : Machine) → position_with self.new m ≡ position_with self.old m }
-        ensures keeps { KeepsLog D.trace C.sum_of self.old self.new }
+        ensures keeps { KeepsOne D.trace C.sum_of self.old self.new }
         ensures answers { Answers result None (fault_of self.new) (D.faults (device_of self.old)) (D.faults (device_of self.new)) }
         ensures refused { UnlessFault result (D.trace (device_of self.old)) (D.trace (device_of self.new)) }
         ensures unwritten { OnErr result (WroteNone D.trace self.old self.new) }

@@ -17,6 +17,7 @@ use Rattle.sled_codec.specs.PageTables.{IsTable, entry_of}
 use Rattle.sled_codec.specs.Snapshots.{Entry, Page, page_of}
 use Rattle.sled_store.specs.Script.{Performs, after_all}
 use Rattle.sled_store.proofs.Segments.Elements.{all_from_in, in_cases, in_first, in_rest}
+use Rattle.sled_core.specs.Account.{account_of}
 use Rattle.sled_core.specs.declared.logger.Log.{Log}
 use Rattle.sled_core.specs.declared.reservation.Reservation.{Reservation}
 use Rattle.sled_core.specs.Causes.{FaultAnswers}
@@ -219,6 +220,7 @@ module _ {D C : Type 0} (view : D → DeviceView) (sum : List ℕ → ℕ) (old 
             fits = fits;
             zeros = at.zeros;
             pinned = position.pins ∙ at.pinned;
+            joined = position.joined ∙ at.joined;
             table = subst (λ (ps : List Page). IsTable ps k.history top) (sym pages_are) at.table;
             tickets = spent_tickets (traces view) sum old now k.history k.history k.tickets n m there at.tickets takes.tickets busy batch position.reserved
                 (λ t x awaits apart. kept.awaits t.reservation x awaits) (λ j x apart open_yet none. absurd (failed none)) (λ x ne may. may)
@@ -233,7 +235,7 @@ module _ {D C : Type 0} (view : D → DeviceView) (sum : List ℕ → ℕ) (old 
         pub failed_open : IsOpenAt (traces view) sum now (left k.history)
         failed_open = kept_open e (ap fault_of is ∙ fault)
             (record { awaits = λ t x awaits. subst (λ (y : Log D C). Awaits y t x) (sym is) awaits; opens = ap open_places is; given_up = λ x given. subst (λ (y : Log D C). Contains (given_up_of y) x) is given }) (other_same old.log log (ap line_of is)) (ap noted_in is)
-            (record { position = ap position_of is; reserved = ap reserved_end is; pins = ap pins_of is; size = ap segment_size_of is }) pages_are
+            (record { position = ap position_of is; reserved = ap reserved_end is; pins = ap pins_of is; joined = ap (λ (y : Log D C). (account_of y).mark) is; size = ap segment_size_of is }) pages_are
             (subst (λ (x : Log D C). Fits (traces view) sum x k.history k.acknowledged k.floor at.unmarked) (sym is) at.fits)
 
         pub failed_leads : stands view (Open now) (left k.history) ≡ with_log (stands view (Open old) k) (view (config_of log).device) (Some (spent (seen old k.tickets k.given_up k.heads) n (opens (seen old k.tickets k.given_up k.heads)) (length old.pages.items)))
@@ -325,6 +327,7 @@ module _ {D C : Type 0} (view : D → DeviceView) (sum : List ℕ → ℕ) (old 
           fits = fits;
           zeros = at.zeros;
           pinned = pins ∙ at.pinned;
+          joined = position.joined ∙ at.joined;
           table = table;
           tickets = spent_tickets (traces view) sum old now k.history H' k.tickets n m there at.tickets takes.tickets busy batch position.reserved
               (λ t x awaits apart. others t.reservation x awaits (other_place t.reservation x awaits apart)) safe joins begun
@@ -458,6 +461,7 @@ module _ {D C : Type 0} (view : D → DeviceView) (sum : List ℕ → ℕ) (old 
     fits = subst (λ (x : Log D C). Fits (traces view) sum x k.history k.acknowledged k.floor at.unmarked) (sym kept.log) at.fits;
     zeros = at.zeros;
     pinned = ap pins_of kept.log ∙ at.pinned;
+    joined = ap (λ (x : Log D C). (account_of x).mark) kept.log ∙ at.joined;
     table = subst (λ (ps : List Page). IsTable ps k.history top) (sym kept.pages) at.table;
     tickets = kept_tickets at.tickets;
     given_up = subst (λ (x : Log D C). AreAmong (given_up_of x) k.given_up) (sym kept.log) at.given_up;

@@ -415,6 +415,7 @@ module _ (sum : List ℕ → ℕ) (size : ℕ) where
         after = b;
         step = runs.step;
         crash = runs.crash;
+        own = runs.own;
         leads = λ own.
             let leads = runs.leads own in
             let moves = answered a c runs.came runs.new b (known view sum at.0 a at.2) own runs.step in

@@ -13,6 +13,7 @@ use Rattle.sled_codec.specs.Snapshots.{Free, Page, Present, Uninitialized, page_
 use Rattle.sled_store.specs.Device.{Trace}
 use Rattle.sled_store.proofs.Histories.TableParts.{from_page}
 use Rattle.sled_log.proofs.Sessions.BegunHeads.{heads_kept, only_begun}
+use Rattle.sled_core.specs.Account.{Account}
 use Rattle.sled_core.specs.declared.logger.Log.{Log}
 use Rattle.sled_core.specs.declared.reservation.Reservation.{Reservation}
 use Rattle.sled_core.specs.Buffers.{most_open}
@@ -224,6 +225,7 @@ module _ {D C : Type 0} (view : D → DeviceView) (sum : List ℕ → ℕ) (old 
           fits = kept.keeps.fits k.history k.acknowledged k.floor at.unmarked at.fits;
           zeros = at.zeros;
           pinned = kept.seen.pins ∙ at.pinned;
+          joined = ap (λ (x : Account). x.mark) kept.seen.account ∙ at.joined;
           table = subst (λ p. IsTable (map page_of p.items) k.history top) (sym pages) at.table;
           tickets = has_tickets;
           given_up = λ m given. at.given_up m (kept.behind.given_up m given);

@@ -23,7 +23,9 @@ use Rattle.sled_store.specs.Script.{Performs, after_all}
 use Rattle.sled_store.proofs.Traces.ScriptLemmas.{performs_nothing}
 use Rattle.sled_log.proofs.Sessions.BegunHeads.{begun_with, heads_kept, heads_left, only_begun, other_same}
 use Rattle.sled_core.specs.Begun.{SegmentView}
+use Rattle.sled_core.specs.Account.{Account, account_of}
 use Rattle.sled_core.specs.declared.logger.Log.{Log}
+use Rattle.sled_core.specs.declared.logger.joined_marks.JoinedMarks.{JoinedMarks}
 use Rattle.sled_core.specs.declared.reservation.Reservation.{Reservation}
 use Rattle.sled_core.specs.Buffers.{pointer_as}
 use Rattle.sled_core.specs.Fits.{Awaits, AwaitsIn, FitsInline, IsUnchanged, blob_at, body_length, config_of, device_of, fault_of, given_up_of, in_blob, in_blob_of, message_for, noted_in, open_places, pins_of, reserved_end, segment_size_of, target_of, start_of}
@@ -250,6 +252,7 @@ pub record StillHolds {D C : Type 0} (trace : D → Trace) (sum : List ℕ → �
   pub given_up : AreAmong (given_up_of new) (given_up_of old)
   pub grown : reserved_end old ≤ reserved_end new
   pub pins : pins_of new ≡ pins_of old
+  pub joined : (account_of new).mark ≡ (account_of old).mark
   pub noted : noted_in new ≡ noted_in old
   pub sound : fault_of new ≡ None → fault_of old ≡ None
   pub safe : (m : Message) → IsSafe trace sum old m → IsSafe trace sum new m
@@ -265,6 +268,7 @@ still_at trace sum old new k heads among still pages tickets busy batch at =
       fits = still.fits k.history k.acknowledged k.floor at.unmarked at.fits;
       zeros = at.zeros;
       pinned = still.pins ∙ at.pinned;
+      joined = still.joined ∙ at.joined;
       table = subst (λ p. IsTable (map page_of p.items) k.history top) (sym pages) at.table;
       tickets = record {
         as_many = ap length tickets ∙ at.tickets.as_many;
@@ -306,6 +310,7 @@ unchanged_holds trace sum old new unchanged keeps = record {
   given_up = λ m given. subst (λ (l : List SegmentView). Contains (given_up_along l) m) unchanged.line given;
   grown = let same = unchanged.reserved in omega (arith, same);
   pins = unchanged.pins;
+  joined = ap (λ (x : JoinedMarks). x.joined) unchanged.marks;
   noted = unchanged.noted;
   sound = keeps.goes_on.sound;
   safe = λ m. safe_on trace sum old new m keeps.goes_on;
@@ -324,6 +329,7 @@ ready_holds trace sum old new page n made keeps = record {
   given_up = made.tickets.given_up;
   grown = let end = made.reserved in omega (arith, end);
   pins = made.seen.pins;
+  joined = ap (λ (x : Account). x.mark) made.seen.account;
   noted = made.seen.noted;
   sound = keeps.goes_on.sound;
   safe = λ m. safe_on trace sum old new m keeps.goes_on;
@@ -486,6 +492,7 @@ room_at trace sum old new k room at = still_at trace sum old new k k.heads (subs
     given_up = λ m given. subst (λ x. Contains (given_up_of x) m) room.log given;
     grown = let end = ap reserved_end room.log in omega (arith, end);
     pins = ap pins_of room.log;
+    joined = ap (λ x. (account_of x).mark) room.log;
     noted = ap noted_in room.log;
     sound = λ none. ap fault_of (sym room.log) ∙ none;
     safe = λ m. subst (λ x. IsSafe trace sum x m) (sym room.log);

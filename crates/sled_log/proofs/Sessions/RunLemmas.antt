@@ -1,5 +1,6 @@
 -- What holds at the joints of a run: one trace behind another, what a crash leaves, and how a phase leads to the next one.
-use Rattle.std.proofs.Common.{◌≡◌, ◌∙◌, ◌<◌, ◌≤◌, ◌^◌, ℕ, ℤ, Bool, true, false, if◌then◌else◌, IsTrue, List, [], ◌∷◌, Option, None, Some, refl, sym, ap, subst}
+use Rattle.std.proofs.Common.{◌≡◌, ◌∙◌, ◌<◌, ◌≤◌, ◌^◌, ℕ, ℤ, Bool, true, false, if◌then◌else◌, IsTrue, List, [], ◌∷◌, Option, None, Some, refl, sym, ap, subst, arith}
+use Rattle.std.proofs.lemmas.Int.{ints}
 use Rattle.std.specs.Prelude.{Result, Ok, Err, OnErr, OnOk, is_err, ◌&&◌, ◌↔◌}
 use Rattle.sled_codec.specs.declared.result.Error.{Error}
 use Rattle.sled_codec.specs.declared.result.Error.TheVariants as error
@@ -19,7 +20,7 @@ use Rattle.sled_core.specs.Fits.{config_of, device_of, segment_size_of}
 use Rattle.sled_core.specs.Recoverable.{NoForeign, LeavesRecoverable, ReadsOnlyOwn}
 use Rattle.sled_core.proofs.Start.FreshReady.{fresh_leaves}
 use Rattle.sled_core.proofs.Line.NumbersKept.{fits_leaves}
-use Rattle.sled_core.proofs.PublicLaws.{crash_recoverable as again}
+use Rattle.sled_core.proofs.PublicLaws.{crash_recoverable as again, fits_reads_own}
 use Rattle.sled_log.specs.declared.session.Phase.{Phase}
 use Rattle.sled_log.specs.declared.session.Phase.TheVariants as phase
 use Rattle.sled_log.specs.declared.session.opened.Opened.{Opened}
@@ -32,7 +33,7 @@ use Rattle.sled_log.specs.declared.session.command.Reply.TheVariants as reply
 use Rattle.sled_log.specs.Refusals.{reason_of, refusal_for, when}
 use Rattle.sled_log.specs.RunStates.{DeviceView, RunState}
 use Rattle.sled_log.specs.OpenSteps.{IsCause, IsStartCause}
-use Rattle.sled_log.specs.Runs.{Carries, IsOwn, IsStep, StaysRecoverable, StaysWithin, told}
+use Rattle.sled_log.specs.Runs.{Carries, IsOwn, IsStep, KeepsOwn, StaysRecoverable, StaysWithin, told}
 use Rattle.sled_log.specs.RunPhases.{AnswersIn, CarriesOut, Does, IsAt, IsClosedAt, IsOpenAt, RunsOn, StandsIn, Unstored, device_in, running, size_of, stands, traces}
 use Rattle.sled_log.proofs.Sessions.MadeHistories.{none_made}
 use Rattle.sled_log.proofs.Sessions.Within.{still_there, untouched}
@@ -202,6 +203,13 @@ module _ {D C : Type 0} (view : D → DeviceView) (sum : List ℕ → ℕ) (from
 
 -- A command that is carried out is told, or it was refused.
 module _ {D C : Type 0} (view : D → DeviceView) (sum : List ℕ → ℕ) (from : Phase D C) (c : Command) where
+  -- While a log is open that keeps no failure, what is read is its own.
+  phase_own : (phase : Phase D C) (k : Unstored) → IsAt (traces view) sum phase k → KeepsOwn sum (size_of phase) (stands view phase k)
+  phase_own (phase.Closed config) k at = tt
+  phase_own (phase.Open opened) k at = λ none.
+      fits_reads_own (traces view) sum opened.log k.history k.acknowledged k.floor at.unmarked at.fits none at.zeros
+      (let same = at.joined in omega (arith, ints, same))
+
   -- Where nothing is done a crash leaves what it left.
   here : (phase : Phase D C) (k : Unstored) → IsAt (traces view) sum phase k → StaysRecoverable sum (size_of phase) (stands view phase k) (device_in view phase).trace (device_in view phase).trace
   here (phase.Closed config) k at = still_there sum config.config.segment_size k.history k.acknowledged k.floor (traces view config.device) (traces view config.device) at.left refl
@@ -211,9 +219,9 @@ module _ {D C : Type 0} (view : D → DeviceView) (sum : List ℕ → ℕ) (from
   refused_within k at command.Open = ((device_in view from).trace, here from k at, here from k at)
   refused_within k at d = here from k at
 
-  pub answered : (to : Phase D C) (came : Reply) → CarriesOut view sum from c (to, came) → IsLater (device_in view from).trace (device_in view to).trace
+  pub answered : (to : Phase D C) (came : Reply) → size_of to ≡ size_of from → CarriesOut view sum from c (to, came) → IsLater (device_in view from).trace (device_in view to).trace
       → KeepsToStop (device_in view to).trace (device_in view to).is_stopped → ((k : Unstored) → IsAt (traces view) sum from k → None ≡ refusal_for (stands view from k) c) → AnswersIn view sum from c (to, told (device_in view to).is_stopped came)
-  answered to came carries later stops free a stands_in =
+  answered to came sizes carries later stops free a stands_in =
       let k : Unstored = stands_in.0 in
       let none = free k stands_in.2 in
       let does = carries k stands_in.2 (sym none) in
@@ -227,6 +235,7 @@ module _ {D C : Type 0} (view : D → DeviceView) (sum : List ℕ → ℕ) (from
         after = stands view to does.next;
         step = does.step;
         crash = does.crash;
+        own = λ own. subst (λ n. KeepsOwn sum n (stands view to does.next)) sizes (phase_own to does.next (does.at own));
         leads = λ own. (does.next, refl, does.at own);
       })
     where
@@ -248,6 +257,7 @@ module _ {D C : Type 0} (view : D → DeviceView) (sum : List ℕ → ℕ) (from
         after = stands view from k;
         step = (refl, refl);
         crash = λ own. refused_within k stands_in.2 c;
+        own = λ own. phase_own from k stands_in.2;
         leads = λ own. (k, refl, stands_in.2);
       })
     where

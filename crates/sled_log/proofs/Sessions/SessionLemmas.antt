@@ -50,6 +50,7 @@ carries_over sum size a c r over carries = record {
   after = carries.after;
   step = carries.step;
   crash = carries.crash;
+  own = carries.own;
   leads = λ own. over carries.after (carries.leads own);
 }
 

@@ -584,6 +584,7 @@ module _ {D C : Type 0} (trace : D → Trace) (sum : List ℕ → ℕ) (opened :
     fits = fits;
     zeros = at.zeros;
     pinned = position.pins ∙ at.pinned;
+    joined = position.joined ∙ at.joined;
     table = at.table;
     tickets = record {
       as_many = at.tickets.as_many;

@@ -7,6 +7,7 @@ use Rattle.sled_codec.specs.History.{History, Message, table}
 use Rattle.sled_store.specs.Marks.{slot_with}
 use Rattle.sled_store.specs.SegmentStates.{Machine, active_among, active_place, deactivated, in_turn, is_active, is_due, is_free, slot_at, stabilized}
 use Rattle.sled_store.specs.Tracked.{IsAccountOf, IsHeld, IsNoEntry}
+use Rattle.sled_store.specs.inside.SegmentStates.{NoneDue}
 use Rattle.sled_store.proofs.Histories.Ascending.{Ascends}
 use Rattle.sled_store.proofs.Segments.Elements.{all_from_in, none_kept}
 use Rattle.sled_store.proofs.Segments.TableEntries.{from_table}
@@ -41,11 +42,7 @@ module _ (size base : ℕ) (H : History) (m : Machine) (t : IsAccountOf size bas
       (λ x there none cut low. none cut (omega (arith, low, le))))
       active lsn below
 
--- nothing is due for a mark
-abbrev pub NoneDue : ℕ → ℤ → Machine → Type 0
-NoneDue size mark m = (k : ℕ) → is_active (slot_at m k).state ≡ true → is_due size mark (slot_at m k).lsn ≡ false
-
--- Then the step does nothing.
+-- Where nothing is due the step does nothing.
 pub none_stabilized : (size : ℕ) (mark : ℤ) (m : Machine) → NoneDue size mark m → stabilized size mark m ≡ record { machine = m; calls = [] }
 none_stabilized size mark m none =
     ap (λ (due : List (ℕ × ℕ)). in_turn (deactivated size) due m)

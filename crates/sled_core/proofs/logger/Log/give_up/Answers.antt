@@ -101,7 +101,7 @@ returns-clause-keeps g c =
           old.fault.kept (line_of old) n f.segment f.among
           old.segments.first.site.place (nth_facts old) i f.reserved f.there f.own.open_yet (machine_of old.accountant) (noted_in old) (logged H) holds.shows);
       fits = λ H A r U fits. ticket_fits (own g c) c.abort_in.ensures.rest g.D.Device.trace g.C.Checksum.sum_of H A r U
-          fits.hides fits.marked fits.passed fits.rests
+          fits.hides fits.marked fits.passed fits.clean fits.rests
           (fits_aborted g.C.Checksum.sum_of old.config.config.segment_size (shown_of g.D.Device.trace old)
           old.fault.kept (line_of old) n f.segment f.among
           old.segments.first.site.place (nth_facts old) i f.reserved f.there f.own.open_yet (machine_of old.accountant) (noted_in old) old.pins H A r U fits.shows);

@@ -32,7 +32,7 @@ returns-clause-log g c =
           kept = omega arith;
         };
         tickets = record { awaits = λ ticket m awaits. awaits; opens = refl; given_up = λ m there. there };
-        position = record { position = ap (λ n. position_in n (current_of old) (machine_of old.accountant)) size; reserved = refl; pins = refl; size = size };
+        position = record { position = ap (λ n. position_in n (current_of old) (machine_of old.accountant)) size; reserved = refl; pins = refl; joined = refl; size = size };
         buffers = record { waiting = refl; start = refl };
         heads = λ h there. there;
         fillings = λ f there. there;

@@ -17,6 +17,7 @@ use Rattle.sled_store.specs.declared.segment.start.Beginning.{Beginning}
 use Rattle.sled_store.specs.Script.{after_all}
 use Rattle.sled_store.specs.Begin.{IsStartable, beginning_of, offset_at, place_at, slots_of, unused}
 use Rattle.sled_store.specs.SegmentStates.{Machine}
+use Rattle.sled_store.specs.inside.SegmentStates.{NoneDue}
 use Rattle.sled_store.specs.SnapshotFiles.{BeginsFrom}
 use Rattle.sled_store.specs.Started.{started}
 use Rattle.std.proofs.lemmas.Bool.Decides.{nat_tests}
@@ -67,6 +68,7 @@ use Rattle.sled_core.proofs.OwnLog.StartedDevice.{started_placed}
 use Rattle.sled_core.proofs.Start.BegunSlots.{begun_slots}
 use Rattle.sled_core.proofs.Start.OlderStarted.{start_whole}
 use Rattle.sled_core.proofs.Start.StartedAccount.{start_account, start_in_slots, start_place}
+use Rattle.sled_core.proofs.Start.StartedDue.{begun_idle, floor_low}
 use Rattle.sled_core.proofs.Start.StartedMoments.{started_throughout}
 use Rattle.sled_core.proofs.Start.ReadyStarts.{ready_starts}
 use Rattle.sled_core.proofs.Start.StartFits.{start_fits}
@@ -96,6 +98,12 @@ start_slots size same some s old now startable file v at {m} machine =
     subst (λ n. HasSlots n (v ∷ []) now None m) (sym same)
     (subst (λ (l : List ℕ). HasSlots size (v ∷ []) l None m) (sym file)
     (subst (λ (x : Machine). HasSlots size (v ∷ []) (started_file size old s) None x) (sym machine) (begun_slots size some old s None startable v at)))
+
+-- and no active segment is due for a floor that isn't above the place of the snapshot
+start_idle : (size : ℕ) {size' : ℕ} → size' ≡ size → 0 < size → (s : SnapshotModel) (len : ℕ) → IsStartable size len s → {m : Machine}
+    → m ≡ begun_machine size len s → (f : ℕ) → f ≤ stable_place s.stable → NoneDue size' (pos f) m
+start_idle size same some s len startable {m} machine f low =
+    subst (λ n. NoneDue n (pos f) m) (sym same) (subst (λ (x : Machine). NoneDue size (pos f) x) (sym machine) (begun_idle size len s some startable f low))
 
 -- The segment in which a log begins has more than its header only where that was written, and what was reserved ends there.
 first_used : (sum : List ℕ → ℕ) (place offset : ℕ) (b : IoBuf) → IsFirstBuffer sum place offset b → IsUsedToEnd (place + offset) place (length b.bytes.items)
@@ -240,7 +248,12 @@ returns-in-Ok-clause-fits g c = λ H A f ready.
     (start_fits g.C.Checksum.sum_of size (state_of old) now s H A f c.args.config.config.least ready c.in-Ok.ensures.answers.0
     log_now (ap (λ (t : Trace). (state_of t).blobs) c.in-Ok.ensures.made ∙ started-blobs size some (state_of old).log.bytes s old) (ap (λ (t : Trace). (state_of t).snapshots) c.in-Ok.ensures.made ∙ started-snapshots size some (state_of old).log.bytes s old)
     marks at c.in-Ok.beginning c.in-Ok.ensures.beginning c.in-Ok.buffer.bytes.items c.in-Ok.buffer.written_len c.in-Ok.buffer.sealed.items c.in-Ok.buffer.reserved.items first.header first.resumed first.from first.sealed first.reserved)) in
-    fits_begun g.C.Checksum.sum_of _ (omega (arith, c.args.config.config.least, same)) (g.D.Device.trace c.begin.new.config.device) _ _ _ marks _ H A f [] began_at (record {
+    fits_begun g.C.Checksum.sum_of _ (omega (arith, c.args.config.config.least, same)) (g.D.Device.trace c.begin.new.config.device) _ _ _ marks _ H A f []
+    began_at
+    (start_idle size same some s (length (state_of old).log.bytes) c.in-Ok.ensures.answers.0 c.in-Ok.ensures.machine f
+    (let low = floor_low g.C.Checksum.sum_of size old (logged H) f ready.ready.first ready.own_names.of_snapshots ready.names in
+    let place = ap stable_place ready.ready.same_place in omega (arith, low, place)))
+    (record {
       reach = c.in-Ok.beginning.place + c.in-Ok.beginning.offset;
       parts = parts;
       batches = started_batches c.begin.new.config.config.segment_size (view_at (record { place = c.in-Ok.beginning.place; slot = c.in-Ok.beginning.slot }) c.in-Ok.buffer) (map segment_view c.no_segments.result.items) (logged H) c.new-in-Ok.ensures.noted

@@ -20,7 +20,7 @@ use Rattle.sled_core.specs.inside.Turned.{FreesSlots, mark_of, promoted, write_i
 use Rattle.sled_core.specs.Keeps.{FailedStep}
 use Rattle.sled_core.specs.Ledger.{ledger_step, marked_ledger, stepped_ledger, written_step}
 use Rattle.sled_core.proofs.Line.AccountBehind.{account_same, ledger_same}
-use Rattle.sled_core.proofs.Line.KeptCalls.{failed_over, log_writing, spared_same, writing_further}
+use Rattle.sled_core.proofs.Line.KeptCalls.{failed_over, one_writing, writing_further}
 use Rattle.sled_core.proofs.Line.LogSpans.{same_with}
 use Rattle.sled_core.proofs.Line.Outcomes.{all_err, all_ok, on_err, on_ok}
 use Rattle.sled_core.proofs.logger.Log.write_buffer.Goals as goal
@@ -92,7 +92,7 @@ returns-in_err-write_one-clause-keeps g c =
     let old = c.args.self.now in
     let mid = c.write_one.new.self in
     let did = c.write_one.ensures in
-    log_writing g.D.Device.trace g.C.Checksum.sum_of old mid did.keeps (spared_same old mid did.machine did.keeps.position.pins)
+    one_writing g.D.Device.trace g.C.Checksum.sum_of old mid did.keeps did.machine
 
 pub returns-in_err-write_one-clause-unwritten : goal.returns-in_err-write_one-clause-unwritten
 returns-in_err-write_one-clause-unwritten g c =
@@ -160,7 +160,7 @@ returns-clause-keeps g c =
     let mid = c.write_one.new.self in
     let did = c.in_ok-write_one.ensures in
     writing_further g.D.Device.trace g.C.Checksum.sum_of old mid c.free_segments.new.self
-    (log_writing g.D.Device.trace g.C.Checksum.sum_of old mid did.keeps (spared_same old mid did.machine did.keeps.position.pins)) c.free_segments.ensures.keeps
+    (one_writing g.D.Device.trace g.C.Checksum.sum_of old mid did.keeps did.machine) c.free_segments.ensures.keeps
 
 pub returns-clause-answers : goal.returns-clause-answers
 returns-clause-answers g c =

@@ -22,7 +22,10 @@ use Rattle.sled_core.specs.declared.logger.Log.{Log}
 use Rattle.sled_core.specs.Fronts.{WroteNone}
 use Rattle.sled_core.specs.HeaderMark.{greater_mark}
 use Rattle.sled_core.specs.inside.Fits.{written_to}
-use Rattle.sled_core.specs.Fits.{AwaitsIn, line_of, noted_in, position_with, segment_size_of}
+use Rattle.sled_core.specs.Fits.{AwaitsIn, line_of, noted_in, pins_of, position_with, segment_size_of}
+use Rattle.sled_core.specs.Keeps.{SamePosition}
+use Rattle.sled_core.proofs.Line.KeptCalls.{position_place}
+use Rattle.std.proofs.lemmas.Bool.Decides.{nat_tests}
 use Rattle.sled_core.specs.invariants.Fits.{Holds}
 use Rattle.sled_core.specs.GivenUp.{given_up_along}
 use Rattle.sled_core.specs.Logged.{logged, in_log}
@@ -146,7 +149,7 @@ returns-in_err-write_bytes-clause-keeps g c = record {
       }
       );
   tickets = search rules;
-  position = search rules;
+  position = (let same : SamePosition c.args.self.now c.write_bytes.new.self = search rules in position_place c.args.self.now c.write_bytes.new.self same);
 }
 
 pub returns-in_err-write_bytes-clause-position : goal.returns-in_err-write_bytes-clause-position
@@ -302,9 +305,15 @@ returns-clause-keeps g c = record {
       let r = c.requires.ready in
       let at = position_kept old c.args.n c.args.k r (machine_of mid.accountant) (machine_of old.accountant) (kept_size old mid rest) (returns-clause-line g c r.segment r.among) (ap machine_of rest.accountant) in
       record {
-        position = at;
+        place = ap (λ (q : Position). q.place) at;
+        pinned = λ pinned. at;
         reserved = rest.reserved;
         pins = rest.pins;
+        joined = λ pinned.
+            let out : nat_lt 0 (pins_of mid) ≡ true = (let same = rest.pins in grind (arith, nat_tests, pinned, same)) in
+            c.note_mark.ensures.joined
+            ∙ ap (λ (o : Bool). if o then mid.marks.joined else greater_mark c.mark_of-mark.result mid.marks.durable) out
+            ∙ ap (λ (x : JoinedMarks). x.joined) rest.marks;
         size = kept_size old mid rest;
       }
       );

@@ -102,6 +102,7 @@ returns-in-Ok-clause-step g c = λ k at free.
       zeros = own.zeros;
       active = subst (λ n. ShowsActive n cut s.active) (sym sizes) active;
       ready = subst (λ n. Ready sum n (state_of mid.trace) s H' k.acknowledged cut) (sym sizes) (c.in-Ok.ensures.ready k.history k.acknowledged k.floor can);
+      floor = refl;
       table = table_below k.history cut s.pages (low_place c.in-Ok.snapshot.stable_lsn (λ z is. search rules)) good.table;
       ends = all_from_in (λ m. m.place + m.size ≤ cut) H'.messages (λ m there. let found = from_below k.history cut m there in good.fits.messages m found.0 found.1);
     } in

@@ -8,7 +8,7 @@ use Rattle.sled_codec.specs.Record.{short_header}
 use Rattle.sled_log.specs.RunStates.{MarkAt, heads_on}
 use Rattle.sled_log.specs.WriteSteps.{headed}
 use Rattle.sled_store.proofs.Segments.Elements.{in_first, in_nothing}
-use Rattle.sled_core.specs.Account.{account_of}
+use Rattle.sled_core.specs.Account.{Account, account_of}
 use Rattle.sled_core.specs.OpenBatches.{stable_below}
 use Rattle.sled_core.specs.Starts.{start_from}
 use Rattle.sled_core.specs.Heads.{HeadAt}
@@ -75,6 +75,7 @@ returns-in-Ok-clause-starts g c = λ H A f at.
         fits = c.pin-guard.ensures.keeps.fits H A f [] (c.in-Ok.ensures.fits H A f at.ready);
         zeros = at.zeros;
         pinned = pinned;
+        joined = ap (λ (x : Account). x.mark) account ∙ ap pos (sym at.floor);
         table = at.table;
         tickets = record {
           as_many = search rules;

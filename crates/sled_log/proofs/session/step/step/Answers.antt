@@ -1,5 +1,6 @@
 -- A command is refused, or carried out and told.
-use Rattle.std.proofs.Common.{sym, subst}
+use Rattle.std.proofs.Common.{ap, sym, subst}
+use Rattle.sled_store.specs.declared.config.Config.{Config}
 use Rattle.sled_log.specs.declared.session.command.Reply.{Reply}
 use Rattle.sled_log.specs.declared.session.command.Reply.TheVariants as reply
 use Rattle.sled_log.specs.Devices.{is_open}
@@ -18,7 +19,7 @@ returns-clause-step g c =
     let view = view_by g.D.Device.trace g.D.Device.faults g.D.CrashDevice.is_stopped in
     let next = c.carry_out-next.result in
     subst (λ (r : Reply). AnswersIn view g.C.Checksum.sum_of c.args.phase c.args.command.now (next.0, r)) (sym c.tell-told.ensures.told)
-    (answered view g.C.Checksum.sum_of c.args.phase c.args.command.now next.0 next.1 c.carry_out-next.ensures.step c.carry_out-next.ensures.on.later c.tell-told.ensures.asked c.in_default.ensures.why)
+    (answered view g.C.Checksum.sum_of c.args.phase c.args.command.now next.0 next.1 (ap (λ (x : Config). x.segment_size) c.carry_out-next.ensures.on.kept.config) c.carry_out-next.ensures.step c.carry_out-next.ensures.on.later c.tell-told.ensures.asked c.in_default.ensures.why)
 
 pub returns-in-Some-clause-device : goal.returns-in-Some-clause-device
 returns-in-Some-clause-device g c =
