@@ -106,7 +106,7 @@ module _ (sum : List ℕ → ℕ) (size n most : ℕ) (old mid : Trace) (s : Sna
   module _ {D C : Type 0} (trace : D → Trace) (log : Log D C) (len : ℕ) (begins : BeginsBehind size len s log) (some : 0 < size) (fits : Fits trace sum log has.history has.acknowledged place [])
       (start : LeavesOnly (RecoverableIfOwn sum size has.history has.acknowledged place) mid (trace (device_of log))) where
     -- has the table,
-    pub begun_table : HasTable trace sum log s.pages has.history place
+    begun_table : HasTable trace sum log s.pages has.history place
     begun_table = record {
       acknowledged = has.acknowledged;
       floor = place;
@@ -118,12 +118,12 @@ module _ (sum : List ℕ → ℕ) (size n most : ℕ) (old mid : Trace) (s : Sna
     }
 
     -- and gives from n while it goes on,
-    pub going_on : (next : Log D C) → GoesOn trace sum log next → Throughout (GivesFrom sum size n most) old (trace (device_of next))
+    going_on : (next : Log D C) → GoesOn trace sum log next → Throughout (GivesFrom sum size n most) old (trace (device_of next))
     going_on next goes = joined (GivesFrom sum size n most) old (trace (device_of log)) (trace (device_of next)) (starting (trace (device_of log)) start)
         (gives (trace (device_of log)) (trace (device_of next)) (subst (λ k. LeavesOnly (RecoverableIfOwn sum k has.history has.acknowledged place) (trace (device_of log)) (trace (device_of next))) begins.sized (goes.crash has.history has.acknowledged place [] fits)))
 
     -- from the bound that is found in it, which is no lower than what was reserved and no higher than all.
-    pub found_bounds : (v : ℕ) → IsLastBound has.history place v → (next : Log D C) → Preserves trace sum log next → HasBounds trace sum next v v × (n ≤ v) × (v ≤ most)
+    found_bounds : (v : ℕ) → IsLastBound has.history place v → (next : Log D C) → Preserves trace sum log next → HasBounds trace sum next v v × (n ≤ v) × (v ≤ most)
     found_bounds v found next keeps = (
       record {
         history = has.history;
@@ -154,6 +154,34 @@ module _ (sum : List ℕ → ℕ) (size n most : ℕ) (old mid : Trace) (s : Sna
         | inr x ↦ has.greatest x.0 v x.1.there x.1.has
       ],
     )
+
+-- A log that was started on what a recovery gave of a device that gives on.
+pub record HasBegun {D C : Type 0} (trace : D → Trace) (sum : List ℕ → ℕ) (size n most : ℕ) (old : Trace) (s : SnapshotModel) (log : Log D C) : Type 0 where
+  pub history : History
+  pub table : HasTable trace sum log s.pages history (stable_place s.stable)
+  -- the device gives on while the log goes on
+  pub gives : (next : Log D C) → GoesOn trace sum log next → Throughout (GivesFrom sum size n most) old (trace (device_of next))
+  -- the generator begins with the bound that is found
+  pub bounds : (v : ℕ) → IsLastBound history (stable_place s.stable) v → (next : Log D C) → Preserves trace sum log next
+      → HasBounds trace sum next v v × (n ≤ v) × (v ≤ most)
+
+pub has_begun : {D C : Type 0} {trace : D → Trace} {log : Log D C} {len : ℕ} (sum : List ℕ → ℕ) (size n most : ℕ) (old mid : Trace) (s : SnapshotModel)
+    (again : ℕ) → again ≡ size → HasRecovered sum again n most (state_of mid) s × Throughout (GivesFrom sum again n most) old mid
+    → BeginsBehind again len s log → 0 < again
+    → ((H : History) (A f : ℕ) → Ready sum again (state_of mid) s H A f → Fits trace sum log H A f [])
+    → ((H : History) (A f : ℕ) → Ready sum again (state_of mid) s H A f → LeavesOnly (RecoverableIfOwn sum again H A f) mid (trace (device_of log)))
+    → HasBegun trace sum size n most old s log
+has_begun {trace = trace} {log = log} {len = len} sum size n most old mid s again same its begins some fits start =
+    let has = its.0 in
+    let fits_it = fits has.history has.acknowledged (stable_place s.stable) has.ready in
+    let leaves = start has.history has.acknowledged (stable_place s.stable) has.ready in
+    record {
+      history = has.history;
+      table = begun_table sum again n most old mid s has its.1 trace log len begins some fits_it leaves;
+      gives = λ next goes. subst (λ k. Throughout (GivesFrom sum k n most) old (trace (device_of next))) same
+          (going_on sum again n most old mid s has its.1 trace log len begins some fits_it leaves next goes);
+      bounds = found_bounds sum again n most old mid s has its.1 trace log len begins some fits_it leaves;
+    }
 
 -- What was asked of the device, whatever that has. The configuration that a recovery leaves says the size of segments once more.
 module _ (sum : List ℕ → ℕ) (size again : ℕ) (same : again ≡ size) (old mid new : Trace) (s : SnapshotModel) (recovers : Restores sum size old mid s) where

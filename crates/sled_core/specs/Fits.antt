@@ -308,8 +308,8 @@ EndBelow place = All (λ m. (m.place < place) × (m.place + m.size ≤ place))
 abbrev pub CloseBelow : ℕ → List Batch → Type 0
 CloseBelow place = All (λ b. (b.low < place) × (b.peg < place))
 
--- A log has the record of a message: it is of a segment that isn't wholly on the device, or an entry of a table from the mark on that joined, or of the table of
--- all that was written, or of more. (Where the log holds a history, the mark isn't above what is written, so the latter tables are among the former.)
+-- A log has the record of a message: it is of a segment that isn't wholly on the device, or an entry of a table from the mark on that joined, or of the
+-- table of all that was written, or of more. (Where the log holds a history, the mark isn't above what is written, so the latter are among the former.)
 abbrev pub HasRecordOf : {D C : Type 0} → Log D C → History → Message → Type 0
 HasRecordOf log H m =
     (log.segments.first.site.place ≤ m.place)

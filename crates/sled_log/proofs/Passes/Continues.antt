@@ -42,9 +42,11 @@ module _ (sum : List ℕ → ℕ) (size : ℕ) (log : List ℕ) (blobs : ℤ →
       begins = begins_there size stable begin first ordering at ends
 
       -- It is damaged,
-      pub behind_damaged : (n : ℕ) → IsDamagedTail sum size log blobs (take (length ordering - n) (drop n ordering)) begin → ContinuesFrom sum size log blobs first Damaged
-      behind_damaged n damaged = comes_damaged (subst (IsDamagedTail sum size log blobs ordering) begins
-          (damaged_of_all sum size log blobs n ordering begin (subst (λ (l : List Segment). IsDamagedTail sum size log blobs l begin) (sliced ordering n) damaged)))
+      pub behind_damaged : (n : ℕ) → IsDamagedTail sum size log blobs (take (length ordering - n) (drop n ordering)) begin
+          → ContinuesFrom sum size log blobs first Damaged
+      behind_damaged n damaged =
+          let all = subst (λ (l : List Segment). IsDamagedTail sum size log blobs l begin) (sliced ordering n) damaged in
+          comes_damaged (subst (IsDamagedTail sum size log blobs ordering) begins (damaged_of_all sum size log blobs n ordering begin all))
 
       -- or was read to its end, and none of those before the index lies where it begins, or behind that.
       module _ (n : ℕ) (scanned : List Scanned) (below : All (λ s. s.place < begin) (take n ordering))
@@ -57,7 +59,9 @@ module _ (sum : List ℕ → ℕ) (size : ℕ) (log : List ℕ) (blobs : ℤ →
         its_tail = subst (λ k. IsTail sum size log ordering k scanned) begins whole
 
         pub behind_bad : MeetsBadTail sum blobs scanned → ContinuesFrom sum size log blobs first Damaged
-        behind_bad bad = comes_damaged (subst (IsDamagedTail sum size log blobs ordering) begins (damaged_blob sum size log blobs ordering begin scanned whole bad))
+        behind_bad bad =
+            let damaged = damaged_blob sum size log blobs ordering begin scanned whole bad in
+            comes_damaged (subst (IsDamagedTail sum size log blobs ordering) begins damaged)
 
         pub behind_unchanged : tail_end scanned ≡ None → ContinuesFrom sum size log blobs first (Recovered (unchanged first (slots_of ordering)))
         behind_unchanged none = comes_unchanged scanned its_tail (none_bad sum blobs scanned none) none

@@ -104,7 +104,8 @@ returns-in_ok-slots_of-in-None-clause-ok g c =
     let is : result_of c.unchanged.result ≡ unchanged first (slots_of ss) = c.unchanged.ensures ∙ ap (unchanged first) c.in_ok-slots_of-in-None.ensures.slots in
     subst (λ x. ContinuesFrom sum size log blobs first (Recovered x)) (sym is)
     (behind_unchanged sum size log blobs first ss c.requires.ordering c.tail_begins-begin.ensures c.stable_place.ensures.place
-    c.count_below-from.result (map pass_of c.in-Ok.tail.passes.items) c.count_below-from.ensures.below c.in-Ok.ensures.tail (c.in-Ok.ensures.end ∙ c.in-None.is))
+    c.count_below-from.result (map pass_of c.in-Ok.tail.passes.items) c.count_below-from.ensures.below c.in-Ok.ensures.tail
+    (c.in-Ok.ensures.end ∙ c.in-None.is))
 
 pub returns-in-Err-clause-corrupt : goal.returns-in-Err-clause-corrupt
 returns-in-Err-clause-corrupt g c = λ corrupt.

@@ -1,4 +1,4 @@
-use Rattle.std.proofs.Common.{rules, ◌∙◌, inl, inr, ◌<◌, ◌^◌, ℕ, ap, refl, subst, sym, arith}
+use Rattle.std.proofs.Common.{rules, ◌≡◌, ◌∙◌, inl, inr, ◌<◌, ◌^◌, ℕ, ap, refl, subst, sym, arith}
 use Rattle.sled_codec.specs.Snapshots.{model_of, stable_place}
 use Rattle.sled_store.specs.Device.{Trace, state_of}
 use Rattle.sled_store.specs.Moments.{IsLater, Throughout}
@@ -7,13 +7,16 @@ use Rattle.sled_core.specs.Fits.{device_of, fault_of, open_places, pins_of, posi
 use Rattle.sled_core.proofs.Blobs.FirmContent.{read_recoverable}
 use Rattle.sled_core.proofs.PublicLaws.{kept_further, none_is_empty}
 use Rattle.ids.specs.Bounds.{GivesFrom}
+use Rattle.ids.specs.Generators.{CanOpen}
 use Rattle.ids.specs.Openings.{OpenFails}
 use Rattle.ids.specs.Readings.{CountsError, IsBoundRead}
 use Rattle.ids.proofs.FirstPlaces.{begins_past, first_below}
 use Rattle.ids.proofs.Generating.{has_generates}
 use Rattle.ids.proofs.ReadLemmas.{known_there}
-use Rattle.ids.proofs.Opening.{begins_idle, begun_table, can_recover, found_bounds, going_on, not_read, not_started, recovered, recovering, recovery_fails, sized_back, start_fails, starting, was_opened}
+use Rattle.ids.proofs.Opening.{HasBegun, HasRecovered, begins_idle, can_recover, has_begun, not_read, not_started, recovered, recovering, recovery_fails, sized_back, start_fails, starting, was_opened}
+use Rattle.ids.proofs.generator.IdGenerator.open.Given as given
 use Rattle.ids.proofs.generator.IdGenerator.open.Goals as goal
+use Rattle.ids.proofs.generator.IdGenerator.open.Goals.{After-start, In-Ok-start}
 
 -- The recovery failed.
 
@@ -43,32 +46,44 @@ returns-in-Err-clause-acts g c = inl (record {
   answers = c.in-Err.ensures.answers;
 })
 
+-- It gave back what it recovered, of a device that gives on.
+
+same_size : (g : given.Over) (c : goal.After-start g) → c.read_snapshot_or_default.new.config.config.segment_size ≡ c.args.config.config.segment_size
+same_size g c = ap (λ x. x.segment_size) c.in-Ok.ensures.config.config
+
+given_back : (g : given.Over) (c : goal.After-start g) (n most : ℕ)
+    → CanOpen g.C.Checksum.sum_of c.args.config.config.segment_size n most (state_of (g.D.Device.trace c.args.config.device))
+    → let again : ℕ = c.read_snapshot_or_default.new.config.config.segment_size in
+    let mid = g.D.Device.trace c.read_snapshot_or_default.new.config.device in
+    HasRecovered g.C.Checksum.sum_of again n most (state_of mid) (model_of c.in-Ok.snapshot)
+    × Throughout (GivesFrom g.C.Checksum.sum_of again n most) (g.D.Device.trace c.args.config.device) mid
+given_back g c n most can =
+    let mid = c.read_snapshot_or_default.new.config in
+    recovered g.C.Checksum.sum_of c.args.config.config.segment_size n most (g.D.Device.trace c.args.config.device) (g.D.Device.trace mid.device) can
+    (model_of c.in-Ok.snapshot) mid.config.segment_size (same_size g c) c.in-Ok.ensures.recoverable c.in-Ok.ensures.good c.in-Ok.ensures.ready
+
 -- No log was started.
 
 pub returns-in-Err-start-clause-keeps : goal.returns-in-Err-start-clause-keeps
 returns-in-Err-start-clause-keeps g c = λ n most can.
     let trace = g.D.Device.trace in
     let sum = g.C.Checksum.sum_of in
-    let size : ℕ = c.args.config.config.segment_size in
     let old = trace c.args.config.device in
-    let config = c.read_snapshot_or_default.new.config in
+    let mid = c.read_snapshot_or_default.new.config in
     let s = model_of c.in-Ok.snapshot in
-    let same = ap (λ x. x.segment_size) c.in-Ok.ensures.config.config in
-    let r = recovered sum size n most old (trace config.device) can s config.config.segment_size same c.in-Ok.ensures.recoverable c.in-Ok.ensures.good c.in-Ok.ensures.ready in
-    sized_back sum size n most old (trace config.device) can s config.config.segment_size same (trace c.in-Err-start.refused.1.device)
-    (starting sum config.config.segment_size n most old (trace config.device) s r.0 r.1 (trace c.in-Err-start.refused.1.device) (c.in-Err-start.ensures.crash r.0.history r.0.acknowledged (stable_place s.stable) r.0.ready))
+    let end = trace c.in-Err-start.refused.1.device in
+    let at = (goal.at.returns-in-Err-start-clause-keeps g c).After-start in
+    let r = given_back g at n most can in
+    sized_back sum c.args.config.config.segment_size n most old (trace mid.device) can s mid.config.segment_size (same_size g at) end
+    (starting sum mid.config.segment_size n most old (trace mid.device) s r.0 r.1 end
+    (c.in-Err-start.ensures.crash r.0.history r.0.acknowledged (stable_place s.stable) r.0.ready))
 
 pub returns-in-Err-start-clause-fails : goal.returns-in-Err-start-clause-fails
 returns-in-Err-start-clause-fails g c = λ n most can.
-    let trace = g.D.Device.trace in
-    let sum = g.C.Checksum.sum_of in
-    let size : ℕ = c.args.config.config.segment_size in
-    let old = trace c.args.config.device in
-    let config = c.read_snapshot_or_default.new.config in
     let s = model_of c.in-Ok.snapshot in
-    let same = ap (λ x. x.segment_size) c.in-Ok.ensures.config.config in
-    let r = recovered sum size n most old (trace config.device) can s config.config.segment_size same c.in-Ok.ensures.recoverable c.in-Ok.ensures.good c.in-Ok.ensures.ready in
-    start_fails c.in-Err-start.refused.0 _ _ _ _ _ (c.in-Err-start.ensures.starts r.0.history r.0.acknowledged (stable_place s.stable) r.0.ready) c.in-Err-start.ensures.answers
+    let has = (given_back g (goal.at.returns-in-Err-start-clause-fails g c).After-start n most can).0 in
+    start_fails c.in-Err-start.refused.0 _ _ _ _ _ (c.in-Err-start.ensures.starts has.history has.acknowledged (stable_place s.stable) has.ready)
+    c.in-Err-start.ensures.answers
 
 pub returns-in-Err-start-clause-acts : goal.returns-in-Err-start-clause-acts
 returns-in-Err-start-clause-acts g c =
@@ -100,23 +115,26 @@ invariant_of-result g c =
       ended = ap open_places taken ∙ c.read_bound.ensures.only.tickets.opens ∙ (none_is_empty c.in-Ok-start.log).0 c.in-Ok-start.ensures.begins.ended;
     }
 
+-- the log as it was started
+started : (g : given.Over) (c : goal.In-Ok-start g) (n most : ℕ)
+    → CanOpen g.C.Checksum.sum_of c.args.config.config.segment_size n most (state_of (g.D.Device.trace c.args.config.device))
+    → HasBegun g.D.Device.trace g.C.Checksum.sum_of c.args.config.config.segment_size n most (g.D.Device.trace c.args.config.device)
+    (model_of c.in-Ok.snapshot) c.in-Ok-start.log
+started g c n most can =
+    let config = c.read_snapshot_or_default.new.config in
+    let least = config.config.least in
+    has_begun g.C.Checksum.sum_of c.args.config.config.segment_size n most (g.D.Device.trace c.args.config.device) (g.D.Device.trace config.device)
+    (model_of c.in-Ok.snapshot) config.config.segment_size (same_size g c.before) (given_back g c.before n most can) c.in-Ok-start.ensures.begins
+    (omega (arith, least)) c.in-Ok-start.ensures.fits c.in-Ok-start.ensures.crash
+
 pub returns-in-Ok-read_bound-clause-opens : goal.returns-in-Ok-read_bound-clause-opens
 returns-in-Ok-read_bound-clause-opens g c = λ n most can.
     let trace = g.D.Device.trace in
     let sum = g.C.Checksum.sum_of in
-    let size : ℕ = c.args.config.config.segment_size in
-    let old = trace c.args.config.device in
-    let config = c.read_snapshot_or_default.new.config in
-    let s = model_of c.in-Ok.snapshot in
-    let same = ap (λ x. x.segment_size) c.in-Ok.ensures.config.config in
-    let r = recovered sum size n most old (trace config.device) can s config.config.segment_size same c.in-Ok.ensures.recoverable c.in-Ok.ensures.good c.in-Ok.ensures.ready in
-    let least = config.config.least in
-    let log = c.in-Ok-start.log in
-    let fits = c.in-Ok-start.ensures.fits r.0.history r.0.acknowledged (stable_place s.stable) r.0.ready in
-    let start = c.in-Ok-start.ensures.crash r.0.history r.0.acknowledged (stable_place s.stable) r.0.ready in
-    let found = c.in-Ok-read_bound.ensures.found r.0.history (stable_place s.stable) (begun_table sum config.config.segment_size n most old (trace config.device) s r.0 r.1 trace log _ c.in-Ok-start.ensures.begins (omega (arith, least)) fits start) in
-    let both = kept_further trace sum log c.read_bound.new.log c.pin-guard.new.self c.read_bound.ensures.only.keeps c.pin-guard.ensures.keeps in
-    let bounds = found_bounds sum config.config.segment_size n most old (trace config.device) s r.0 r.1 trace log _ c.in-Ok-start.ensures.begins (omega (arith, least)) fits start c.in-Ok-read_bound.bound found c.pin-guard.new.self both in
+    let place : ℕ = stable_place (model_of c.in-Ok.snapshot).stable in
+    let b = started g (goal.at.returns-in-Ok-read_bound-clause-opens g c).In-Ok-start n most can in
+    let both = kept_further trace sum c.in-Ok-start.log c.read_bound.new.log c.pin-guard.new.self c.read_bound.ensures.only.keeps c.pin-guard.ensures.keeps in
+    let bounds = b.bounds c.in-Ok-read_bound.bound (c.in-Ok-read_bound.ensures.found b.history place b.table) c.pin-guard.new.self both in
     (has_generates trace sum _ bounds.0, bounds.1, bounds.2)
 
 pub returns-in-Ok-read_bound-clause-begins : goal.returns-in-Ok-read_bound-clause-begins
@@ -124,20 +142,10 @@ returns-in-Ok-read_bound-clause-begins g c = (refl, refl, refl, ap fault_of c.pi
 
 pub returns-in-Ok-read_bound-clause-keeps : goal.returns-in-Ok-read_bound-clause-keeps
 returns-in-Ok-read_bound-clause-keeps g c = λ n most can.
-    let trace = g.D.Device.trace in
-    let sum = g.C.Checksum.sum_of in
-    let size : ℕ = c.args.config.config.segment_size in
-    let old = trace c.args.config.device in
-    let config = c.read_snapshot_or_default.new.config in
-    let s = model_of c.in-Ok.snapshot in
-    let same = ap (λ x. x.segment_size) c.in-Ok.ensures.config.config in
-    let r = recovered sum size n most old (trace config.device) can s config.config.segment_size same c.in-Ok.ensures.recoverable c.in-Ok.ensures.good c.in-Ok.ensures.ready in
-    let least = config.config.least in
-    let log = c.in-Ok-start.log in
-    let fits = c.in-Ok-start.ensures.fits r.0.history r.0.acknowledged (stable_place s.stable) r.0.ready in
-    let start = c.in-Ok-start.ensures.crash r.0.history r.0.acknowledged (stable_place s.stable) r.0.ready in
-    let both = kept_further trace sum log c.read_bound.new.log c.pin-guard.new.self c.read_bound.ensures.only.keeps c.pin-guard.ensures.keeps in
-    sized_back sum size n most old (trace config.device) can s config.config.segment_size same (trace (device_of c.pin-guard.new.self)) (going_on sum config.config.segment_size n most old (trace config.device) s r.0 r.1 trace log _ c.in-Ok-start.ensures.begins (omega (arith, least)) fits start c.pin-guard.new.self both.goes_on)
+    let b = started g (goal.at.returns-in-Ok-read_bound-clause-keeps g c).In-Ok-start n most can in
+    let both = kept_further g.D.Device.trace g.C.Checksum.sum_of c.in-Ok-start.log c.read_bound.new.log c.pin-guard.new.self
+    c.read_bound.ensures.only.keeps c.pin-guard.ensures.keeps in
+    b.gives c.pin-guard.new.self both.goes_on
 
 pub returns-in-Ok-read_bound-clause-answers : goal.returns-in-Ok-read_bound-clause-answers
 returns-in-Ok-read_bound-clause-answers g c =
@@ -175,35 +183,14 @@ returns-in-Ok-read_bound-clause-later g c =
 pub returns-clause-keeps : goal.returns-clause-keeps
 returns-clause-keeps g c = λ n most can.
     let trace = g.D.Device.trace in
-    let sum = g.C.Checksum.sum_of in
-    let size : ℕ = c.args.config.config.segment_size in
-    let old = trace c.args.config.device in
-    let config = c.read_snapshot_or_default.new.config in
-    let s = model_of c.in-Ok.snapshot in
-    let same = ap (λ x. x.segment_size) c.in-Ok.ensures.config.config in
-    let r = recovered sum size n most old (trace config.device) can s config.config.segment_size same c.in-Ok.ensures.recoverable c.in-Ok.ensures.good c.in-Ok.ensures.ready in
-    let least = config.config.least in
-    let log = c.in-Ok-start.log in
-    let fits = c.in-Ok-start.ensures.fits r.0.history r.0.acknowledged (stable_place s.stable) r.0.ready in
-    let start = c.in-Ok-start.ensures.crash r.0.history r.0.acknowledged (stable_place s.stable) r.0.ready in
-    subst (λ x. Throughout (GivesFrom sum size n most) old (trace x.device)) (sym c.halt.ensures.config)
-    (sized_back sum size n most old (trace config.device) can s config.config.segment_size same (trace (device_of c.read_bound.new.log)) (going_on sum config.config.segment_size n most old (trace config.device) s r.0 r.1 trace log _ c.in-Ok-start.ensures.begins (omega (arith, least)) fits start c.read_bound.new.log c.read_bound.ensures.only.keeps.goes_on))
+    let b = started g (goal.at.returns-clause-keeps g c).In-Ok-start n most can in
+    subst (λ x. Throughout (GivesFrom g.C.Checksum.sum_of c.args.config.config.segment_size n most) (trace c.args.config.device) (trace x.device))
+    (sym c.halt.ensures.config) (b.gives c.read_bound.new.log c.read_bound.ensures.only.keeps.goes_on)
 
 pub returns-clause-fails : goal.returns-clause-fails
 returns-clause-fails g c = λ n most can.
-    let trace = g.D.Device.trace in
-    let sum = g.C.Checksum.sum_of in
-    let size : ℕ = c.args.config.config.segment_size in
-    let old = trace c.args.config.device in
-    let config = c.read_snapshot_or_default.new.config in
-    let s = model_of c.in-Ok.snapshot in
-    let same = ap (λ x. x.segment_size) c.in-Ok.ensures.config.config in
-    let r = recovered sum size n most old (trace config.device) can s config.config.segment_size same c.in-Ok.ensures.recoverable c.in-Ok.ensures.good c.in-Ok.ensures.ready in
-    let least = config.config.least in
-    let log = c.in-Ok-start.log in
-    let fits = c.in-Ok-start.ensures.fits r.0.history r.0.acknowledged (stable_place s.stable) r.0.ready in
-    let start = c.in-Ok-start.ensures.crash r.0.history r.0.acknowledged (stable_place s.stable) r.0.ready in
-    c.in-Err-read_bound.ensures.errors r.0.history (stable_place s.stable) (begun_table sum config.config.segment_size n most old (trace config.device) s r.0 r.1 trace log _ c.in-Ok-start.ensures.begins (omega (arith, least)) fits start)
+    let b = started g (goal.at.returns-clause-fails g c).In-Ok-start n most can in
+    c.in-Err-read_bound.ensures.errors b.history (stable_place (model_of c.in-Ok.snapshot).stable) b.table
 
 pub returns-clause-answers : goal.returns-clause-answers
 returns-clause-answers g c =

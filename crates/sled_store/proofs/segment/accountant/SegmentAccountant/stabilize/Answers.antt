@@ -219,7 +219,8 @@ returns-in_err-deactivate-clause-calls g c =
     let after : Trace = g.D.Device.trace c.deactivate.new.device in
     let at = goal.at.returns-in_err-deactivate-clause-calls g c in
     turn_failed (deactivated size) (due_among size c.args.mark (active_among m.slots)) m _ _ _ (leads g at.After-first) w _ after
-    (list g at.In-Some (due g at.In-Some c.if-place-self.false)) (calls_same (λ n. deactivated n w m) size c.loop-place.self.size (g.D.Device.trace c.loop-place.config.device) after
+    (list g at.In-Some (due g at.In-Some c.if-place-self.false))
+    (calls_same (λ n. deactivated n w m) size c.loop-place.self.size (g.D.Device.trace c.loop-place.config.device) after
     c.loop-place.invariant.account.size_is c.deactivate.ensures.step.calls)
 
 pub returns-in_err-deactivate-clause-account : goal.returns-in_err-deactivate-clause-account
