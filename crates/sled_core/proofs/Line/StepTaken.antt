@@ -324,6 +324,7 @@ module _ {T D C : Type 0} {result : Result T Error} (trace : D → Trace) (sum :
     pinned = λ out. absurd (omega (arith, out, unpinned));
     reserved = rest.reserved;
     pins = rest.pins;
+    joined = λ out. absurd (omega (arith, out, unpinned));
     size = size_same;
   }
 
