@@ -3,6 +3,7 @@ use Rattle.std.proofs.Common.{◌≡◌, ◌∙◌, ◌≤ℤ◌, ap, sym, subst
 use Rattle.std.specs.Prelude.{Err, IsSome}
 use Rattle.std.specs.declared.io.Error.{Error as IoError}
 use Rattle.sled_codec.specs.declared.result.Error.{Error}
+use Rattle.sled_codec.specs.Errors.{IsCorrupt}
 use Rattle.sled_codec.specs.declared.result.Error.TheVariants as error
 use Rattle.sled_codec.specs.History.{History, Message}
 use Rattle.sled_store.specs.Device.{Trace, state_of}
@@ -31,6 +32,12 @@ flush_fails T S error.OutOfMemory held used old new before after free answers = 
 flush_fails T S error.PlacesUsedUp held used old new before after free answers = (answers.0, answers.1, answers.3)
 flush_fails T S (error.Held at) held used old new before after free answers = let some : Some answers.0.0 ≡ None = sym answers.0.1 ∙ free in cc
 flush_fails T S _ held used old new before after free answers = absurd answers
+
+-- None fails for damage.
+pub flush_undamaged : (T : Type 0) (e : Error) (held : Option ℕ) (used : Type 0) (old new : Option IoError) (before after : ℕ)
+    → HeldAnswers {T = T} (Err e) held used old new before after → IsCorrupt e → ⊥
+flush_undamaged T (error.Corruption at) held used old new before after answers is = absurd answers
+flush_undamaged T _ held used old new before after answers is = absurd is
 
 -- What a flush that succeeded has left can be recovered, where the log could be restarted.
 pub can_recover : {D C : Type 0} (trace : D → Trace) (sum : List ℕ → ℕ) (old new : Log D C) (device : D) (H : History) (A end f : ℕ) (U : List Message)

@@ -29,7 +29,7 @@ use Rattle.sled_log.specs.Restarts.{FlushFails, HasRestarted}
 use Rattle.sled_log.specs.Restores.{Restores}
 use Rattle.sled_log.proofs.Ready.ComesBack.{ready_kept}
 use Rattle.sled_log.proofs.Sessions.RunLogs.{end_rises}
-use Rattle.sled_log.proofs.WriteBack.RestartCauses.{can_recover, flush_fails, some_of}
+use Rattle.sled_log.proofs.WriteBack.RestartCauses.{can_recover, flush_fails, flush_undamaged, some_of}
 use Rattle.sled_log.proofs.restart.restart.Goals as goal
 
 pub returns-in-Ok-clause-ready : goal.returns-in-Ok-clause-ready
@@ -163,6 +163,13 @@ returns-in-Err-clause-did g c =
       subst (λ n. FlushFails {T = Snapshot} (Err c.in-Err.e) (IsUsedUpBelow log (reserved_end log)) (fault_of log) (g.D.Device.faults (device_of log)) n) (sym counted)
           (flush_fails ℕ Snapshot c.in-Err.e (holding_below sum log (reserved_end log)) (IsUsedUpBelow log (reserved_end log)) (fault_of log) (fault_of c.flush-flushed.new.self) _ _ (none_holding log sum c.requires.ended) c.in-Err.ensures.answers),
     )
+
+pub returns-in-Err-clause-undamaged : goal.returns-in-Err-clause-undamaged
+returns-in-Err-clause-undamaged g c =
+    let log = c.args.log in
+    λ H A f U can.
+    flush_undamaged ℕ c.in-Err.e (holding_below g.C.Checksum.sum_of log (reserved_end log)) (IsUsedUpBelow log (reserved_end log)) (fault_of log)
+    (fault_of c.flush-flushed.new.self) _ _ c.in-Err.ensures.answers
 
 pub returns-in-Err-clause-crash : goal.returns-in-Err-clause-crash
 returns-in-Err-clause-crash g c =
