@@ -102,6 +102,7 @@ pub mod StandsThere
 pub mod StepAlong
 pub mod StepBetween
 pub mod StepFits
+pub mod StepTaken
 pub mod Targets
 pub mod TicketEnds
 pub mod TornLine

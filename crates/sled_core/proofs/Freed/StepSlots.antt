@@ -23,19 +23,23 @@ multiple_below size some end place whole le =
     let parts = (put_down size end).0 in let low = lower_multiple size some end place le in omega (arith, parts, whole, low)
 
 module _ (size : ℕ) (some : 256 ≤ size) (low high : ℕ) (G : History) (m : Machine) (mark : ℤ) where
-  -- What is held counts from the one place, and then from the other.
+  -- What is held counts from the one place, and then from the other: what isn't active, and what is due, ends below where the other's segment begins.
+  pub account_ends : IsAccountOf size low G m → low ≤ high → (k : ℕ) → is_free (slot_at m k).state ≡ false → is_active (slot_at m k).state ≡ false
+      → (slot_at m k).lsn + size ≤ high / size * size
+  account_ends account up k taken idle =
+      multiple_below size some ((slot_at m k).lsn + size) high (next_multiple size (slot_at m k).lsn (account.aligned k taken))
+      (let ends = account.stable k taken idle in omega (arith, ends, up))
+
+  pub due_under : begins_from size mark ≤ high → (place : ℕ) → is_due size mark place ≡ true → place + size ≤ high / size * size
+  due_under reached place due =
+      let ends = due_ends size mark place due in
+      let below = multiple_below size some (begins_from size mark) high (put_down size (place_of_mark mark)).1 reached in
+      omega (arith, ends, below)
+
   pub account_slots : IsAccountOf size low G m → low ≤ high → begins_from size mark ≤ high
       → KeepOrLose size (high / size * size) m (stabilized size mark m).machine
   account_slots account up reached =
-      stabilized_slots size (high / size * size) mark m account.cut_off stable
-      (λ place due.
-      let ends = due_ends size mark place due in
-      let below = multiple_below size some (begins_from size mark) high (put_down size (place_of_mark mark)).1 reached in omega (arith, ends, below)) where
-        stable : (k : ℕ) → is_free (slot_at m k).state ≡ false → is_active (slot_at m k).state ≡ false
-            → (slot_at m k).lsn + size ≤ high / size * size
-        stable k taken idle =
-            multiple_below size some ((slot_at m k).lsn + size) high (next_multiple size (slot_at m k).lsn (account.aligned k taken))
-            (let ends = account.stable k taken idle in omega (arith, ends, up))
+      stabilized_slots size (high / size * size) mark m account.cut_off (account_ends account up) (due_under reached)
 
   pub free_needs_none : IsAccountOf size high G (stabilized size mark m).machine → (k to : ℕ)
       → is_free (slot_at (stabilized size mark m).machine k).state ≡ true → NoneNeeds size G k high to

@@ -2,11 +2,12 @@
 use Rattle.std.proofs.Common.{◌≡◌, ◌∙◌, ◌*◌, ◌-◌, ◌==◌, ap, refl, arith, ℕ, zero, suc, Bool, true, false, nat_lt, if◌then◌else◌, List, [], ◌∷◌, ◌++◌, take, Option, None, Some, ℤ}
 use Rattle.sled_store.specs.Device.{Event}
 use Rattle.sled_store.specs.SegmentStates.{Step}
-use Rattle.sled_core.specs.Account.{account_behind, written_account}
-use Rattle.sled_core.specs.Freeing.{Ledger, freeing_step}
-use Rattle.sled_core.specs.Ledger.{ledger_behind, writings, written_ledger, written_step}
+use Rattle.sled_core.specs.Account.{account_behind}
+use Rattle.sled_core.specs.Freeing.{Ledger}
+use Rattle.sled_core.specs.Ledger.{ledger_behind, marked_ledger, writings, written_ledger, written_step}
 use Rattle.sled_core.specs.SealedBuffers.{writing}
 use Rattle.sled_core.specs.Waiting.{BufferAt, free_around, free_below, has_place, is_unheld, one_pending, unless_held, write_around, write_pending, writes_below}
+use Rattle.sled_core.proofs.Line.FreeingStep.{step_pinned}
 
 -- the calls that write these so
 abbrev pub plainly : List BufferAt → List Event
@@ -56,21 +57,20 @@ take_plainly (suc n) (b ∷ bs) =
 
 module _ (size : ℕ) where
   -- While a pin is out the accountant does nothing,
-  step_pinned : (mark : Option ℤ) (l : Ledger) → l.account.pinned ≡ true → written_step size mark l ≡ record { machine = l.machine; calls = [] }
-  step_pinned mark l pinned =
-      ap (λ (o : Bool). if o then record { machine = l.machine; calls = [] } else freeing_step size (record { machine = l.machine; account = written_account mark l.account })) pinned
+  written_pinned : (mark : Option ℤ) (l : Ledger) → l.account.pinned ≡ true → written_step size mark l ≡ record { machine = l.machine; calls = [] }
+  written_pinned mark l pinned = step_pinned size (marked_ledger mark l) pinned
 
   -- so that nothing else is called,
   pub writings_pinned : (bs : List BufferAt) (l : Ledger) → l.account.pinned ≡ true → writings size bs l ≡ plainly bs
   writings_pinned [] l pinned = refl
   writings_pinned (b ∷ bs) l pinned =
-      (λ i. writing b.lid b.bytes ((step_pinned b.mark l pinned i).calls ++ writings size bs (written_ledger size b.mark l)))
+      (λ i. writing b.lid b.bytes ((written_pinned b.mark l pinned i).calls ++ writings size bs (written_ledger size b.mark l)))
       ∙ ap (λ (es : List Event). writing b.lid b.bytes es) (writings_pinned bs (written_ledger size b.mark l) pinned)
 
   -- and the slots stay.
   pub machine_pinned : (bs : List BufferAt) (l : Ledger) → l.account.pinned ≡ true → (ledger_behind size bs l).machine ≡ l.machine
   machine_pinned [] l pinned = refl
-  machine_pinned (b ∷ bs) l pinned = machine_pinned bs (written_ledger size b.mark l) pinned ∙ ap (λ (s : Step). s.machine) (step_pinned b.mark l pinned)
+  machine_pinned (b ∷ bs) l pinned = machine_pinned bs (written_ledger size b.mark l) pinned ∙ ap (λ (s : Step). s.machine) (written_pinned b.mark l pinned)
 
   -- Marks join by themselves.
   pub ledger_account : (bs : List BufferAt) (l : Ledger) → (ledger_behind size bs l).account ≡ account_behind bs l.account

@@ -114,7 +114,7 @@ module _ (sum : List ℕ → ℕ) (marks : JoinedMarks) (noted : List Batch) (si
       let under = base_low in omega (arith, up, under)
 
   -- What is held counts from the segment of the mark, or from a place in it.
-  held_base : held / size * size ≡ base
+  pub held_base : held / size * size ≡ base
   held_base =
       let began : ℕ = stable_place first.stable in
       let under : began / size * size ≤ base = begins_lower size big (pos began) marks.joined fits.shows.parts.holds.begun.joined in

@@ -14,8 +14,6 @@ MarkStands sum size log first mark =
     (mark ≤ℤ pos (stable_place first.stable)) ⊎ ((s : Segment) × IsFoundSegment sum size log (least_place size first) s × (mark ≤ℤ s.mark))
 
 -- The marks of a log, that which joined and the greatest that is on the device: the one isn't above the other, and that one stands.
--- (Once a buffer's write ends with a step of the accountant, no active segment is due for the one that joined: that is then a field besides, of the slots m,
--- `still : (k : ℕ) → is_active (slot_at m k).state ≡ true → is_due size mark (slot_at m k).lsn ≡ false`. As yet segments below it stay active.)
 pub record MarksFit (sum : List ℕ → ℕ) (size : ℕ) (log : List ℕ) (first : SnapshotModel) (mark durable : ℤ) : Type 0 where
   pub joined : mark ≤ℤ durable
   pub stands : MarkStands sum size log first durable

@@ -1,373 +1,201 @@
-use Rattle.std.proofs.Common.{nat_lt, if◌then◌else◌, ◌≡◌, ◌∙◌, List, ℕ, ℤ, Bool, ap, sym, subst, refl, arith, rules, length, deque_len, map, set, true, Option, None, Some, Err, inl, inr, ◌≤ℤ◌}
+use Rattle.std.proofs.Common.{◌≡◌, ◌∙◌, ◌++◌, ◌≤ℤ◌, pos, List, ℕ, suc, ℤ, ap, sym, subst, set, Option, None, Some, Result, Ok, Err, inl, inr, OnErr}
+use Rattle.std.specs.List.{slice_get}
 use Rattle.std.specs.declared.io.Error.{Error as IoError}
 use Rattle.sled_codec.specs.declared.result.Error.{Error}
 use Rattle.sled_codec.specs.declared.result.Error.TheVariants.{Io, OutOfMemory}
 use Rattle.sled_store.specs.Blobs.{UnlessFault}
+use Rattle.sled_store.specs.declared.config.Config.{Config}
 use Rattle.sled_store.specs.Device.{Event, Trace}
 use Rattle.sled_store.specs.Script.{Performs, after_all}
-use Rattle.sled_store.specs.SegmentStates.{Machine, Step}
+use Rattle.sled_store.proofs.Traces.ScriptLemmas.{after_joined, performs_behind, performs_more}
+use Rattle.sled_core.specs.Account.{Account, account_of, written_account}
+use Rattle.sled_core.specs.Begun.{SegmentView, line_in}
 use Rattle.sled_core.specs.Causes.{Answers}
-use Rattle.std.specs.List.{slice_get}
-use Rattle.sled_store.specs.Accounts.{machine_of}
-use Rattle.sled_store.proofs.Traces.ScriptLemmas.{later_performed}
-use Rattle.sled_store.specs.declared.config.Config.{Config}
-use Rattle.std.proofs.lemmas.Result.{err_from_is_err_and}
-use Rattle.sled_core.specs.Begun.{SegmentView, line_in, segment_view}
-use Rattle.sled_core.specs.inside.Begun.{open_segments, with_nth}
-use Rattle.sled_core.specs.declared.logger.io_bufs.IoBufs.{IoBufs}
-use Rattle.sled_core.specs.declared.logger.io_bufs.SegmentBuffer.{SegmentBuffer}
-use Rattle.sled_core.specs.declared.logger.batches.NotedBatch.{NotedBatch}
-use Rattle.sled_core.specs.declared.iobuf.Sealed.{Sealed}
-use Rattle.sled_core.specs.declared.logger.ready.ReadyBuffers.{ReadyBuffers}
 use Rattle.sled_core.specs.declared.logger.Log.{Log}
-use Rattle.sled_core.specs.Fronts.{WroteNone}
-use Rattle.sled_core.specs.HeaderMark.{greater_mark}
-use Rattle.sled_core.specs.inside.Fits.{written_to}
-use Rattle.sled_core.specs.Fits.{AwaitsIn, ledger_of, line_of, noted_in, position_with, segment_size_of}
-use Rattle.sled_core.specs.Keeps.{SamePosition}
-use Rattle.sled_core.specs.invariants.Fits.{Holds}
-use Rattle.sled_core.specs.GivenUp.{given_up_along}
-use Rattle.sled_core.specs.Logged.{logged, in_log}
-use Rattle.sled_core.specs.OpenBatches.{batch_of, not_whole}
-use Rattle.sled_core.specs.inside.OpenPlaces.{open_manifests}
-use Rattle.sled_core.specs.OpenPlaces.{open_places_along}
-use Rattle.sled_core.specs.Positions.{Position, position_in}
-use Rattle.sled_core.specs.inside.ReadyBuffers.{AreReady, HasOwn}
-use Rattle.sled_core.specs.invariants.Running.{Fits}
-use Rattle.sled_core.specs.inside.SealedBuffers.{is_ready, written_at}
-use Rattle.sled_core.specs.inside.Turned.{ChangesDevice, IsReadyIn, mark_of, promoted, written_now}
-use Rattle.sled_core.specs.Waiting.{last_of}
-use Rattle.sled_core.proofs.Holds.StoredItems.{items_same}
-use Rattle.sled_core.proofs.Line.Faulty.{fits_with_same, holds_with_same}
-use Rattle.sled_core.proofs.Line.Among.{among_further, among_same}
-use Rattle.sled_core.proofs.Line.GivenUp.{given_promoted, set_given}
-use Rattle.sled_core.proofs.Line.LineEnds.{kept_same, noted_later, noted_same}
-use Rattle.sled_core.proofs.Line.LogWrites.{KeepsInvariants, crash_write, end_grows, fits_done, fits_failed, holds_done, holds_failed, keeps_invariants, line_after, line_left, names, noted_left, same_line, segments_written, mark_joins, Joins}
-use Rattle.sled_core.proofs.Line.Marks.{HasReady, ready_at}
-use Rattle.sled_core.proofs.Line.NthOpen.{nth_is, nth_there, nth_within}
-use Rattle.sled_core.proofs.Line.OpenManifests.{manifests_promoted, set_same}
-use Rattle.sled_core.proofs.Line.Outcomes.{all_err}
-use Rattle.sled_core.proofs.Line.OpenPlaces.{places_promoted, set_places}
-use Rattle.sled_core.proofs.Line.Promotes.{awaits_promoted, last_promoted, last_set}
-use Rattle.sled_core.proofs.Line.Segments.{line_segments, nth_segment}
-use Rattle.sled_core.proofs.Reached.OpenBatch.{not_whole_further}
-use Rattle.sled_core.proofs.Line.WrittenTickets.{awaits_written, given_written, manifests_written, places_written}
-use Rattle.sled_core.proofs.Pending.Logs.{written_ready}
-use Rattle.sled_core.proofs.logger.Log.write_buffer.Goals as goal
+use Rattle.sled_core.specs.Fits.{ledger_of, line_of, machine_at, pins_of, segment_size_of, synced_end}
+use Rattle.sled_core.specs.Freeing.{Ledger}
+use Rattle.sled_core.specs.Fronts.{synced_writes}
+use Rattle.sled_core.specs.inside.OneWritten.{WritesNone, WroteOne}
+use Rattle.sled_core.specs.inside.Turned.{FreesSlots, mark_of, promoted, write_in, write_of, writing_in, writing_of, written_now}
+use Rattle.sled_core.specs.Keeps.{FailedStep}
+use Rattle.sled_core.specs.Ledger.{ledger_step, marked_ledger, stepped_ledger, written_step}
 use Rattle.sled_core.proofs.Line.AccountBehind.{account_same, ledger_same}
-use Rattle.sled_core.proofs.Line.FreeingStep.{no_more, nothing_done}
-use Rattle.sled_core.proofs.Line.KeptCalls.{position_place}
+use Rattle.sled_core.proofs.Line.KeptCalls.{failed_over, log_writing, spared_same, writing_further}
 use Rattle.sled_core.proofs.Line.LogSpans.{same_with}
-use Rattle.sled_core.proofs.Line.MarksJoin.{joined_as, joined_up, joins_same}
-use Rattle.sled_core.specs.declared.logger.joined_marks.JoinedMarks.{JoinedMarks}
+use Rattle.sled_core.proofs.Line.Outcomes.{all_err, all_ok, on_err, on_ok}
+use Rattle.sled_core.proofs.logger.Log.write_buffer.Goals as goal
 
--- The same batches are noted,
-noted_items : {D C : Type 0} (old mid : Log D C) → ChangesDevice old mid → mid.batches.noted.items ≡ old.batches.noted.items
-noted_items old mid rest = λ i. (rest.batches i).noted.items
+-- Behind the calls that write it come those of the step.
+more_calls : (size : ℕ) (l : Ledger) (k : ℕ) (o : Option SegmentView) (old new : Trace) → Performs (write_of k o) old new
+    → Performs (writing_of size l k o) old new
+more_calls size l k None old new came = came
+more_calls size l k (Some v) old new came = performs_more (write_of k (Some v)) (written_step size (mark_of k v) l).calls old new came
 
--- of which those are left that aren't wholly written.
-noted_left_is : {D C : Type 0} (old : Log D C) (n k : ℕ) (r : IsReadyIn (line_of old) n k) {items : List NotedBatch} {line : List SegmentView} → items ≡ old.batches.noted.items → line ≡ line_left old n k r
-    → not_whole (written_to line) (map batch_of items) ≡ noted_left old n k r
-noted_left_is old n k r same line =
-    let up = end_grows old n k r in
-    (λ i. not_whole (written_to (line i)) (map batch_of (same i))) ∙ sym (not_whole_further (written_to (line_of old)) (written_to (line_left old n k r)) up (map batch_of old.batches.noted.items))
+-- One more is synced behind the write.
+one_more : (line : List SegmentView) (n k : ℕ) (v : SegmentView) → slice_get line n ≡ Some v → (old mid : Trace) → mid ≡ after_all (write_in line n k) old
+    → synced_writes mid ≡ suc (synced_writes old)
+one_more line n k v among old mid is = ap synced_writes is ∙ ap (λ (o : Option SegmentView). synced_writes (after_all (write_of k o) old)) among
 
--- The slots and the marks are those that they were.
-kept_ledger : {D C : Type 0} (old mid : Log D C) → ChangesDevice old mid → ledger_of mid ≡ ledger_of old
-kept_ledger old mid rest = ledger_same old mid (ap machine_of rest.accountant) (account_same old mid rest.marks rest.pins)
+-- A call that failed in the device may have left anything.
+step_refused : {T : Type 0} (result : Result T Error) (now : Option IoError) (before after : ℕ) (old last : Trace) → Answers result None now before after
+    → OnErr result ((e : IoError) × (now ≡ Some e)) → UnlessFault result old last
+step_refused (Ok x) now before after old last answers failed = tt
+step_refused (Err (Io e)) now before after old last (inl kept) failed = let never : None ≡ Some e = kept.0 in cc
+step_refused (Err (Io e)) now before after old last (inr fault) failed = inl fault.3
+step_refused (Err OutOfMemory) now before after old last answers failed =
+    absurd (let clash : None ≡ Some failed.0 = sym answers.1 ∙ failed.1 in cc)
+step_refused (Err _) now before after old last answers failed = absurd answers
 
-kept_size : {D C : Type 0} (old mid : Log D C) → ChangesDevice old mid → segment_size_of mid ≡ segment_size_of old
-kept_size old mid rest = ap (λ (x : Config). x.segment_size) rest.config
+module _ {D C : Type 0} (old mid : Log D C) (n k : ℕ) (v : SegmentView) (among : slice_get (line_of old) n ≡ Some v)
+    (account : account_of mid ≡ written_account (mark_of k v) (account_of old)) (slots : machine_at mid ≡ machine_at old)
+    (size : segment_size_of mid ≡ segment_size_of old) where
+  marked : ledger_of mid ≡ marked_ledger (mark_of k v) (ledger_of old)
+  marked = λ i. record { machine = slots i; account = account i }
 
--- The next record begins where it would have begun.
-position_kept : {D C : Type 0} (old : Log D C) (n k : ℕ) (r : IsReadyIn (line_of old) n k) (m its : Machine) {size : ℕ} {line : List SegmentView} → size ≡ segment_size_of old
-    → line ≡ promoted (segment_size_of old) (set (line_of old) n (written_now k r.segment)) → m ≡ its → position_in size (last_of r.segment line) m ≡ position_with old its
-position_kept old n k r m its sizes line slots =
-    let At : SegmentView → Position = λ v. position_in (segment_size_of old) v its in
-    (λ i. position_in (sizes i) (last_of r.segment (line i)) (slots i))
-    ∙ ap At (last_promoted (segment_size_of old) r.segment (set (line_of old) n (written_now k r.segment)))
-    ∙ last_set At r.segment (line_of old) n r.segment (written_now k r.segment) r.among refl
+  pub stepped : stepped_ledger (segment_size_of mid) (ledger_of mid) ≡ stepped_ledger (segment_size_of old) (marked_ledger (mark_of k v) (ledger_of old))
+  stepped = λ i. stepped_ledger (size i) (marked i)
 
--- The mark that joins is the one that did, or the greatest on the device, where the header's counts.
-joined_so : {D C : Type 0} (old mid : Log D C) (n k : ℕ) (r : IsReadyIn (line_of old) n k) (trace : D → Trace) (sum : List ℕ → ℕ)
-    (whole : old.fault.kept ≡ None) (marks : JoinedMarks) (pinned : Bool) (o : Option ℤ) → o ≡ mark_of k r.segment → mid.marks ≡ old.marks
-    → marks.joined ≡ (if pinned then mid.marks.joined else greater_mark o mid.marks.durable) → marks.durable ≡ greater_mark o mid.marks.durable
-    → Joins old n k r trace sum whole marks
-joined_so old mid n k r trace sum whole marks pinned o mark same joined durable = (
-  subst (λ (x : JoinedMarks). x.joined ≤ℤ marks.joined) same (joined_up pinned o mid.marks marks joined),
-  durable ∙ (λ j. greater_mark (mark j) (same j).durable),
-  elim (joined_as pinned marks.joined mid.marks.joined (greater_mark o mid.marks.durable) joined) [
-    | inl kept ↦ inl (kept ∙ (λ j. (same j).joined))
-    | inr joins ↦ inr (joins ∙ (λ j. greater_mark (mark j) (same j).durable))
-  ],
-)
+  -- the calls of the write, and then those of the step
+  pub split : writing_in (segment_size_of old) (ledger_of old) (line_of old) n k
+      ≡ write_in (line_of old) n k ++ (ledger_step (segment_size_of mid) (ledger_of mid)).calls
+  split =
+      ap (writing_of (segment_size_of old) (ledger_of old) k) among
+      ∙ (λ i. write_of k (sym among i) ++ (ledger_step (sym size i) (sym marked i)).calls)
 
--- A write that was refused changed nothing on the device, unless that failed.
-unless_fault : (T : Type 0) (e : Error) (fault : Option IoError) (before after : ℕ) (old new : Trace) → Answers {T = T} (Err e) None fault before after → (fault ≡ None → new ≡ old) → UnlessFault {T = T} (Err e) old new
-unless_fault T (Io e) fault before after old new (inl kept) same = let never : None ≡ Some e = kept.0 in cc
-unless_fault T (Io e) fault before after old new (inr failed) same = inl failed.3
-unless_fault T OutOfMemory fault before after old new answers same = same answers.1
-unless_fault T _ fault before after old new answers same = absurd answers
+  -- the step failed behind it
+  pub wrote_one : (trace : D → Trace) (new : Log D C) → FreesSlots mid new
+      → line_of mid ≡ promoted (segment_size_of old) (set (line_of old) n (written_now k v))
+      → old.fault.kept ≡ None → pins_of mid ≡ pins_of old
+      → trace mid.config.device ≡ after_all (write_in (line_of old) n k) (trace old.config.device)
+      → synced_writes (trace new.config.device) ≡ synced_writes (trace mid.config.device) → FailedStep mid new → WroteOne trace n k old new
+  wrote_one trace new rest line none pins calls written failed = record {
+    failed = failed_over old mid new none pins failed;
+    line = λ u is.
+        let same : u ≡ v = (let both : Some u ≡ Some v = sym is ∙ among in cc) in
+        (λ i. line_in (rest.segments i)) ∙ line
+        ∙ ap (λ (x : SegmentView). promoted (segment_size_of old) (set (line_of old) n (written_now k x))) (sym same);
+    account = λ u is.
+        let same : u ≡ v = (let both : Some u ≡ Some v = sym is ∙ among in cc) in
+        account_same mid new rest.marks rest.pins ∙ account
+        ∙ ap (λ (x : SegmentView). written_account (mark_of k x) (account_of old)) (sym same);
+    written = written ∙ one_more (line_of old) n k v among (trace old.config.device) (trace mid.config.device) calls;
+  }
 
-pub returns-in_err-write_bytes-clause-refused : goal.returns-in_err-write_bytes-clause-refused
-returns-in_err-write_bytes-clause-refused g c =
+pub returns-in_err-write_one-clause-at_most : goal.returns-in_err-write_one-clause-at_most
+returns-in_err-write_one-clause-at_most g c =
     let old = c.args.self.now in
-    let mid = c.write_bytes.new.self in
-    let did = c.in_err-write_bytes.ensures in
-    let e = err_from_is_err_and c.from_residual.result c.from_residual.ensures.1 in
-    rw (e.1, e.2) (unless_fault (Unit {0}) c.in_err-write_bytes.field-0.0 mid.fault.kept (g.D.Device.faults old.config.device) (g.D.Device.faults mid.config.device) (g.D.Device.trace old.config.device) (g.D.Device.trace mid.config.device) did.answers did.refused)
+    more_calls (segment_size_of old) (ledger_of old) c.args.k (slice_get (line_of old) c.args.n) (g.D.Device.trace old.config.device)
+    (g.D.Device.trace c.write_one.new.self.config.device) c.write_one.ensures.at_most
 
-pub returns-in_err-write_bytes-clause-unwritten : goal.returns-in_err-write_bytes-clause-unwritten
-returns-in_err-write_bytes-clause-unwritten g c =
-    let did = c.in_err-write_bytes.ensures in
-    let none : WroteNone g.D.Device.trace c.args.self.now c.write_bytes.new.self = record { synced = did.unsynced.0; written = did.unsynced.1; still = did.refused; account = account_same c.args.self.now c.write_bytes.new.self did.rest.marks did.rest.pins } in
-    all_err c.from_residual.result _ (none, kept_ledger c.args.self.now c.write_bytes.new.self did.rest)
-
-pub returns-in_err-write_bytes-clause-keeps : goal.returns-in_err-write_bytes-clause-keeps
-unfolding Holds Fits
-returns-in_err-write_bytes-clause-keeps g c = record {
-  preserves = (
-      let old = c.args.self.now in
-      let mid = c.write_bytes.new.self in
-      let r = c.requires.ready in
-      let did = c.in_err-write_bytes.ensures in
-      let rest = did.rest in
-      let sizes : segment_size_of mid ≡ segment_size_of old = ap (λ (x : Config). x.segment_size) rest.config in
-      let slots = ap machine_of rest.accountant in
-      let items = noted_items old mid rest in
-      let kept_noted = noted_same old mid items (ap written_to (same_line old mid rest)) in
-      record {
-        goes_on = record {
-          config = record { config = rest.config; checksum = rest.checksum };
-          later = later_performed _ _ _ did.at_most;
-          stable = let same = ap written_to (same_line old mid rest) in omega (arith, same);
-          crash = λ H A f U fits. crash_write old c.args.n c.args.k r g.D.Device.trace g.C.Checksum.sum_of c.requires.fault (g.D.Device.trace mid.config.device) did.at_most H A f U fits;
-          sound = λ none. c.requires.fault;
-          items = λ none. items_same g.D.Device.trace g.C.Checksum.sum_of old _ (names old c.args.n c.args.k r g.D.Device.trace g.C.Checksum.sum_of c.requires.fault (g.D.Device.trace mid.config.device) did.at_most).0;
-        };
-        history = λ H holds. holds_with_same g.C.Checksum.sum_of _ _ _ _ _ _ _ _ _ _ _ _ (logged H) rest.marks kept_noted sizes (same_line old mid rest) slots
-            (holds_failed old c.args.n c.args.k r g.D.Device.trace g.C.Checksum.sum_of c.requires.fault (g.D.Device.trace mid.config.device) did.at_most mid.fault.kept did.refused H holds);
-        fits = λ H A f U fits. fits_with_same g.C.Checksum.sum_of _ _ _ _ _ _ _ _ _ _ _ _ _ _ H A f U rest.marks kept_noted sizes (same_line old mid rest) slots rest.pins
-            (fits_failed old c.args.n c.args.k r g.D.Device.trace g.C.Checksum.sum_of c.requires.fault (g.D.Device.trace mid.config.device) did.at_most mid.fault.kept did.refused H A f U fits);
-        noted = noted_later old mid items (let same = ap written_to (same_line old mid rest) in omega (arith, same));
-        kept = kept_same old mid items;
-      }
-      );
-  tickets = search rules;
-  position = (let same : SamePosition c.args.self.now c.write_bytes.new.self = search rules in position_place c.args.self.now c.write_bytes.new.self same);
-}
-
--- As yet the accountant makes no call behind the write.
-pub returns-in_err-write_bytes-clause-at_most : goal.returns-in_err-write_bytes-clause-at_most
-returns-in_err-write_bytes-clause-at_most g c =
+pub returns-in_err-write_one-clause-keeps : goal.returns-in_err-write_one-clause-keeps
+returns-in_err-write_one-clause-keeps g c =
     let old = c.args.self.now in
-    subst (λ (es : List Event). Performs es (g.D.Device.trace old.config.device) (g.D.Device.trace c.write_bytes.new.self.config.device)) (sym (no_more (segment_size_of old) (ledger_of old) c.args.k (slice_get (line_of old) c.args.n))) c.write_bytes.ensures.at_most
+    let mid = c.write_one.new.self in
+    let did = c.write_one.ensures in
+    log_writing g.D.Device.trace g.C.Checksum.sum_of old mid did.keeps (spared_same old mid did.machine did.keeps.position.pins)
 
-pub returns-clause-at_most : goal.returns-clause-at_most
-returns-clause-at_most g c =
+pub returns-in_err-write_one-clause-unwritten : goal.returns-in_err-write_one-clause-unwritten
+returns-in_err-write_one-clause-unwritten g c =
     let old = c.args.self.now in
-    subst (λ (es : List Event). Performs es (g.D.Device.trace old.config.device) (g.D.Device.trace c.write_bytes.new.self.config.device)) (sym (no_more (segment_size_of old) (ledger_of old) c.args.k (slice_get (line_of old) c.args.n))) c.write_bytes.ensures.at_most
+    let mid = c.write_one.new.self in
+    let did = c.in_err-write_one.ensures in
+    let none : WritesNone g.D.Device.trace old mid = record {
+      line = did.same;
+      none = did.unwritten;
+      ledger = ledger_same old mid did.machine did.unwritten.account;
+    } in
+    all_err c.from_residual.result _ (inl none)
+
+pub returns-clause-line : goal.returns-clause-line
+returns-clause-line g c = λ v among.
+    let rest = c.free_segments.ensures.rest in
+    all_ok c.free_segments.result _ ((λ i. line_in (rest.segments i)) ∙ c.in_ok-write_one.ensures.line v among)
+
+pub returns-clause-ledger : goal.returns-clause-ledger
+returns-clause-ledger g c = λ v among.
+    let old = c.args.self.now in
+    let mid = c.write_one.new.self in
+    let did = c.in_ok-write_one.ensures in
+    on_ok c.free_segments.result _ _
+    (λ is. is ∙ stepped old mid c.args.n c.args.k v among (did.account v among) did.machine did.keeps.position.size) c.free_segments.ensures.ledger
 
 pub returns-clause-calls : goal.returns-clause-calls
 returns-clause-calls g c =
     let old = c.args.self.now in
-    c.in_ok-write_bytes.ensures.calls ∙ ap (λ (es : List Event). after_all es (g.D.Device.trace old.config.device)) (sym (no_more (segment_size_of old) (ledger_of old) c.args.k (slice_get (line_of old) c.args.n)))
+    let mid = c.write_one.new.self in
+    let did = c.in_ok-write_one.ensures in
+    let r = c.requires.ready in
+    let step = (ledger_step (segment_size_of mid) (ledger_of mid)).calls in
+    let before = g.D.Device.trace old.config.device in
+    on_ok c.free_segments.result _ _
+    (λ is.
+    is ∙ ap (after_all step) did.calls ∙ sym (after_joined (write_in (line_of old) c.args.n c.args.k) step before)
+    ∙ ap (λ (es : List Event). after_all es before)
+    (sym (split old mid c.args.n c.args.k r.segment r.among (did.account r.segment r.among) did.machine did.keeps.position.size)))
+    c.free_segments.ensures.calls
 
-pub returns-in_err-write_bytes-clause-position : goal.returns-in_err-write_bytes-clause-position
-returns-in_err-write_bytes-clause-position g c =
+pub returns-clause-at_most : goal.returns-clause-at_most
+returns-clause-at_most g c =
     let old = c.args.self.now in
-    let mid = c.write_bytes.new.self in
-    let rest = c.in_err-write_bytes.ensures.rest in
-    same_with old mid (same_line old mid rest) (kept_size old mid rest)
+    let mid = c.write_one.new.self in
+    let did = c.in_ok-write_one.ensures in
+    let r = c.requires.ready in
+    let before = g.D.Device.trace old.config.device in
+    let now = g.D.Device.trace c.free_segments.new.self.config.device in
+    subst (λ (es : List Event). Performs es before now)
+    (sym (split old mid c.args.n c.args.k r.segment r.among (did.account r.segment r.among) did.machine did.keeps.position.size))
+    (performs_behind (write_in (line_of old) c.args.n c.args.k) (ledger_step (segment_size_of mid) (ledger_of mid)).calls before
+    (g.D.Device.trace mid.config.device) now did.calls c.free_segments.ensures.at_most)
 
--- The segments that are left keep what the type of a log asks.
-kept : {D C : Type 0} (old mid : Log D C) (n k : ℕ) (r : IsReadyIn (line_of old) n k) → ChangesDevice old mid → (s : SegmentBuffer) → slice_get (open_segments mid.segments) n ≡ Some s → (marked : SegmentBuffer) → segment_view marked ≡ written_now k (segment_view s)
-    → (now : IoBufs) → line_in now ≡ promoted mid.config.config.segment_size (line_in (with_nth mid.segments n marked)) → (ready : ReadyBuffers)
-    → ((x : Sealed) (before behind : List ℕ) (others : ℕ) → slice_get s.buffer.sealed.items k ≡ Some x → is_ready x ≡ true → HasOwn mid.ready s.site.place s.buffer.written_len s.buffer.sealed.items before behind others
-    → HasOwn ready s.site.place s.buffer.written_len (written_at k s.buffer.sealed.items) before behind others)
-    → (r' : IsReadyIn (line_of mid) n k) × KeepsInvariants mid n k r' now × (open_manifests (line_in now) ≡ mid.batches.manifests) × AreReady (line_in now) ready
-kept old mid n k r rest s there marked is_marked now is ready noted =
-    let r' : IsReadyIn (line_of mid) n k = subst (λ (l : List SegmentView). IsReadyIn l n k) (sym (same_line old mid rest)) r in
-    let still : ChangesDevice mid mid = record { config = refl; checksum = refl; segments = refl; reserved = refl; pins = refl; marks = refl; accountant = refl; batches = refl } in
-    let line = line_after mid mid n k r'.segment still r'.among s there marked is_marked (line_in now) is in
-    let same = ap open_manifests line in
-    let left = manifests_promoted mid.config.config.segment_size mid.segments.first.site.place (set (line_of mid) n (written_now k r'.segment)) mid.config.config.least (segments_written mid n k r') in
-    let is_segment = nth_segment mid.config.config.segment_size mid.segments.first.site.place (line_of mid) (line_segments mid) n r'.segment r'.among in
-    let written = set_same (line_of mid) n r'.segment (written_now k r'.segment) r'.among (manifests_written (line_of mid) n k r'.segment r'.buffer r'.among r'.there r'.ready is_segment.are) in
-    let old = mid.noted.counted in (
-      r',
-      keeps_invariants mid n k r' now line,
-      omega (arith, same, left, written, old),
-      subst (λ (l : List SegmentView). AreReady l ready) (sym line) (written_ready mid n k r' s.site s.buffer (nth_there mid n s there) ready noted),
-    )
-
--- The buffer is one of a segment that code has, which lies in reach.
-
-pub segment_mut-s-requires : goal.segment_mut-s-requires
-segment_mut-s-requires g c =
-    let mid = c.write_bytes.new.self in
-    let r : IsReadyIn (line_of mid) c.args.n c.args.k = subst (λ (l : List SegmentView). IsReadyIn l c.args.n c.args.k) (sym (same_line c.args.self.now mid c.in_ok-write_bytes.ensures.rest)) c.requires.ready in
-    nth_within mid c.args.n r.segment r.among
-
--- it can be written
-has_ready : {D C : Type 0} (old mid : Log D C) (n k : ℕ) → IsReadyIn (line_of old) n k → ChangesDevice old mid → (s : SegmentBuffer) → slice_get (open_segments mid.segments) n ≡ Some s → HasReady s.buffer k
-has_ready old mid n k r rest s there = ready_at (line_of old) n k s.site s.buffer (ap (λ (l : List SegmentView). slice_get l n) (sym (same_line old mid rest)) ∙ nth_there mid n s there) r
-
-pub note_written-requires : goal.note_written-requires
-note_written-requires g c =
-    let mid = c.write_bytes.new.self in
-    let s : SegmentBuffer = c.segment_mut-s.result.now in
-    let is = nth_is mid c.args.n s c.segment_mut-s.ensures.value in
-    let short = is.short in
-    let small = is.place_small in
-    record { place = omega (arith, short, small); within = (has_ready c.args.self.now mid c.args.n c.args.k c.requires.ready c.in_ok-write_bytes.ensures.rest s c.segment_mut-s.ensures.value).within }
-
-pub mark_written-requires-clause-within : goal.mark_written-requires-clause-within
-mark_written-requires-clause-within g c =
-    let s : SegmentBuffer = c.segment_mut-s.result.now in
-    let long : deque_len s.buffer.sealed ≡ length s.buffer.sealed.items = search rules in
-    let within = (has_ready c.args.self.now c.write_bytes.new.self c.args.n c.args.k c.requires.ready c.in_ok-write_bytes.ensures.rest s c.segment_mut-s.ensures.value).within in
-    omega (arith, long, within)
-
-pub mark_written-requires-clause-ready : goal.mark_written-requires-clause-ready
-mark_written-requires-clause-ready g c = (has_ready c.args.self.now c.write_bytes.new.self c.args.n c.args.k c.requires.ready c.in_ok-write_bytes.ensures.rest c.segment_mut-s.result.now c.segment_mut-s.ensures.value).ready
-
-pub invariant_of-self : goal.invariant_of-self
-invariant_of-self g c =
-    let mid = c.write_bytes.new.self in
-    let s : SegmentBuffer = c.segment_mut-s.result.now in
-    let found = kept c.args.self.now mid c.args.n c.args.k c.requires.ready c.in_ok-write_bytes.ensures.rest s c.segment_mut-s.ensures.value (record { site = s.site; buffer = c.mark_written.new.self })
-    (c.mark_written.ensures s.site) c.promote.new.self c.promote.ensures c.note_written.new.self c.note_written.ensures in
-    let lie = found.1.lie in
-    record {
-      line = record {
-        lies = lie;
-        filled = found.1.filled;
-        indexed = found.3;
-      };
-      account = mid.account;
-      noted = record {
-        pegs = mid.noted.pegs;
-        counted = found.2;
-      };
-    }
-
-pub returns-clause-line : goal.returns-clause-line
-returns-clause-line g c = λ v among.
-    let s : SegmentBuffer = c.segment_mut-s.result.now in
-    line_after c.args.self.now c.write_bytes.new.self c.args.n c.args.k v c.in_ok-write_bytes.ensures.rest among s c.segment_mut-s.ensures.value (record { site = s.site; buffer = c.mark_written.new.self })
-    (c.mark_written.ensures s.site) (line_in c.promote.new.self) c.promote.ensures
-
--- The next record begins where it would have begun, whichever slots are left.
 pub returns-clause-position : goal.returns-clause-position
 returns-clause-position g c = λ m.
-    let old = c.args.self.now in
-    let mid = c.write_bytes.new.self in
-    let r = c.requires.ready in
-    position_kept old c.args.n c.args.k r m m (kept_size old mid c.in_ok-write_bytes.ensures.rest) (returns-clause-line g c r.segment r.among) refl
+    let mid = c.write_one.new.self in
+    let new = c.free_segments.new.self in
+    let rest = c.free_segments.ensures.rest in
+    same_with mid new (λ i. line_in (rest.segments i)) (ap (λ (x : Config). x.segment_size) rest.config) m ∙ c.in_ok-write_one.ensures.position m
 
 pub returns-clause-keeps : goal.returns-clause-keeps
-unfolding Holds Fits
-returns-clause-keeps g c = record {
-  preserves = (
-      let old = c.args.self.now in
-      let mid = c.write_bytes.new.self in
-      let r = c.requires.ready in
-      let did = c.in_ok-write_bytes.ensures in
-      let rest = did.rest in
-      let sizes : segment_size_of mid ≡ segment_size_of old = ap (λ (x : Config). x.segment_size) rest.config in
-      let slots = ap machine_of rest.accountant in
-      let line = returns-clause-line g c r.segment r.among in
-      let mark = c.mark_of-mark.ensures r.segment (ap (λ (l : List SegmentView). slice_get l c.args.n) (same_line old mid rest) ∙ r.among) in
-      let joins =
-      joined_so old mid c.args.n c.args.k r g.D.Device.trace g.C.Checksum.sum_of c.requires.fault c.note_mark.new.self _ _ mark rest.marks
-      c.note_mark.ensures.joined c.note_mark.ensures.durable in
-      record {
-        goes_on = record {
-          config = record { config = rest.config; checksum = rest.checksum };
-          later = later_performed _ _ _ did.at_most;
-          stable = let same = ap written_to line in let up = end_grows old c.args.n c.args.k r in omega (arith, same, up);
-          crash = λ H A f U fits. crash_write old c.args.n c.args.k r g.D.Device.trace g.C.Checksum.sum_of c.requires.fault (g.D.Device.trace mid.config.device) did.at_most H A f U fits;
-          sound = λ none. c.requires.fault;
-          items = λ none. items_same g.D.Device.trace g.C.Checksum.sum_of old _ (names old c.args.n c.args.k r g.D.Device.trace g.C.Checksum.sum_of c.requires.fault (g.D.Device.trace mid.config.device) did.at_most).0;
-        };
-        history = λ H holds. holds_with_same g.C.Checksum.sum_of _ _ _ _ _ _ _ _ _ _ _ _ (logged H) refl (noted_left_is old c.args.n c.args.k r (noted_items old mid rest) line) sizes line slots
-            (holds_done old c.args.n c.args.k r g.D.Device.trace g.C.Checksum.sum_of c.requires.fault (g.D.Device.trace mid.config.device) did.calls mid.fault.kept did.answers.1 _ joins H holds);
-        fits = λ H A f U fits. fits_with_same g.C.Checksum.sum_of _ _ _ _ _ _ _ _ _ _ _ _ _ _ H A f U refl (noted_left_is old c.args.n c.args.k r (noted_items old mid rest) line) sizes line slots rest.pins
-            (fits_done old c.args.n c.args.k r g.D.Device.trace g.C.Checksum.sum_of c.requires.fault (g.D.Device.trace mid.config.device) did.calls mid.fault.kept did.answers.1 _ joins H A f U fits);
-        noted = noted_left_is old c.args.n c.args.k r (noted_items old mid rest) line ∙ ap (λ e. not_whole e (noted_in old)) (sym (ap written_to line));
-        kept = kept_same old mid (noted_items old mid rest);
-      }
-      );
-  tickets = (
-      let old = c.args.self.now in
-      let r = c.requires.ready in
-      let line = returns-clause-line g c r.segment r.among in
-      let is = nth_segment (segment_size_of old) old.segments.first.site.place (line_of old) (line_segments old) c.args.n r.segment r.among in
-      record {
-        awaits = λ ticket m awaits.
-            subst (λ (l : List SegmentView). AwaitsIn l ticket (in_log m)) (sym line)
-            (awaits_promoted (segment_size_of old) old.segments.first.site.place (set (line_of old) c.args.n (written_now c.args.k r.segment)) ticket (in_log m) old.config.config.least (segments_written old c.args.n c.args.k r)
-            (awaits_written (line_of old) c.args.n c.args.k r.segment r.buffer r.among r.there r.ready is.are ticket (in_log m) awaits));
-        opens = ap open_places_along line
-            ∙ places_promoted (segment_size_of old) old.segments.first.site.place (set (line_of old) c.args.n (written_now c.args.k r.segment)) old.config.config.least (segments_written old c.args.n c.args.k r)
-            ∙ set_places (line_of old) c.args.n r.segment (written_now c.args.k r.segment) r.among (places_written (line_of old) c.args.n c.args.k r.segment r.buffer r.among r.there r.ready is.are);
-        given_up =
-            let left : List SegmentView = set (line_of old) c.args.n (written_now c.args.k r.segment) in
-            let promoted_same = given_promoted (segment_size_of old) old.segments.first.site.place left old.config.config.least (segments_written old c.args.n c.args.k r) in
-            among_further _ (given_up_along left) (given_up_along (line_of old)) (among_same _ (given_up_along left) (ap given_up_along line ∙ promoted_same))
-            (set_given (line_of old) c.args.n r.segment (written_now c.args.k r.segment) r.among (given_written (line_of old) c.args.n c.args.k r.segment r.buffer r.among r.there r.ready is.are));
-      }
-      );
-  position = (
-      let old = c.args.self.now in
-      let mid = c.write_bytes.new.self in
-      let rest = c.in_ok-write_bytes.ensures.rest in
-      let r = c.requires.ready in
-      let at = position_kept old c.args.n c.args.k r (machine_of mid.accountant) (machine_of old.accountant) (kept_size old mid rest) (returns-clause-line g c r.segment r.among) (ap machine_of rest.accountant) in
-      record {
-        place = ap (λ (q : Position). q.place) at;
-        pinned = λ pinned. at;
-        position = at;
-        reserved = rest.reserved;
-        pins = rest.pins;
-        size = kept_size old mid rest;
-      }
-      );
-}
-
--- The mark of its segment is on the device, where it begins with the header of that, and as yet the slots are as they were.
-pub returns-clause-ledger : goal.returns-clause-ledger
-returns-clause-ledger g c = λ v among.
+returns-clause-keeps g c =
     let old = c.args.self.now in
-    let mid = c.write_bytes.new.self in
-    let rest = c.in_ok-write_bytes.ensures.rest in
-    let mark = c.mark_of-mark.ensures v (ap (λ (l : List SegmentView). slice_get l c.args.n) (same_line c.args.self.now mid rest) ∙ among) in
-    let did = c.note_mark.ensures in
-    λ i. record {
-      machine = (ap machine_of rest.accountant ∙ sym (ap (λ (s : Step). s.machine) (nothing_done (segment_size_of old) (mark_of c.args.k v) (ledger_of old)))) i;
-      account = record {
-        mark = (did.joined ∙ (λ j. if nat_lt 0 (rest.pins j) then (rest.marks j).joined else greater_mark (mark j) (rest.marks j).durable)) i;
-        durable = (did.durable ∙ (λ j. greater_mark (mark j) (rest.marks j).durable)) i;
-        pinned = nat_lt 0 (rest.pins i);
-      };
-    }
+    let mid = c.write_one.new.self in
+    let did = c.in_ok-write_one.ensures in
+    writing_further g.D.Device.trace g.C.Checksum.sum_of old mid c.free_segments.new.self
+    (log_writing g.D.Device.trace g.C.Checksum.sum_of old mid did.keeps (spared_same old mid did.machine did.keeps.position.pins)) c.free_segments.ensures.keeps
+
+pub returns-clause-answers : goal.returns-clause-answers
+returns-clause-answers g c =
+    let new = c.free_segments.new.self in
+    subst (λ (before : ℕ). Answers c.free_segments.result None new.fault.kept before (g.D.Device.faults new.config.device)) c.in_ok-write_one.ensures.answers.2
+    c.free_segments.ensures.answers
+
+pub returns-clause-refused : goal.returns-clause-refused
+returns-clause-refused g c =
+    let old = c.args.self.now in
+    let mid = c.write_one.new.self in
+    let new = c.free_segments.new.self in
+    step_refused c.free_segments.result new.fault.kept (g.D.Device.faults mid.config.device) (g.D.Device.faults new.config.device)
+    (g.D.Device.trace old.config.device) (g.D.Device.trace new.config.device) c.free_segments.ensures.answers
+    (on_err c.free_segments.result (FailedStep mid new) _ (λ failed. (failed.fault, failed.kept)) c.free_segments.ensures.failed)
+
+pub returns-clause-unwritten : goal.returns-clause-unwritten
+returns-clause-unwritten g c =
+    let old = c.args.self.now in
+    let mid = c.write_one.new.self in
+    let new = c.free_segments.new.self in
+    let did = c.in_ok-write_one.ensures in
+    let r = c.requires.ready in
+    on_err c.free_segments.result (FailedStep mid new) _
+    (λ failed.
+    inr (wrote_one old mid c.args.n c.args.k r.segment r.among (did.account r.segment r.among) did.machine did.keeps.position.size g.D.Device.trace new
+    c.free_segments.ensures.rest (did.line r.segment r.among) c.requires.fault did.keeps.position.pins did.calls c.free_segments.ensures.written failed))
+    c.free_segments.ensures.failed
 
 -- And it isn't above what was synced.
-
-pub returns-in_err-write_bytes-clause-joined : goal.returns-in_err-write_bytes-clause-joined
-returns-in_err-write_bytes-clause-joined g c =
-    let rest = c.in_err-write_bytes.ensures.rest in
-    joins_same g.D.Device.trace g.C.Checksum.sum_of c.args.self.now c.write_bytes.new.self
-    (account_same c.args.self.now c.write_bytes.new.self rest.marks rest.pins)
-
 pub returns-clause-joined : goal.returns-clause-joined
 returns-clause-joined g c = λ H holds.
-    let old = c.args.self.now in
-    let mid = c.write_bytes.new.self in
-    let r = c.requires.ready in
-    let rest = c.in_ok-write_bytes.ensures.rest in
-    let mark = c.mark_of-mark.ensures r.segment (ap (λ (l : List SegmentView). slice_get l c.args.n) (same_line old mid rest) ∙ r.among) in
-    mark_joins old c.args.n c.args.k r g.D.Device.trace g.C.Checksum.sum_of c.requires.fault c.note_mark.new.self
-    (joined_so old mid c.args.n c.args.k r g.D.Device.trace g.C.Checksum.sum_of c.requires.fault c.note_mark.new.self _ _ mark rest.marks
-    c.note_mark.ensures.joined c.note_mark.ensures.durable) H holds
+    let mid = c.write_one.new.self in
+    let new = c.free_segments.new.self in
+    let rest = c.free_segments.ensures.rest in
+    let same = ap (λ (a : Account). a.mark) (account_same mid new rest.marks rest.pins) in
+    let low = c.in_ok-write_one.ensures.joined H holds in
+    subst (λ (z : ℤ). z ≤ℤ pos (synced_end c.args.self.now)) (sym same) low
