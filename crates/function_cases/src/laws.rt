@@ -50,6 +50,7 @@ fn laws_of_running_logs() {
     core_laws::a_mark_is_that_of_its_header();
     core_laws::a_pin_defers_freeing::<MemDevice, PlaceSum>();
     core_laws::a_pin_keeps_all::<MemDevice, PlaceSum>();
+    core_laws::no_write_removes_what_may_be_named::<MemDevice, PlaceSum>();
     core_laws::marks_join_with_what_is_written();
 }
 

@@ -98,6 +98,7 @@ pub mod ShownWrite
 pub mod Shows
 pub mod Slots
 pub mod Spans
+pub mod Spared
 pub mod StandsThere
 pub mod StepAlong
 pub mod StepBetween

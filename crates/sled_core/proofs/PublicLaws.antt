@@ -5,14 +5,13 @@ use Rattle.std.specs.Prelude.{FitsSigned}
 use Rattle.std.specs.Int.{w64, cast_signed, cast_unsigned}
 use Rattle.std.specs.List.{All, Contains}
 use Rattle.std.proofs.lemmas.Int.{to_z-of_z, ints}
-use Rattle.std.proofs.lemmas.List.Elements.{All-contains, All-tail}
+use Rattle.std.proofs.lemmas.List.Elements.{All-tail}
 use Rattle.sled_codec.specs.declared.result.DiskPtr.TheVariants.{Blob}
 use Rattle.sled_codec.specs.declared.serialization.message.LogKind.TheVariants.{Replace}
 use Rattle.sled_codec.specs.History.{History, Message, table}
 use Rattle.sled_codec.specs.Snapshots.{SnapshotModel, stable_place}
 use Rattle.sled_store.specs.Begin.{offset_at, place_at}
 use Rattle.sled_store.specs.Device.{Trace, State, Content, Left, Leaves, Crashed, state_of, content_of, content_left, names_at_rest, step}
-use Rattle.sled_store.specs.Outdated.{IsNamedNow, NamesBlob}
 use Rattle.sled_store.proofs.LogFile.LogLemmas.{at_rest_left}
 use Rattle.sled_store.proofs.Names.NamesLemmas.{settled_name_left, settled_name_at_rest}
 use Rattle.sled_core.specs.declared.logger.Log.{Log}
@@ -63,6 +62,7 @@ pub use Rattle.sled_core.proofs.Line.NoneLeft.{noted_pegs}
 pub use Rattle.sled_core.proofs.Line.Pinned.{pinned_around, pinned_at, pinned_below, pinned_pending, pinned_some, pinned_synced}
 pub use Rattle.sled_core.proofs.Line.PinnedWrites.{ledger_account, machine_pinned}
 pub use Rattle.sled_core.proofs.Stable.OfLog.{stable_of_log}
+pub use Rattle.sled_core.proofs.Line.Spared.{named_now, named_spared}
 pub use Rattle.sled_core.proofs.Line.WholeBuffers.{buffers_whole}
 pub use Rattle.sled_core.proofs.Line.OpenSeen.{buffers_held, current_count, current_least, none_is_empty, ticket_places}
 -- A reservation: its clauses, put together.
@@ -137,18 +137,6 @@ pub can_rewrite : {D C : Type 0} (trace : D → Trace) (sum : List ℕ → ℕ) 
 unfolding Fits
 can_rewrite trace sum log H A f U m lid blob fits entry replaces is =
     rewritten_stored trace sum log H A f U fits.shows m entry replaces lid blob is (target_above log m.page 8 (let least = log.config.config.least in omega (arith, least)))
-
--- The blob of an entry of the table of all that there is is named now.
-pub named_now : {D C : Type 0} (trace : D → Trace) (sum : List ℕ → ℕ) (log : Log D C) (H : History) (A f : ℕ) (U : List Message) (page : ℕ) (m : Message) (blob : ℤ)
-    → Fits trace sum log H A f U → Contains (table H (next_place log) page) m → NamesBlob m blob → IsNamedNow H blob
-named_now trace sum log H A f U page m blob fits entry names = record {
-  cut = next_place log;
-  past = λ x there. All-contains (λ y. y.place < next_place log) H.messages x (fits_reach trace sum log H A f U fits) there;
-  page = page;
-  entry = m;
-  there = entry;
-  names = names;
-}
 
 -- and none is held up where no reservation is open.
 pub none_are_held : {D C : Type 0} (sum : List ℕ → ℕ) (log : Log D C) → NoneOpen log → All (λ b. b.held ≡ None) (buffers_of sum log)

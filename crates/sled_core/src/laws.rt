@@ -17,7 +17,7 @@ ghost use Rattle.sled_codec.specs.WellFormed.{LieApart};
 ghost use Rattle.sled_store.specs.Device.{Trace, State, Left, Leaves, Crashed, state_of, content_of, content_left, at_rest, fresh, Content, Settled, Wrote, Synced, step};
 ghost use Rattle.sled_store.specs.Moments.{IsLater, LeavesOnly};
 ghost use Rattle.sled_store.specs.Script.{Performs};
-ghost use Rattle.sled_store.specs.Outdated.{IsNamedNow, NamesBlob};
+ghost use Rattle.sled_store.specs.Outdated.{IsNamedNow, MayName, NamesBlob};
 ghost use Rattle.sled_core.specs.Fits.{stable_end, KeepsAll, Awaits, FirstWaits, FitsInline, HasRecordOf, IsLeastOpen, IsUnchanged, IsUsedUpBelow, IsUsedUpFor, IsWritten, NoneOpen, blob_at, body_length, buffers_of, current_begin, device_of, fault_of, fillings_of, given_up_of, heads_of, held_len, holding_below, in_blob_of, is_moved, ledger_for, ledger_of, line_of, machine_at, message_for, message_rewriting, next_place, noted_in, open_of, open_places, pins_of, reserved_end, sealing_end, segment_size_of, start_behind, start_of, synced_end, target_of, waiting_behind, waiting_of, writing_below, writing_pending, writing_some};
 ghost use Rattle.sled_core.specs.invariants.Fits.{Holds};
 ghost use Rattle.sled_codec.specs.Snapshots.{SnapshotModel, empty_model, stable_place};
@@ -34,7 +34,7 @@ ghost use Rattle.sled_core.specs.Waiting.{BufferAt, HasLength, spans, write_arou
 ghost use Rattle.sled_core.specs.WholeBuffers.{IsWholeBuffer};
 ghost use Rattle.sled_core.specs.Batches.{LiesInNoFilling};
 ghost use Rattle.sled_core.specs.Causes.{FaultAnswers, HeldAnswers, ReserveAnswers, ReserveCauses};
-ghost use Rattle.sled_core.specs.Keeps.{GoesOn, KeepsLog, KeepsSeen, KeepsWriting, Preserves};
+ghost use Rattle.sled_core.specs.Keeps.{GoesOn, IsSpared, KeepsLog, KeepsSeen, KeepsWriting, Preserves};
 ghost use Rattle.sled_core.specs.Reasons.{ReserveFails, TellsOf, WriteFails};
 ghost use Rattle.sled_core.specs.Reading.{IsInline};
 ghost use Rattle.sled_core.specs.Ready.{IsReady};
@@ -214,6 +214,13 @@ pub fn a_pin_defers_freeing<D: Device, C: Checksum>()
 /// So while a pin is out a call that writes keeps all that one keeps which frees nothing.
 pub fn a_pin_keeps_all<D: Device, C: Checksum>()
     ensures { (old new : Log D C) → 0 < pins_of old → KeepsWriting D.trace C.sum_of old new → KeepsLog D.trace C.sum_of old new }
+{}
+
+/// No write removes the blob of a message that may come to the history (`MayName`), whether a pin is out or not: a blob goes with a
+/// segment only where each message that names it was replaced. So the items of open tickets stay, and those of the page table.
+pub fn no_write_removes_what_may_be_named<D: Device, C: Checksum>()
+    ensures { (log : Log D C) (H : History) (A f : ℕ) (U : List Message) (m : Message) → Fits D.trace C.sum_of log H A f U → MayName H m
+        → IsSpared log m }
 {}
 
 /// Marks join with the writes of buffers, whatever is freed behind them.

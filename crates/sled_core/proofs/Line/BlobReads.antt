@@ -19,7 +19,7 @@ use Rattle.sled_codec.specs.Pointers.{lid_of}
 use Rattle.sled_codec.specs.Spelling.{low_bytes}
 use Rattle.sled_codec.specs.SpellingLaws.{length-low_bytes, same_fronts, same_rests}
 use Rattle.sled_store.specs.Blobs.{HoldsItem, IsBlob, IsDamagedBlob}
-use Rattle.sled_store.specs.Device.{NamesState, State, Trace, state_of}
+use Rattle.sled_store.specs.Device.{NamesState, State, Trace}
 use Rattle.sled_store.proofs.Crashes.SettledLemmas.{name_read_left}
 use Rattle.sled_store.proofs.Histories.EarlierEntries.{entry_earlier}
 use Rattle.sled_store.proofs.Segments.TableEntries.{from_table}
@@ -31,7 +31,7 @@ use Rattle.sled_core.specs.inside.Begun.{line_end}
 use Rattle.sled_core.specs.Begun.{segment_view}
 use Rattle.sled_core.specs.inside.Reached.{StandsAmong, StandsTo}
 use Rattle.sled_core.specs.inside.Fits.{begun_segment, parts_in}
-use Rattle.sled_core.specs.Fits.{device_of, fault_of, line_of, machine_at, noted_in, segment_size_of, stable_end, synced_end}
+use Rattle.sled_core.specs.Fits.{fault_of, line_of, machine_at, noted_in, segment_size_of, stable_end, synced_end}
 use Rattle.sled_core.specs.Logged.{in_log, logged}
 use Rattle.sled_core.specs.OpenBatches.{stable_below}
 use Rattle.sled_core.specs.Causes.{IsFault}
@@ -44,7 +44,7 @@ use Rattle.sled_core.specs.inside.Recoverable.{HasItem, IsSegmentOf}
 use Rattle.sled_core.specs.Recoverable.{NoHeaderOfZeros}
 use Rattle.sled_core.specs.invariants.Running.{Fits}
 use Rattle.sled_core.specs.inside.Running.{FitsWith}
-use Rattle.sled_core.specs.Running.{KeepsItem}
+use Rattle.sled_core.specs.Running.{IsStored, KeepsItem}
 use Rattle.sled_core.proofs.Holds.FitsBatches.{stable_noted}
 use Rattle.sled_core.proofs.Holds.WholeHistory.{whole_ascends}
 use Rattle.sled_core.proofs.Line.Reads.{fault_missed}
@@ -178,9 +178,9 @@ module _ {D C : Type 0} (trace : D → Trace) (sum : List ℕ → ℕ) (log : Lo
     early : Contains (table H cut m.page) m
     early = entry_earlier H (logged_ascends H (whole_ascends sum size log.segments.first.site state log.fault.kept log.segments.first.buffer.bytes.items log.segments.first.buffer.written_len log.segments.first.buffer.sealed.items log.segments.first.buffer.reserved.items (logged H) fits.parts.holds log.line.lies.in_segment)) cut (stable_end log) m.page cut_low m under_cut entry
 
-    -- so that its blob is there
-    has_blob : HasItem sum state.blobs.file m m.pointer
-    has_blob = item_read sum state.blobs m m.pointer (fits.parts.items.entries m.page m early)
+    -- so that no crash takes its item
+    stored : IsStored trace sum log m
+    stored = record { below = fits.parts.items.below m there; item = fits.parts.items.entries m.page m early }
 
     module _ (none : log.fault.kept ≡ None) (zeros : NoHeaderOfZeros sum) where
       file_stands : StandsTo sum size state.log.bytes H cut fits.parts.holds.begun.first fits.reach
@@ -195,19 +195,16 @@ module _ {D C : Type 0} (trace : D → Trace) (sum : List ℕ → ℕ) (log : Lo
       below : BlobIsBelow m m.pointer
       below = (file_stands.placed m there).blob
 
--- The same, of a log whose blobs are read as they are.
-pub record IsReadable {D C : Type 0} (sum : List ℕ → ℕ) (log : Log D C) (s : State) (m : Message) (p : DiskPtr) : Type 0 where
-  pub has : HasItem sum s.blobs.file m p
-  pub begins : MayBegin (segment_size_of log) (lid_of p)
-
-pub readable : {D C : Type 0} (trace : D → Trace) (sum : List ℕ → ℕ) (log : Log D C) (H : History) (A f : ℕ) (U : List Message) → Fits trace sum log H A f U → fault_of log ≡ None
-    → (s : State) → s.blobs ≡ (state_of (trace (device_of log))).blobs → NoHeaderOfZeros sum → (m : Message) → Contains (table H (stable_end log) m.page) m → IsReadable sum log s m m.pointer
+-- The same, of a log that fits the history.
+pub stable_stored : {D C : Type 0} (trace : D → Trace) (sum : List ℕ → ℕ) (log : Log D C) (H : History) (A f : ℕ) (U : List Message) → Fits trace sum log H A f U
+    → (m : Message) → Contains (table H (stable_end log) m.page) m → IsStored trace sum log m
 unfolding Fits
-readable trace sum log H A f U fits none s same zeros m entry =
-    record {
-      has = subst (λ (b : NamesState). HasItem sum b.file m m.pointer) (sym same) (has_blob trace sum log H A f U fits.shows m entry);
-      begins = begins trace sum log H A f U fits.shows m entry none zeros;
-    }
+stable_stored trace sum log H A f U fits m entry = stored trace sum log H A f U fits.shows m entry
+
+pub stable_begins : {D C : Type 0} (trace : D → Trace) (sum : List ℕ → ℕ) (log : Log D C) (H : History) (A f : ℕ) (U : List Message) → Fits trace sum log H A f U → fault_of log ≡ None
+    → NoHeaderOfZeros sum → (m : Message) → Contains (table H (stable_end log) m.page) m → MayBegin (segment_size_of log) (lid_of m.pointer)
+unfolding Fits
+stable_begins trace sum log H A f U fits none zeros m entry = begins trace sum log H A f U fits.shows m entry none zeros
 
 -- and the place that is read is stable
 low_place : (stable : ℕ) (lsn : ℤ) (m : Message) (p : DiskPtr) → pos m.place ≡ lsn → m.place < stable → BlobIsBelow m p → place_read lsn p <ℤ pos stable

@@ -1,5 +1,5 @@
--- A message whose item is a blob, and that is in the table of all that there is, is read, or the read has to wait: a record may begin at its offset, and its blob is there and has its item, whether its record is stable, is written behind a gap or behind an open batch, or lies in a buffer.
-use Rattle.std.proofs.Common.{◌≡◌, ◌≤◌, ◌<◌, ◌+◌, ℕ, ℤ, List, [], ◌∷◌, map, Option, None, Result, Ok, Err, sym, subst, arith, inl, inr}
+-- A message whose item is a blob, and that is in the table of all that there is, is read, or the read has to wait: a record may begin at its offset, whether its record is stable, is written behind a gap or behind an open batch, or lies in a buffer.
+use Rattle.std.proofs.Common.{◌≡◌, ◌≤◌, ◌<◌, ◌+◌, ℕ, ℤ, List, [], ◌∷◌, map, Option, None, Result, Ok, Err, subst, arith, inl, inr}
 use Rattle.std.specs.List.{Contains}
 use Rattle.std.specs.declared.io.Error.{Error as IoError}
 use Rattle.std.proofs.lemmas.Bool.{cases_lt}
@@ -10,7 +10,7 @@ use Rattle.sled_codec.specs.History.{Batch, History, Message, table}
 use Rattle.sled_codec.specs.Places.{MayBegin}
 use Rattle.sled_codec.specs.Pointers.{lid_of}
 use Rattle.sled_codec.specs.Snapshots.{SnapshotModel}
-use Rattle.sled_store.specs.Device.{NamesState, State, Trace, state_of}
+use Rattle.sled_store.specs.Device.{State, Trace}
 use Rattle.sled_store.proofs.Histories.Ascending.{Ascends}
 use Rattle.sled_store.proofs.Histories.EarlierEntries.{entry_earlier}
 use Rattle.sled_store.proofs.Segments.Elements.{in_first, in_nothing, in_rest}
@@ -20,21 +20,20 @@ use Rattle.sled_core.specs.declared.logger.Log.{Log}
 use Rattle.sled_core.specs.declared.logger.read_message.LogRead.{LogRead}
 use Rattle.sled_core.specs.Begun.{SegmentParts, records_to, segment_view}
 use Rattle.sled_core.specs.inside.Fits.{HoldBehind, begun_segment, parts_in}
-use Rattle.sled_core.specs.Fits.{device_of, fault_of, line_of, machine_at, next_place, noted_in, segment_size_of, synced_end}
+use Rattle.sled_core.specs.Fits.{fault_of, line_of, machine_at, next_place, noted_in, segment_size_of, synced_end}
 use Rattle.sled_core.specs.Logged.{in_log}
 use Rattle.sled_core.specs.OpenBatches.{stable_below}
 use Rattle.sled_core.specs.inside.Reached.{StandsAmong, StandsIn, StandsTo}
 use Rattle.sled_core.specs.inside.ReadBuffer.{SettleAnswers}
 use Rattle.sled_core.specs.ReadPointer.{GivesBlob, GivesBlobOrWaits}
-use Rattle.sled_core.specs.inside.Recoverable.{HasItem}
 use Rattle.sled_core.specs.Recoverable.{NoHeaderOfZeros}
 use Rattle.sled_core.specs.invariants.Running.{Fits}
 use Rattle.sled_core.specs.inside.Running.{FitsWith}
 use Rattle.sled_core.specs.Tail.{least_place}
 use Rattle.sled_core.proofs.Holds.ReachLemmas.{completed_behind}
-use Rattle.sled_core.proofs.Line.BlobReads.{IsReadable, among, item_read}
+use Rattle.sled_core.proofs.Line.BlobReads.{among}
 use Rattle.sled_core.proofs.Line.Reads.{fault_missed}
-use Rattle.sled_core.proofs.Line.Rewritten.{kept, ordered, synced_before}
+use Rattle.sled_core.proofs.Line.Rewritten.{ordered, synced_before}
 use Rattle.sled_core.proofs.Logged.Messages.{in_map, logged_ascends, logged_there}
 use Rattle.sled_core.proofs.Reached.MetWritten.{reached_begins, written_begins}
 use Rattle.sled_core.specs.inside.LogSegments.{held_since}
@@ -76,9 +75,6 @@ module _ {D C : Type 0} (trace : D → Trace) (sum : List ℕ → ℕ) (log : Lo
     ascends : Ascends H.messages
     ascends = logged_ascends H (ordered trace sum log H A f U fits)
 
-    has_blob : HasItem sum state.blobs.file m m.pointer
-    has_blob = item_read sum state.blobs m m.pointer (kept trace sum log H A f U fits m.page m entry)
-
     module _ (none : log.fault.kept ≡ None) (zeros : NoHeaderOfZeros sum) where
       found : StandsAmong sum (held_since size log.marks fits.parts.holds.begun.first) size state.log.bytes log.segments.first.site log.segments.first.buffer.written_len (map begun_segment (map parts_in (map segment_view log.segments.behind.items))) fits.reach H fits.parts.holds.begun.first
       found = among trace sum log H A f U fits none zeros
@@ -114,15 +110,11 @@ module _ {D C : Type 0} (trace : D → Trace) (sum : List ℕ → ℕ) (log : Lo
       begins : MayBegin size (lid_of m.pointer)
       begins = elim (cases_lt m.place fits.reach) [ inl low ↦ begins_before low | inr high ↦ begins_behind high ]
 
--- So it is readable.
-pub kept_readable : {D C : Type 0} (trace : D → Trace) (sum : List ℕ → ℕ) (log : Log D C) (H : History) (A f : ℕ) (U : List Message) → Fits trace sum log H A f U → fault_of log ≡ None
-    → (s : State) → s.blobs ≡ (state_of (trace (device_of log))).blobs → NoHeaderOfZeros sum → (m : Message) → Contains (table H (next_place log) m.page) m → IsReadable sum log s m m.pointer
+-- So it is of a log that fits the history.
+pub kept_begins : {D C : Type 0} (trace : D → Trace) (sum : List ℕ → ℕ) (log : Log D C) (H : History) (A f : ℕ) (U : List Message) → Fits trace sum log H A f U → fault_of log ≡ None
+    → NoHeaderOfZeros sum → (m : Message) → Contains (table H (next_place log) m.page) m → MayBegin (segment_size_of log) (lid_of m.pointer)
 unfolding Fits
-kept_readable trace sum log H A f U fits none s same zeros m entry =
-    record {
-      has = subst (λ (b : NamesState). HasItem sum b.file m m.pointer) (sym same) (has_blob trace sum log H A f U fits.shows m entry);
-      begins = begins trace sum log H A f U fits.shows m entry none zeros;
-    }
+kept_begins trace sum log H A f U fits none zeros m entry = begins trace sum log H A f U fits.shows m entry none zeros
 
 -- What gives it without waiting gives it.
 pub gives_at_once : (m : Message) (fault : Option IoError) (r : Result LogRead Error) → GivesBlob m fault r → GivesBlobOrWaits m fault r

@@ -1,5 +1,5 @@
 -- What a read finds of a message that a log has the record of; and what it answers and asks for, by whether its place was brought to the device.
-use Rattle.std.proofs.Common.{SFits, of_z, to_z, IsTrue, ◌≡◌, ◌∙◌, ◌⊎◌, ◌≤◌, ◌<◌, ◌≤ℤ◌, ◌<ℤ◌, ℕ, ℤ, pos, unsigned_abs, Bool, true, false, if◌then◌else◌, List, [], ◌∷◌, map, Option, None, Some, Result, Ok, Err, arith, inl, inr, ap, sym, refl, subst}
+use Rattle.std.proofs.Common.{SFits, of_z, to_z, IsTrue, ◌≡◌, ◌∙◌, ◌⊎◌, ◌≤◌, ◌<◌, ◌≤ℤ◌, ◌<ℤ◌, ℕ, ℤ, pos, unsigned_abs, true, false, List, map, Option, None, Some, Result, Ok, Err, arith, inl, inr, ap, sym, refl, subst}
 use Rattle.std.specs.List.{Contains, slice_get}
 use Rattle.std.specs.Prelude.{int_lt}
 use Rattle.std.specs.declared.io.Error.{Error as IoError}
@@ -17,9 +17,9 @@ use Rattle.sled_codec.specs.History.{Message, History, table}
 use Rattle.sled_codec.specs.Places.{MayBegin}
 use Rattle.sled_codec.specs.Pointers.{lid_of}
 use Rattle.sled_store.specs.Answers.{is_fault_kind}
-use Rattle.sled_store.specs.Device.{Event, State, Synced, Trace, Wrote, state_of}
+use Rattle.sled_store.specs.Device.{State, Trace, state_of}
 use Rattle.sled_store.specs.Script.{Performs, after_all}
-use Rattle.sled_store.proofs.Traces.ScriptLemmas.{after_joined, performs_whole}
+use Rattle.sled_store.proofs.Traces.ScriptLemmas.{performs_whole}
 use Rattle.sled_core.specs.inside.Shown.{shown_of, shown}
 use Rattle.sled_core.specs.Begun.{segment_view, SegmentView}
 use Rattle.sled_core.specs.Causes.{HeldAnswers, IsFault, IsFaultAt, IsHeld, OnDone}
@@ -33,21 +33,17 @@ use Rattle.sled_core.specs.inside.FreeSlots.{HasSlot}
 use Rattle.sled_core.specs.LogFile.{StaysFrom}
 use Rattle.sled_core.specs.Logged.{in_log, logged}
 use Rattle.sled_core.specs.inside.Marked.{KeepsSegment}
-use Rattle.sled_core.specs.ReadBuffer.{IsSettled, IsWrittenPlace, LeavesUnsealed, LeavesWritten, ReadAnswers, RefusesPlace, SealsAround, Settles, WritesAround, held_at, ledger_at, settling}
+use Rattle.sled_core.specs.ReadBuffer.{IsSettled, IsWrittenPlace, LeavesUnsealed, LeavesWritten, ReadAnswers, RefusesPlace, SealsAround, Settles, WritesAround, held_at, settling}
 use Rattle.sled_core.specs.inside.ReadBuffer.{SettleAnswers}
 use Rattle.sled_core.specs.ReadPointer.{GivesBlob, place_read, IsDamageAt}
 use Rattle.sled_core.specs.Reading.{IsNoPlace}
 use Rattle.sled_core.specs.invariants.Running.{Fits}
-use Rattle.sled_core.specs.Freeing.{Ledger}
-use Rattle.sled_core.specs.Ledger.{writings, written_ledger, written_step}
 use Rattle.sled_core.specs.Stable.{IsNotReserved}
-use Rattle.sled_core.specs.Waiting.{BufferAt, free_around, BufferStart}
-use Rattle.sled_core.specs.Fits.{buffers_of}
+use Rattle.sled_core.specs.Waiting.{BufferAt, BufferStart}
 use Rattle.sled_core.proofs.Holds.HeldFrom.{held_marked}
 use Rattle.sled_core.proofs.Line.ShownParts.{line_older, line_written}
 use Rattle.sled_core.proofs.Line.HeaderMarks.{marked_same}
 use Rattle.sled_core.proofs.Line.Around.{is_none, none_found}
-use Rattle.sled_core.proofs.Line.FreeingStep.{step_blobs, step_names}
 use Rattle.sled_core.proofs.Line.Outcomes.{all_done, all_err, all_ok, held_alike}
 use Rattle.sled_core.proofs.Line.Records.{IsHeldAt, entry_stays, first_stable, line_begins, line_record}
 use Rattle.sled_core.proofs.Line.Segments.{line_segments}
@@ -56,42 +52,6 @@ use Rattle.sled_core.proofs.Logged.Messages.{in_map, inline_same, inline_there, 
 use Rattle.sled_core.proofs.Reserve.Ranges.{at_there}
 use Rattle.sled_core.proofs.Stable.EndLemmas.{or_beyond}
 use Rattle.sled_store.specs.SegmentStates.{Machine}
-
--- The calls that settle a place leave the snapshots as they were.
-writings_names : (size : ℕ) (bs : List BufferAt) (l : Ledger) (t : Trace) → (state_of (after_all (writings size bs l) t)).snapshots ≡ (state_of t).snapshots
-writings_names size [] l t = refl
-writings_names size (b ∷ bs) l t =
-    let calls : List Event = (written_step size b.mark l).calls in
-    let next : Ledger = written_ledger size b.mark l in
-    let there : Trace = Synced ∷ Wrote b.lid b.bytes b.bytes ∷ t in
-    ap (λ (x : Trace). (state_of x).snapshots) (after_joined calls (writings size bs next) there)
-    ∙ writings_names size bs next (after_all calls there)
-    ∙ step_names size b.mark l there
-
-pub settled_names : {D C : Type 0} (sum : List ℕ → ℕ) (log : Log D C) (lsn : ℤ) (t : Trace) → (state_of (after_all (settling sum log lsn) t)).snapshots ≡ (state_of t).snapshots
-settled_names sum log lsn t = by_test (int_lt lsn (pos (synced_end log))) where
-  by_test : (o : Bool)
-      → (state_of (after_all (if o then [] else writings (segment_size_of log) (free_around (unsigned_abs lsn) (buffers_of sum log)) (ledger_at (unsigned_abs lsn) log)) t)).snapshots ≡ (state_of t).snapshots
-  by_test true = refl
-  by_test false = writings_names (segment_size_of log) (free_around (unsigned_abs lsn) (buffers_of sum log)) (ledger_at (unsigned_abs lsn) log) t
-
--- and the blobs
-writings_blobs : (size : ℕ) (bs : List BufferAt) (l : Ledger) (t : Trace) → (state_of (after_all (writings size bs l) t)).blobs ≡ (state_of t).blobs
-writings_blobs size [] l t = refl
-writings_blobs size (b ∷ bs) l t =
-    let calls : List Event = (written_step size b.mark l).calls in
-    let next : Ledger = written_ledger size b.mark l in
-    let there : Trace = Synced ∷ Wrote b.lid b.bytes b.bytes ∷ t in
-    ap (λ (x : Trace). (state_of x).blobs) (after_joined calls (writings size bs next) there)
-    ∙ writings_blobs size bs next (after_all calls there)
-    ∙ step_blobs size b.mark l there
-
-pub settled_blobs : {D C : Type 0} (sum : List ℕ → ℕ) (log : Log D C) (lsn : ℤ) (t : Trace) → (state_of (after_all (settling sum log lsn) t)).blobs ≡ (state_of t).blobs
-settled_blobs sum log lsn t = by_test (int_lt lsn (pos (synced_end log))) where
-  by_test : (o : Bool)
-      → (state_of (after_all (if o then [] else writings (segment_size_of log) (free_around (unsigned_abs lsn) (buffers_of sum log)) (ledger_at (unsigned_abs lsn) log)) t)).blobs ≡ (state_of t).blobs
-  by_test true = refl
-  by_test false = writings_blobs (segment_size_of log) (free_around (unsigned_abs lsn) (buffers_of sum log)) (ledger_at (unsigned_abs lsn) log) t
 
 none_is : (o : Option BufferAt) → is_none o ≡ true → o ≡ None
 none_is None is = refl
@@ -342,7 +302,7 @@ module _ {D C : Type 0} (lsn : ℤ) (old mid : Log D C) where
     still = still;
     written = λ behind. all_ok r _ (left behind);
     held = λ held. absurd (free held);
-    some = elim (or_beyond (pos (synced_end old)) lsn) [ inl behind ↦ all_err r _ (inr (inr (left behind))) | inr below ↦ all_err r _ (inl (still below)) ];
+    some = elim (or_beyond (pos (synced_end old)) lsn) [ inl behind ↦ all_err r _ (inr (inr (inl (left behind)))) | inr below ↦ all_err r _ (inl (still below)) ];
     marked = marked_same sum old mid new is.marked segment (ap (λ (s : BufferStart). s.place) start);
   } where
     left : pos (synced_end old) ≤ℤ lsn → LeavesWritten sum (unsigned_abs lsn) old new

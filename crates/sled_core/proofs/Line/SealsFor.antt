@@ -1,10 +1,12 @@
 -- Where the current buffer has a place it is sealed first: what has the place is the same then.
-use Rattle.std.proofs.Common.{◌≡◌, ◌∙◌, ◌⊎◌, ◌≤◌, ◌<◌, ◌+◌, ◌&&◌, nat_le, ap, sym, refl, arith, subst, inl, inr, ℕ, suc, Bool, true, false, pos, nat_lt, if◌then◌else◌, List, [], ◌∷◌, ◌++◌, length, map, None, Result, OnOk, OnErr}
+use Rattle.std.proofs.Common.{◌≡◌, ◌∙◌, ◌⊎◌, ◌≤◌, ◌<◌, ◌+◌, ◌&&◌, nat_le, ap, sym, refl, arith, subst, inl, inr, ℕ, suc, Bool, true, false, pos, nat_lt, if◌then◌else◌, List, [], ◌∷◌, ◌++◌, length, map, Option, None, Some, Result, Err, OnOk, OnErr}
 use Rattle.std.specs.List.{Contains}
 use Rattle.std.specs.Prelude.{int_lt}
 use Rattle.std.proofs.lemmas.Bool.Decides.{nat_tests}
 use Rattle.std.proofs.lemmas.Int.{ints}
+use Rattle.std.specs.declared.io.Error.{Error as IoError}
 use Rattle.sled_codec.specs.declared.result.Error.{Error}
+use Rattle.sled_codec.specs.declared.result.Error.TheVariants.{Held}
 use Rattle.sled_store.specs.Device.{Trace}
 use Rattle.sled_store.specs.SegmentStates.{Machine}
 use Rattle.sled_store.specs.declared.config.RunningConfig.{RunningConfig}
@@ -13,13 +15,14 @@ use Rattle.sled_core.specs.Begun.{SegmentView, segment_view}
 use Rattle.sled_core.specs.declared.logger.Log.{Log}
 use Rattle.sled_core.specs.inside.Fits.{AddsBuffers}
 use Rattle.sled_core.specs.Fits.{IsUsedUp, KeepsAll, KeepsTickets, buffers_of, current_begin, current_of, device_of, fault_of, held_len, ledger_of, ledger_sealed, position_sealed, position_with, reserved_end, sealing_end, segment_size_of, start_of, synced_end, waiting_of}
-use Rattle.sled_core.specs.Fronts.{CameAround, WroteNone, synced_writes, syncs}
+use Rattle.sled_core.specs.Fronts.{CameAround, WroteNone, WroteThenFailed, synced_writes, syncs}
 use Rattle.sled_core.specs.Keeps.{Preserves, SamePosition, start_sealed}
 use Rattle.sled_core.specs.Ledger.{ledger_behind, writings}
 use Rattle.sled_core.specs.Marked.{BeginsMarked}
 use Rattle.sled_core.specs.inside.Marked.{KeepsSegment}
-use Rattle.sled_core.specs.Account.{account_of}
-use Rattle.sled_core.specs.ReadBuffer.{IsUsedUpAt, LeavesSealed, LeavesWritten, WritesAround, held_at, ledger_at, settling}
+use Rattle.sled_core.specs.Account.{account_behind, account_of}
+use Rattle.sled_core.specs.Causes.{HeldAnswers, IsHeld}
+use Rattle.sled_core.specs.ReadBuffer.{IsUsedUpAt, LeavesFailing, LeavesSealed, LeavesWritten, WritesAround, held_at, ledger_at, sealed_at, settling}
 use Rattle.sled_core.specs.Waiting.{BufferAt, Span, free_around, has_place, one_around, without_around, BufferStart}
 use Rattle.sled_core.proofs.Line.KeptCalls.{kept_still, position_still, tickets_still}
 use Rattle.sled_core.proofs.Line.Around.{found, found_front, free_found, free_of, held_found, held_of}
@@ -27,6 +30,7 @@ use Rattle.sled_core.proofs.Line.Below.{begin_all}
 use Rattle.sled_core.proofs.Line.Entered.{filled_last}
 use Rattle.sled_core.proofs.Line.HeaderMarks.{marked_same, none_begun}
 use Rattle.sled_core.proofs.Line.Outcomes.{held_err, on_err, on_ok}
+use Rattle.sled_core.proofs.Line.PinnedWrites.{ledger_account}
 use Rattle.sled_core.proofs.Line.SealFirst.{ends_behind, sealed_ledger}
 use Rattle.sled_core.proofs.Line.Shows.{buffers_add}
 
@@ -119,6 +123,12 @@ seals_current {D} {C} trace sum place old mid above reserved adds waiting begins
     by_more : {x b : BufferAt} → x.place ≡ current_begin old → x.end ≡ sealing_end old → place < sealing_end old → x ≡ b → has_place place b ≡ true
     by_more {x} begin end lt is = subst (λ (y : BufferAt). has_place place y ≡ true) is (let lower : nat_le x.place place ≡ true = grind (arith, nat_tests, begin, above) in let upper : nat_lt place x.end ≡ true = grind (arith, nat_tests, end, lt) in ap (λ (o : Bool). o && nat_lt place x.end) lower ∙ upper)
 
+-- A call that was held up saw no failure.
+pub held_sound : {T : Type 0} (r : Result T Error) (held : Option ℕ) (used : Type 0) (now : Option IoError) (before after : ℕ)
+    → HeldAnswers r held used None now before after → IsHeld r → now ≡ None
+held_sound (Err (Held at)) held used now before after answers is = answers.3
+held_sound _ held used now before after answers is = absurd is
+
 -- So the same is written then, and the same holds it up.
 module _ {D C : Type 0} (trace : D → Trace) (sum : List ℕ → ℕ) (place : ℕ) (old mid : Log D C) (seals : SealsFor trace sum place old mid) where
   ledger_same_at : ledger_at place mid ≡ ledger_at place old
@@ -149,9 +159,31 @@ module _ {D C : Type 0} (trace : D → Trace) (sum : List ℕ → ℕ) (place : 
       λ m. with_slots m ∙ seals.sealed.3 m,
     )
 
+    -- or that, and the step behind it failed,
+    pub leaves_failing : WroteThenFailed trace (one_around place (waiting_of mid)) (without_around place (waiting_of mid)) mid new
+        → LeavesFailing sum place old new
+    leaves_failing wrote = (
+      wrote.waiting ∙ ap (without_around place) seals.sealed.0,
+      start ∙ seals.sealed.1,
+      wrote.account
+          ∙ (λ i. account_behind (one_around place (seals.sealed.0 i)) (seals.sealed.2 i).account)
+          ∙ sym (ledger_account (segment_size_of old) (one_around place (sealed_at sum place old)) (ledger_at place old)),
+      (λ m. with_slots m ∙ seals.sealed.3 m),
+      record {
+        unpinned = sym seals.position.pins ∙ wrote.failed.unpinned;
+        sound = sym seals.fault ∙ wrote.failed.sound;
+        fault = wrote.failed.fault;
+        kept = wrote.failed.kept;
+      },
+    )
+
     -- or it could not be
-    pub came_sealed : (waiting_of new ≡ waiting_of mid) × WroteNone trace mid new × (ledger_of new ≡ ledger_of mid) → CameAround trace sum (pos place) old new
-    came_sealed failed = inr (inl (
+    abbrev pub Fails : Type 0
+    Fails = ((waiting_of new ≡ waiting_of mid) × WroteNone trace mid new × (ledger_of new ≡ ledger_of mid))
+        ⊎ (WroteThenFailed trace (one_around place (waiting_of mid)) (without_around place (waiting_of mid)) mid new × (held_at sum mid (pos place) ≡ None))
+
+    pub came_sealed : Fails → CameAround trace sum (pos place) old new
+    came_sealed (inl failed) = inr (inl (
       leaves_sealed (failed.0, failed.2),
       record {
         synced = failed.1.synced ∙ ap (λ d. syncs (trace d)) seals.device;
@@ -160,13 +192,17 @@ module _ {D C : Type 0} (trace : D → Trace) (sum : List ℕ → ℕ) (place : 
         account = failed.1.account ∙ seals.account;
       },
     ))
+    came_sealed (inr (wrote, free)) = inr (inr (inr (leaves_failing wrote, sym held_at_same ∙ free)))
 
     pub writes_around : {T : Type 0} (r : Result T Error) → synced_end old ≤ place → OnOk r ((waiting_of new ≡ without_around place (waiting_of mid)) × (ledger_of new ≡ ledger_behind (segment_size_of mid) (one_around place (waiting_of mid)) (ledger_of mid)))
-        → OnErr r ((waiting_of new ≡ waiting_of mid) × (ledger_of new ≡ ledger_of mid)) → KeepsSegment mid new → WritesAround sum r (pos place) old new
-    writes_around r behind done failed segment = record {
+        → OnErr r Fails → (IsHeld r → fault_of new ≡ None) → KeepsSegment mid new → WritesAround sum r (pos place) old new
+    writes_around r behind done failed sound segment = record {
       still = λ below. absurd (omega (arith, ints, below, behind));
       written = λ _. on_ok r _ _ leaves_written done;
-      held = λ held. leaves_sealed (held_err r _ held failed);
-      some = on_err r _ _ (λ same. inr (inl (leaves_sealed same))) failed;
+      held = λ held. elim (held_err r _ held failed) [
+        | inl none ↦ leaves_sealed (none.0, none.2)
+        | inr one ↦ absurd (let clash : None ≡ Some one.0.failed.fault = sym (sound held) ∙ one.0.failed.kept in cc)
+      ];
+      some = on_err r _ _ (λ fails. elim fails [ inl none ↦ inr (inl (leaves_sealed (none.0, none.2))) | inr one ↦ inr (inr (inr (leaves_failing one.0))) ]) failed;
       marked = marked_same sum old mid new seals.marked segment (ap (λ (s : BufferStart). s.place) start);
     }

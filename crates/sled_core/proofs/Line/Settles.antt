@@ -6,12 +6,14 @@ use Rattle.std.specs.Prelude.{int_lt}
 use Rattle.std.proofs.lemmas.Bool.{cases_lt}
 use Rattle.std.proofs.lemmas.Bool.Decides.{nat_tests}
 use Rattle.std.proofs.lemmas.Int.{ints}
+use Rattle.sled_core.specs.Account.{account_behind, account_of, written_account}
 use Rattle.sled_core.specs.Begun.{SegmentView, begin_of, segment_view}
 use Rattle.sled_core.specs.declared.iobuf.Reserved.{Reserved}
 use Rattle.sled_core.specs.declared.iobuf.Sealed.{Sealed}
 use Rattle.sled_core.specs.Buffers.{first_open_in, open_in}
 use Rattle.sled_core.specs.declared.logger.Log.{Log}
 use Rattle.sled_core.specs.Fits.{current_of, buffers_of, current_begin, held_len, ledger_of, ledger_sealed, line_of, segment_size_of, synced_end, waiting_of}
+use Rattle.sled_core.specs.Freeing.{Ledger}
 use Rattle.sled_core.specs.Ledger.{ledger_behind, writings, written_ledger, written_step}
 use Rattle.sled_core.specs.ReadBuffer.{IsWrittenPlace, held_at, settling}
 use Rattle.sled_core.specs.inside.SealedBuffers.{IsSealed, written_at}
@@ -24,6 +26,7 @@ use Rattle.sled_core.proofs.Line.Entered.{filled_last}
 use Rattle.sled_core.proofs.Holds.Facts.{IsSegment, current_facts, nth_facts}
 use Rattle.sled_core.proofs.Line.LedgerBehind.{writings_one}
 use Rattle.sled_core.proofs.Line.Lying.{end_of, line_lie, promoted_end, promoted_unwritten, segments_within, set_end, set_within, synced_up, unwritten_lie, unwritten_run}
+use Rattle.sled_core.proofs.Line.PinnedWrites.{ledger_account}
 use Rattle.sled_core.proofs.Line.Segments.{line_segments}
 use Rattle.sled_core.proofs.Line.Shows.{buffers_add, buffers_still}
 use Rattle.sled_core.proofs.Reserve.OpenCounts.{first_there}
@@ -286,6 +289,9 @@ module _ {D C : Type 0} {log : Log D C} {place : ℕ} (looked : LooksAt log plac
     ledger_it =
         ap (λ (l : List BufferAt). ledger_behind size l (ledger_of log)) (one_there (Some its) seen)
         ∙ ap (λ (m : Option ℤ). written_ledger size m (ledger_of log)) marked
+
+    pub account_it : written_account (mark_of k v) (account_of log) ≡ account_behind (one_around place (waiting_of log)) (account_of log)
+    account_it = sym (ap (λ (l : Ledger). l.account) ledger_it) ∙ ledger_account size (one_around place (waiting_of log)) (ledger_of log)
 
     found_marked : found place (unwritten_of (written_now k v).parts) ≡ None
     found_marked =

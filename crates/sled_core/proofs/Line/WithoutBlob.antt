@@ -27,7 +27,7 @@ module _ {D C : Type 0} (trace : D → Trace) (sum : List ℕ → ℕ) where
     stable = keeps.goes_on.stable;
     sound = keeps.goes_on.sound;
     crash = λ H A f U fits beside. keeps.goes_on.crash H A f U fits;
-    items = λ none m beside stored. keeps.goes_on.items none m stored;
+    items = λ none m beside stored. keeps.goes_on.items none m tt stored;
     history = keeps.history;
     fits = λ H A f U fits beside. keeps.fits H A f U fits;
     noted = keeps.noted;
@@ -48,7 +48,7 @@ module _ {D C : Type 0} (trace : D → Trace) (sum : List ℕ → ℕ) where
     crash = λ H A f U fits beside. joined _ _ _ _ (first.crash H A f U fits beside)
         (subst (λ n. LeavesOnly (RecoverableIfOwn sum n H A f) (trace (device_of mid)) (trace (device_of new))) (ap (λ (x : Config). x.segment_size) first.config.config)
         (then.goes_on.crash H A f U (first.fits H A f U fits beside)));
-    items = λ none m beside stored. then.goes_on.items none m (first.items (then.goes_on.sound none) m beside stored);
+    items = λ none m beside stored. then.goes_on.items none m tt (first.items (then.goes_on.sound none) m beside stored);
     history = λ H holds. then.history H (first.history H holds);
     fits = λ H A f U fits beside. then.fits H A f U (first.fits H A f U fits beside);
     noted = noted_further old mid new then.goes_on.stable first.noted then.noted;
@@ -64,7 +64,7 @@ module _ {D C : Type 0} (trace : D → Trace) (sum : List ℕ → ℕ) where
       stable = keeps.stable;
       crash = λ H A f U fits. keeps.crash H A f U fits (λ m there. tt);
       sound = keeps.sound;
-      items = λ none m stored. keeps.items none m tt stored;
+      items = λ none m spared stored. keeps.items none m tt stored;
     };
     history = keeps.history;
     fits = λ H A f U fits. keeps.fits H A f U fits (λ m there. tt);

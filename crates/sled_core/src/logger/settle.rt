@@ -90,7 +90,8 @@ impl<D: Device, C: Checksum> Log<D, C> {
             ≡ ledger_behind (segment_size_of self.old) (one_around place (waiting_of self.old)) (ledger_of self.old)) }
         ensures same { OnErr result (((waiting_of self.new ≡ waiting_of self.old) × WroteNone D.trace self.old self.new
             × (ledger_of self.new ≡ ledger_of self.old))
-            ⊎ WroteThenFailed D.trace (one_around place (waiting_of self.old)) (without_around place (waiting_of self.old)) self.old self.new) }
+            ⊎ (WroteThenFailed D.trace (one_around place (waiting_of self.old)) (without_around place (waiting_of self.old)) self.old self.new
+            × (held_at C.sum_of self.old (pos place) ≡ None))) }
         ensures one { ((b : BufferAt) → Contains (waiting_of self.old) b → has_place place b ≡ true) → OnOk result (NoneSealed self.new) }
         ensures segment { KeepsSegment self.old self.new }
         ensures joined { JoinsBelow D.trace C.sum_of self.old self.new }

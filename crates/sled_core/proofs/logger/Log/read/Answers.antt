@@ -9,7 +9,7 @@ use Rattle.sled_codec.specs.declared.result.DiskPtr.{DiskPtr}
 use Rattle.sled_codec.specs.declared.result.Error.{Error}
 use Rattle.sled_codec.specs.declared.result.Error.TheVariants.{Corruption, Io}
 use Rattle.sled_codec.specs.Errors.{IsCorruption}
-use Rattle.sled_codec.specs.History.{Message, History}
+use Rattle.sled_codec.specs.History.{Message, History, table}
 use Rattle.sled_codec.specs.Places.{MayBegin}
 use Rattle.sled_codec.specs.Pointers.{lid_of}
 use Rattle.sled_store.specs.Device.{State, Trace, state_of}
@@ -18,26 +18,30 @@ use Rattle.sled_store.proofs.Traces.ScriptLemmas.{performs_nothing}
 use Rattle.sled_core.specs.Causes.{IsHeld, OnDone}
 use Rattle.sled_core.specs.declared.logger.Log.{Log}
 use Rattle.sled_core.specs.declared.logger.read_message.LogRead.{LogRead}
-use Rattle.sled_core.specs.Fits.{HasRecordOf, device_of, fault_of, reserved_end, segment_size_of, synced_end}
+use Rattle.sled_core.specs.Fits.{HasRecordOf, device_of, fault_of, next_place, reserved_end, segment_size_of, synced_end}
+use Rattle.sled_core.specs.Freeing.{Ledger}
+use Rattle.sled_core.specs.Keeps.{HoldsFast}
 use Rattle.sled_core.specs.invariants.Fits.{Holds}
 use Rattle.sled_core.specs.LogFile.{MessageStands}
 use Rattle.sled_core.specs.Fronts.{CameAround}
 use Rattle.sled_core.specs.ReadBuffer.{IsUsedUpAt, IsWrittenPlace, ReadAnswers, SealsAround, WritesAround, held_at, settling}
 use Rattle.sled_core.specs.inside.ReadBuffer.{SettleAnswers}
 use Rattle.sled_core.specs.Reading.{IsInline, IsNoPlace, GivesMessage}
+use Rattle.sled_core.specs.Running.{IsStored}
+use Rattle.sled_core.specs.inside.Recoverable.{HasItem}
 use Rattle.sled_core.specs.ReadPointer.{GivesBlob, IsStableBlob, place_read}
 use Rattle.sled_core.specs.inside.ReadPointer.{IsDamageOf}
-use Rattle.sled_core.proofs.Line.KeptCalls.{kept_further, place_further, position_place, tickets_further, writing_still}
-use Rattle.sled_core.proofs.Holds.ReachLemmas.{fits_holds}
+use Rattle.sled_core.proofs.Line.KeptCalls.{holds_fast, log_writing, spared_same, writing_further, writing_still}
 use Rattle.sled_core.proofs.Line.Advanced.{same_current}
 use Rattle.sled_core.proofs.Line.CameFar.{around_none, came_behind, seals_none, still_around}
-use Rattle.sled_core.proofs.Line.BlobReads.{IsReadable, gives_read, readable, reads_stable}
-use Rattle.sled_core.proofs.Line.KeptReads.{err_waits, gives_at_once, kept_readable}
+use Rattle.sled_core.proofs.Line.BlobReads.{gives_read, item_read, reads_stable, stable_begins, stable_stored}
+use Rattle.sled_core.proofs.Line.KeptReads.{err_waits, gives_at_once, kept_begins}
 use Rattle.sled_core.proofs.Line.LogSpans.{same_buffers, same_with}
 use Rattle.sled_core.proofs.Line.HeaderMarks.{segment_same}
-use Rattle.sled_core.proofs.Line.Reads.{above_zero, around_err, around_read, err_answers, err_damages, err_gives, err_refuses, err_settles, fits_begins, is_settled, read_answers, read_held, read_reserved, read_settles, refuses_none, seals_err, seals_read, settled_blobs, settled_record}
+use Rattle.sled_core.proofs.Line.Reads.{above_zero, around_err, around_read, err_answers, err_damages, err_gives, err_refuses, err_settles, fits_begins, is_settled, read_answers, read_held, read_reserved, read_settles, refuses_none, seals_err, seals_read, settled_record}
 use Rattle.sled_core.proofs.Line.Records.{inline_is}
 use Rattle.sled_core.proofs.Line.Settles.{held_stable, stable_up, written_still}
+use Rattle.sled_core.proofs.Line.Spared.{entry_spared, entry_stored}
 use Rattle.sled_core.proofs.Read.GivesLemmas.{gives}
 use Rattle.sled_core.proofs.Read.PathLemmas.{stands_readable}
 use Rattle.sled_core.proofs.Read.PointerLemmas.{damage_at, damage_inline, if_err, read_here, reads_inline}
@@ -85,12 +89,11 @@ returns-then-lsn-lt0-clause-undamaged g c = λ H A f U m fits there has at point
 pub returns-then-lsn-lt0-clause-blob : goal.returns-then-lsn-lt0-clause-blob
 returns-then-lsn-lt0-clause-blob g c = λ H A f U m fits zeros.
     let old = c.args.self.now in
-    let s : State = state_of (g.D.Device.trace (device_of old)) in
     let never : pos m.place ≡ c.args.lsn → m.pointer ≡ c.args.ptr → MayBegin (segment_size_of old) (lid_of m.pointer) → ⊥ = λ place pointer begins.
     not_there g c m.place place (subst (λ (p : DiskPtr). MayBegin (segment_size_of old) (lid_of p)) pointer begins) in
     record {
-      stable = λ is. absurd (never is.place is.pointer (readable g.D.Device.trace g.C.Checksum.sum_of old H A f U fits c.in_default.is s refl zeros m is.entry).begins);
-      kept = λ is. absurd (never is.place is.pointer (kept_readable g.D.Device.trace g.C.Checksum.sum_of old H A f U fits c.in_default.is s refl zeros m is.entry).begins);
+      stable = λ is. absurd (never is.place is.pointer (stable_begins g.D.Device.trace g.C.Checksum.sum_of old H A f U fits c.in_default.is zeros m is.entry));
+      kept = λ is. absurd (never is.place is.pointer (kept_begins g.D.Device.trace g.C.Checksum.sum_of old H A f U fits c.in_default.is zeros m is.entry));
     }
 
 pub returns-then-lsn-lt0-clause-calls : goal.returns-then-lsn-lt0-clause-calls
@@ -223,9 +226,9 @@ at_ok : (g : given.Over) (c : goal.After-read_settled g) → to_z w64 (of_z w64 
 at_ok g c = at_is c.args.lsn c.place_read.result c.args.ptr c.ranges.lsn (record { sfits = c.place_read.type_inv }) c.place_read.ensures
 
 -- the record of a message stands where it is read
-held_there : (g : given.Over) (c : goal.After-read_settled g) (H : History) (m : Message) → Holds g.D.Device.trace g.C.Checksum.sum_of c.args.self.now H → Contains H.messages m → HasRecordOf c.args.self.now H m → pos m.place ≡ c.args.lsn → m.pointer ≡ c.args.ptr → IsInline c.args.ptr
+held_there : (g : given.Over) (c : goal.After-read_settled g) (H : History) (m : Message) → HoldsFast g.D.Device.trace g.C.Checksum.sum_of c.args.self.now H → Contains H.messages m → HasRecordOf c.args.self.now H m → pos m.place ≡ c.args.lsn → m.pointer ≡ c.args.ptr → IsInline c.args.ptr
     → MessageStands g.C.Checksum.sum_of (segment_size_of c.settle_at.new.self) (state_of (g.D.Device.trace c.settle_at.new.self.config.device)).log.bytes (lid_of c.args.ptr) (c.unsigned_abs.result / c.args.self.now.config.config.segment_size) m
-held_there g c H m holds there has at pointer inline =
+held_there g c H m fast there has at pointer inline =
     let old = c.args.self.now in
     let mid = c.settle_at.new.self in
     let trace = g.D.Device.trace in
@@ -235,15 +238,16 @@ held_there g c H m holds there has at pointer inline =
     let here : to_z w64 (of_z w64 c.place_read.result) ≡ pos m.place = at_ok g c ∙ read_here c.args.lsn c.args.ptr inline ∙ sym at in
     let written : IsWrittenPlace mid m.place = subst (λ z. pos 0 ≤ℤ z → IsWrittenPlace mid (unsigned_abs z)) here c.in_ok-settle_at.ensures.written (omega (arith, ints)) in
     let still : m.place < synced_end old → mid ≡ old = λ below. subst (λ z. z <ℤ pos (synced_end old) → mid ≡ old) here c.settle_at.ensures.still (omega (arith, ints, below)) in
-    let found = settled_record trace sum old mid H m holds (c.settle_at.ensures.keeps.preserves.history H holds) c.in_default.is c.in_ok-settle_at.ensures.answers.1.3 there has written still (c.in_ok-settle_at.ensures.joined H holds) (lid_of c.args.ptr) (pointer ∙ inline_is c.args.ptr inline) in
+    let holds : Holds trace sum old H = holds_fast trace sum old H fast in
+    let found = settled_record trace sum old mid H m holds (c.settle_at.ensures.keeps.preserves.history H fast) c.in_default.is c.in_ok-settle_at.ensures.answers.1.3 there has written still (c.in_ok-settle_at.ensures.joined H holds) (lid_of c.args.ptr) (pointer ∙ inline_is c.args.ptr inline) in
     let place : c.unsigned_abs.result ≡ m.place = place_is g c ∙ ap unsigned_abs (sym at) in
     let number : c.unsigned_abs.result / c.args.self.now.config.config.segment_size ≡ m.place / size =
     ap (λ n. n / c.args.self.now.config.config.segment_size) place ∙ ap (λ n. m.place / n) (sym c.in_ok-settle_at.ensures.keeps.position.size) in
     subst (λ n. MessageStands sum size device.log.bytes (lid_of c.args.ptr) n m) (sym number) found.stands
 
 pub returns-clause-message : goal.returns-clause-message
-returns-clause-message g c = λ H m holds there has at pointer inline.
-    let s = held_there g c H m holds there has at pointer inline in
+returns-clause-message g c = λ H m fast there has at pointer inline.
+    let s = held_there g c H m fast there has at pointer inline in
     let device : State = state_of (g.D.Device.trace c.settle_at.new.self.config.device) in
     if_ok c.read_settled.result _ (GivesMessage m) (λ (r : LogRead) reads. gives g.C.Checksum.sum_of _ _ _ _ _ m s.header r s.stands s.known s.page (reads_inline g.C.Checksum.sum_of _ device _ _ c.args.ptr r inline reads)) c.read_settled.ensures.reading
 
@@ -251,7 +255,7 @@ returns-clause-message g c = λ H m holds there has at pointer inline.
 
 pub returns-clause-undamaged : goal.returns-clause-undamaged
 returns-clause-undamaged g c = λ H A f U m fits there has at pointer inline damaged.
-    stands_readable g.C.Checksum.sum_of _ _ _ _ m (held_there g c H m (fits_holds g.D.Device.trace g.C.Checksum.sum_of c.args.self.now H A f U fits) there has at pointer inline) _
+    stands_readable g.C.Checksum.sum_of _ _ _ _ m (held_there g c H m (inr (A, f, U, fits)) there has at pointer inline) _
     (damage_inline g.C.Checksum.sum_of _ (state_of (g.D.Device.trace c.settle_at.new.self.config.device)) _ c.args.ptr c.read_settled.result inline c.read_settled.ensures.damage damaged)
 
 -- the blob of a message is there
@@ -263,13 +267,21 @@ returns-clause-blob g c = λ H A f U m fits zeros.
     let trace = g.D.Device.trace in
     let mid = c.settle_at.new.self in
     let s : State = state_of (trace (device_of mid)) in
-    let same : s.blobs ≡ (state_of (trace (device_of old))).blobs = ap (λ (t : Trace). (state_of t).blobs) c.in_ok-settle_at.ensures.calls ∙ settled_blobs sum old _ (trace (device_of old)) in
-    let gives : (IsInline c.args.ptr → ⊥) → m.pointer ≡ c.args.ptr → m.page ≡ c.args.pid → IsReadable sum old s m m.pointer → GivesBlob m (fault_of old) c.read_settled.result = λ beside pointer page reads.
-    gives_read sum _ s m c.args.pid _ c.args.ptr _ c.read_settled.result _ _ _ _ beside pointer page (subst (λ (p : DiskPtr). IsReadable sum old s m p) pointer reads).has refl
+    let gives : (IsInline c.args.ptr → ⊥) → m.pointer ≡ c.args.ptr → m.page ≡ c.args.pid → IsStored trace sum mid m → GivesBlob m (fault_of old) c.read_settled.result = λ beside pointer page stored.
+    gives_read sum _ s m c.args.pid _ c.args.ptr _ c.read_settled.result _ _ _ _ beside pointer page
+    (subst (HasItem sum s.blobs.file m) pointer (item_read sum s.blobs m m.pointer stored.item)) refl
     c.read_settled.ensures.reading c.read_settled.ensures.damage c.read_settled.ensures.answers in
+    -- no write removes the blob of an entry of the table
+    let kept : Contains (table H (next_place old) m.page) m → IsStored trace sum mid m = λ entry.
+    c.settle_at.ensures.keeps.preserves.goes_on.items c.in_ok-settle_at.ensures.answers.1.3 m (entry_spared trace sum old H A f U fits m entry) (entry_stored trace sum old H A f U fits m entry) in
+    -- and where the place is stable nothing is written
+    let below : IsStableBlob old H m c.args.pid c.args.lsn c.args.ptr → place_read c.args.lsn c.args.ptr <ℤ pos (synced_end old) =
+    reads_stable trace sum old H A f U fits c.in_default.is zeros m c.args.pid c.args.lsn c.args.ptr in
+    let still : IsStableBlob old H m c.args.pid c.args.lsn c.args.ptr → mid ≡ old = λ is.
+    subst (λ z. z <ℤ pos (synced_end old) → mid ≡ old) (at_ok g c) c.in_ok-settle_at.ensures.still (below is) in
     record {
-      stable = λ is. gives is.beside is.pointer is.page (readable trace sum old H A f U fits c.in_default.is s same zeros m is.entry);
-      kept = λ is. gives_at_once m _ c.read_settled.result (gives is.beside is.pointer is.page (kept_readable trace sum old H A f U fits c.in_default.is s same zeros m is.entry));
+      stable = λ is. gives is.beside is.pointer is.page (subst (λ (l : Log g.row.D.Denot g.row.C.Denot). IsStored trace sum l m) (sym (still is)) (stable_stored trace sum old H A f U fits m is.entry));
+      kept = λ is. gives_at_once m _ c.read_settled.result (gives is.beside is.pointer is.page (kept is.entry));
     }
 
 pub returns-clause-corrupt : goal.returns-clause-corrupt
@@ -286,11 +298,12 @@ returns-clause-corrupt g c =
     (subst (λ x. IsDamageOf sum (segment_size_of mid) now (x / size) c.args.ptr e) (place_is g c) is)))) c.read_settled.ensures.damage
 
 pub returns-clause-keeps : goal.returns-clause-keeps
-returns-clause-keeps g c = record {
-  preserves = kept_further g.D.Device.trace g.C.Checksum.sum_of c.args.self.now c.settle_at.new.self _ c.settle_at.ensures.keeps.preserves c.read_settled.ensures.keeps.preserves;
-  tickets = tickets_further c.args.self.now c.settle_at.new.self c.read_settled.new.self c.settle_at.ensures.keeps.tickets c.read_settled.ensures.keeps.tickets;
-  position = place_further c.args.self.now c.settle_at.new.self c.read_settled.new.self c.settle_at.ensures.keeps.position (position_place c.settle_at.new.self c.read_settled.new.self c.read_settled.ensures.keeps.position);
-}
+returns-clause-keeps g c =
+    let mid = c.settle_at.new.self in
+    let new = c.read_settled.new.self in
+    writing_further g.D.Device.trace g.C.Checksum.sum_of c.args.self.now mid new c.settle_at.ensures.keeps
+    (log_writing g.D.Device.trace g.C.Checksum.sum_of mid new c.read_settled.ensures.keeps
+    (spared_same mid new (ap (λ (l : Ledger). l.machine) c.read_settled.ensures.ledger) c.read_settled.ensures.keeps.position.pins))
 
 -- the answer of the settling
 ok_at : (g : given.Over) (c : goal.After-read_settled g) → SettleAnswers {T = Unit {0}} (Ok tt) (place_read c.args.lsn c.args.ptr) (synced_end c.args.self.now) (reserved_end c.args.self.now) (held_at g.C.Checksum.sum_of c.args.self.now (place_read c.args.lsn c.args.ptr))

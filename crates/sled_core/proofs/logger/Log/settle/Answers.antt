@@ -10,15 +10,17 @@ use Rattle.sled_store.proofs.Traces.ScriptLemmas.{performs_nothing}
 use Rattle.sled_core.specs.Causes.{OnDone}
 use Rattle.sled_core.specs.declared.logger.Log.{Log}
 use Rattle.sled_core.specs.Fits.{current_begin, synced_end}
+use Rattle.sled_core.specs.Keeps.{KeepsLog}
 use Rattle.sled_core.specs.ReadBuffer.{IsUsedUpAt, settling}
 use Rattle.sled_core.specs.Waiting.{BufferStart}
-use Rattle.sled_core.proofs.Line.KeptCalls.{kept_further, place_further, position_place, tickets_further, writing_still}
+use Rattle.sled_core.proofs.Line.KeptCalls.{log_writing, spared_same, writing_further, writing_still}
 use Rattle.sled_core.proofs.Line.Advanced.{same_current}
 use Rattle.sled_core.proofs.Line.LogSpans.{same_buffers, same_with}
 use Rattle.sled_core.proofs.Line.Outcomes.{answers_used, on_err, seal_answers, seal_not_done, seal_not_held}
 use Rattle.sled_core.proofs.Line.HeaderMarks.{none_begun, segment_same}
-use Rattle.sled_core.proofs.Line.SealsFor.{SealsFor, came_sealed, held_at_same, holds_reserved, seals_current, seals_still, settling_same, writes_around}
+use Rattle.sled_core.proofs.Line.SealsFor.{SealsFor, came_sealed, held_at_same, held_sound, holds_reserved, seals_current, seals_still, settling_same, writes_around}
 use Rattle.sled_core.proofs.Line.Settles.{held_stable, stable_written}
+use Rattle.sled_core.proofs.Line.Spared.{spared_sealed}
 use Rattle.sled_core.proofs.logger.Log.settle.Given.{Over}
 use Rattle.sled_core.proofs.logger.Log.settle.Goals.{then-place-current_begin+in_ok-seal, else-place-current_begin}
 use Rattle.sled_core.proofs.logger.Log.settle.Goals as goal
@@ -74,11 +76,16 @@ pub returns-in_err-seal-clause-at_most : goal.returns-in_err-seal-clause-at_most
 returns-in_err-seal-clause-at_most g c = performs_nothing _ _ _ (ap (λ (x : RunningConfig g.row.D.Denot g.row.C.Denot). g.D.Device.trace x.device) c.in_err-seal.ensures.err.config)
 
 pub returns-in_err-seal-clause-keeps : goal.returns-in_err-seal-clause-keeps
-returns-in_err-seal-clause-keeps g c = record {
-  preserves = c.in_err-seal.ensures.keeps.preserves;
-  tickets = c.in_err-seal.ensures.keeps.tickets;
-  position = position_place c.args.self.now c.seal.new.self c.in_err-seal.ensures.keeps.position;
-}
+returns-in_err-seal-clause-keeps g c =
+    let old = c.args.self.now in
+    let new = c.seal.new.self in
+    let keeps : KeepsLog g.D.Device.trace g.C.Checksum.sum_of old new = record {
+      preserves = c.in_err-seal.ensures.keeps.preserves;
+      tickets = c.in_err-seal.ensures.keeps.tickets;
+      position = c.in_err-seal.ensures.keeps.position;
+    } in
+    log_writing g.D.Device.trace g.C.Checksum.sum_of old new keeps
+    (spared_same old new c.in_err-seal.ensures.err.machine c.in_err-seal.ensures.err.pins)
 
 pub returns-in_err-seal-clause-answers : goal.returns-in_err-seal-clause-answers
 returns-in_err-seal-clause-answers g c =
@@ -185,11 +192,14 @@ returns-clause-at_most g c =
     (subst (λ (d : g.row.D.Denot). Performs (settling g.C.Checksum.sum_of c.if-place-current_begin.self (pos c.args.place)) (g.D.Device.trace d) new) first.device c.write_around.ensures.at_most)
 
 pub returns-clause-keeps : goal.returns-clause-keeps
-returns-clause-keeps g c = record {
-  preserves = kept_further g.D.Device.trace g.C.Checksum.sum_of c.args.self.now c.if-place-current_begin.self c.write_around.new.self (seals g c).keeps c.write_around.ensures.keeps.preserves;
-  tickets = tickets_further c.args.self.now c.if-place-current_begin.self c.write_around.new.self (seals g c).tickets c.write_around.ensures.keeps.tickets;
-  position = place_further c.args.self.now c.if-place-current_begin.self c.write_around.new.self (position_place c.args.self.now c.if-place-current_begin.self (seals g c).position) c.write_around.ensures.keeps.position;
-}
+returns-clause-keeps g c =
+    let old = c.args.self.now in
+    let mid = c.if-place-current_begin.self in
+    let first = seals g c in
+    writing_further g.D.Device.trace g.C.Checksum.sum_of old mid c.write_around.new.self
+    (log_writing g.D.Device.trace g.C.Checksum.sum_of old mid (record { preserves = first.keeps; tickets = first.tickets; position = first.position })
+    (spared_sealed c.args.place old mid first.sealed.2 first.position.pins))
+    c.write_around.ensures.keeps
 
 pub returns-clause-answers : goal.returns-clause-answers
 returns-clause-answers g c =
@@ -219,7 +229,7 @@ returns-clause-buffers g c =
     let did = c.write_around.ensures in
     let r = c.write_around.result in (
       writes_around g.D.Device.trace g.C.Checksum.sum_of c.args.place c.args.self.now c.if-place-current_begin.self (seals g c) c.write_around.new.self did.start did.position r
-          (omega (arith, c.if-place-synced_end.false, c.synced_end.ensures.is)) (on_ok_both r _ _ _ (λ left ledger. (left, ledger)) did.without did.ledger) (on_err r _ _ (λ failed. (failed.0, failed.2)) did.same) did.segment,
+          (omega (arith, c.if-place-synced_end.false, c.synced_end.ensures.is)) (on_ok_both r _ _ _ (λ left ledger. (left, ledger)) did.without did.ledger) did.same (held_sound r _ _ _ _ _ did.answers) did.segment,
       on_err r _ _ (came_sealed g.D.Device.trace g.C.Checksum.sum_of c.args.place c.args.self.now c.if-place-current_begin.self (seals g c) c.write_around.new.self did.start did.position) did.same,
     )
 

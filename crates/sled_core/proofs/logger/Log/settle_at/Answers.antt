@@ -9,7 +9,7 @@ use Rattle.sled_core.specs.Causes.{HeldAnswers, OnDone}
 use Rattle.sled_core.specs.Fits.{device_of, fault_of, reserved_end, synced_end}
 use Rattle.sled_core.specs.Fronts.{CameAround}
 use Rattle.sled_core.specs.ReadBuffer.{IsUsedUpAt, SealsAround, WritesAround, held_at, settling}
-use Rattle.sled_core.proofs.Line.KeptCalls.{kept_still, place_still, tickets_still}
+use Rattle.sled_core.proofs.Line.KeptCalls.{writing_still}
 use Rattle.sled_core.proofs.Line.CameFar.{around_none, still_around}
 use Rattle.sled_core.proofs.Line.MarksJoin.{joins_same}
 use Rattle.sled_core.proofs.Line.Reads.{above_zero, at_place, settle_answers}
@@ -21,21 +21,13 @@ pub returns-then-place-lt0-clause-at_most : goal.returns-then-place-lt0-clause-a
 returns-then-place-lt0-clause-at_most g c = performs_nothing _ _ _ refl
 
 pub returns-then-place-lt0-clause-keeps : goal.returns-then-place-lt0-clause-keeps
-returns-then-place-lt0-clause-keeps g c = record {
-  preserves = kept_still g.D.Device.trace g.C.Checksum.sum_of c.args.self.now;
-  tickets = tickets_still c.args.self.now;
-  position = place_still c.args.self.now;
-}
+returns-then-place-lt0-clause-keeps g c = writing_still g.D.Device.trace g.C.Checksum.sum_of c.args.self.now
 
 pub returns-then-at-self-clause-at_most : goal.returns-then-at-self-clause-at_most
 returns-then-at-self-clause-at_most g c = performs_nothing _ _ _ refl
 
 pub returns-then-at-self-clause-keeps : goal.returns-then-at-self-clause-keeps
-returns-then-at-self-clause-keeps g c = record {
-  preserves = kept_still g.D.Device.trace g.C.Checksum.sum_of c.args.self.now;
-  tickets = tickets_still c.args.self.now;
-  position = place_still c.args.self.now;
-}
+returns-then-at-self-clause-keeps g c = writing_still g.D.Device.trace g.C.Checksum.sum_of c.args.self.now
 
 -- it is a place
 is_at : (g : given.Over) (c : goal.After-settle g) → pos c.unsigned_abs-at.result ≡ c.args.place
@@ -80,6 +72,7 @@ returns-clause-keeps g c = record {
   preserves = c.settle.ensures.keeps.preserves;
   tickets = c.settle.ensures.keeps.tickets;
   position = c.settle.ensures.keeps.position;
+  spared = c.settle.ensures.keeps.spared;
 }
 
 -- The mark that joins isn't above what was synced.

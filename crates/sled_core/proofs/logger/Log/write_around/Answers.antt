@@ -1,20 +1,19 @@
 -- The segment that has the place is looked at, and in it the first sealed buffer that ends behind it.
-use Rattle.std.proofs.Common.{rules, ◌≡◌, ◌∙◌, ◌≤◌, ◌+◌, ap, sym, refl, arith, w64, SFits, ℕ, pos, List, [], Some, subst, drop, length}
+use Rattle.std.proofs.Common.{rules, ◌≡◌, ◌∙◌, ◌⊎◌, ◌≤◌, ◌+◌, ap, sym, refl, arith, inl, inr, w64, SFits, ℕ, pos, List, [], Some, subst, drop, length, set}
 use Rattle.std.proofs.lemmas.Int.{to_z-of_z}
 use Rattle.sled_store.specs.Device.{Event}
 use Rattle.sled_store.specs.Script.{Performs, after_all}
 use Rattle.sled_store.proofs.Traces.ScriptLemmas.{performs_nothing}
 use Rattle.sled_core.specs.Buffers.{first_open_in}
-use Rattle.sled_core.specs.Fits.{segment_size_of, start_of}
+use Rattle.sled_core.specs.Fits.{line_of, segment_size_of}
 use Rattle.sled_core.specs.ReadBuffer.{held_at, settling}
 use Rattle.sled_core.proofs.Line.KeptCalls.{writing_still}
-use Rattle.sled_core.specs.inside.Marked.{KeepsSegment}
-use Rattle.sled_core.proofs.Line.CameFar.{on_err_both}
+use Rattle.sled_core.specs.inside.Turned.{promoted, written_now}
 use Rattle.sled_core.proofs.Line.HeaderMarks.{segment_same, segment_written}
 use Rattle.sled_core.proofs.Line.LogSpans.{same_buffers, written_starts}
 use Rattle.sled_core.proofs.Line.MarksJoin.{joins_same}
-use Rattle.sled_core.proofs.Line.Outcomes.{answers_free, done_free, either, on_ok}
-use Rattle.sled_core.proofs.Line.Settles.{CanWrite, IsStill, LooksAt, found_held, held_none, inside, is_ready_there, ledger_it, looks, number_within, settling_it, some_held, still_early, still_gone, wrote_all, wrote_place, wrote_without}
+use Rattle.sled_core.proofs.Line.Outcomes.{answers_free, done_free, either, on_err, on_ok}
+use Rattle.sled_core.proofs.Line.Settles.{CanWrite, IsStill, LooksAt, account_it, found_held, held_none, inside, is_ready_there, ledger_it, looks, number_within, settling_it, some_held, still_early, still_gone, wrote_all, wrote_place, wrote_without}
 use Rattle.sled_core.proofs.logger.Log.write_around.Given.{Over}
 use Rattle.sled_core.proofs.logger.Log.write_around.Goals as goal
 
@@ -131,7 +130,7 @@ returns-then-b-gt0-clause-answers g c =
     ((c.segment.result.0.place + held.0, held.2, named), (λ never. never), refl, c.requires.fault, refl)
 
 pub returns-then-b-gt0-clause-same : goal.returns-then-b-gt0-clause-same
-returns-then-b-gt0-clause-same g c = (refl, record { synced = refl; written = refl; still = λ sound. refl; account = refl }, refl)
+returns-then-b-gt0-clause-same g c = inl (refl, record { synced = refl; written = refl; still = λ sound. refl; account = refl }, refl)
 
 -- It is written.
 
@@ -171,23 +170,41 @@ pub returns-clause-answers : goal.returns-clause-answers
 returns-clause-answers g c =
     answers_free c.write_buffer.result _ _ _ _ (held_none (looked g c.before) (can g c.before) g.C.Checksum.sum_of) c.write_buffer.ensures.answers
 
+-- The segments are those behind the write of the buffer, or, where that failed, as they were.
+abbrev lines : (g : Over) (c : goal.After-write_buffer g) → Type 0
+lines g c =
+    let old = c.args.self.now in
+    let new = c.write_buffer.new.self in
+    (line_of new ≡ line_of old)
+    ⊎ (line_of new
+    ≡ promoted (segment_size_of old) (set (line_of old) c.segment_of-n.result (written_now c.around-k.result.0 (looked g c.before).segment)))
+
+left_line : (g : Over) (c : goal.After-write_buffer g) → lines g c
+left_line g c =
+    let looked = looked g c.before in
+    either c.write_buffer.result _ _ (lines g c) (λ wrote. inr wrote)
+    (λ failed. elim failed [ inl none ↦ inl none.line | inr one ↦ inr (one.line looked.segment looked.among) ])
+    (c.write_buffer.ensures.line looked.segment looked.among) c.write_buffer.ensures.unwritten
+
 pub returns-clause-segment : goal.returns-clause-segment
 returns-clause-segment g c =
     let old = c.args.self.now in
     let new = c.write_buffer.new.self in
     let looked = looked g c.before in
-    either c.write_buffer.result _ _ (KeepsSegment old new)
-    (λ wrote. segment_written old new (segment_size_of old) c.segment_of-n.result c.around-k.result.0 looked.segment looked.among wrote)
-    (λ same. segment_same old new same) (c.write_buffer.ensures.line looked.segment looked.among) c.write_buffer.ensures.same
+    elim (left_line g c) [
+      | inl same ↦ segment_same old new same
+      | inr wrote ↦ segment_written old new (segment_size_of old) c.segment_of-n.result c.around-k.result.0 looked.segment looked.among wrote
+    ]
 
 pub returns-clause-start : goal.returns-clause-start
 returns-clause-start g c =
     let old = c.args.self.now in
     let new = c.write_buffer.new.self in
     let looked = looked g c.before in
-    either c.write_buffer.result _ _ (start_of new ≡ start_of old)
-    (λ wrote. written_starts old new (segment_size_of old) c.segment_of-n.result looked.segment c.around-k.result.0 looked.among wrote)
-    (λ same. (same_buffers old new same).1) (c.write_buffer.ensures.line looked.segment looked.among) c.write_buffer.ensures.same
+    elim (left_line g c) [
+      | inl same ↦ (same_buffers old new same).1
+      | inr wrote ↦ written_starts old new (segment_size_of old) c.segment_of-n.result looked.segment c.around-k.result.0 looked.among wrote
+    ]
 
 pub returns-clause-without : goal.returns-clause-without
 returns-clause-without g c =
@@ -196,8 +213,19 @@ returns-clause-without g c =
 
 pub returns-clause-same : goal.returns-clause-same
 returns-clause-same g c =
-    on_err_both c.write_buffer.result _ _ _ (λ same none. ((same_buffers c.args.self.now c.write_buffer.new.self same).0, none.0, none.1))
-    c.write_buffer.ensures.same c.write_buffer.ensures.unwritten
+    let old = c.args.self.now in
+    let new = c.write_buffer.new.self in
+    let looked = looked g c.before in
+    let can = can g c.before in
+    on_err c.write_buffer.result _ _ (λ failed. elim failed [
+      | inl none ↦ inl ((same_buffers old new none.line).0, none.none, none.ledger)
+      | inr one ↦ inr (record {
+        failed = one.failed;
+        waiting = wrote_without looked can new (one.line looked.segment looked.among);
+        account = one.account looked.segment looked.among ∙ account_it looked can;
+        written = one.written;
+      }, held_none looked can g.C.Checksum.sum_of)
+    ]) c.write_buffer.ensures.unwritten
 
 pub returns-clause-one : goal.returns-clause-one
 returns-clause-one g c = λ all.

@@ -1,0 +1,85 @@
+-- A message that may come to a history names no blob that goes with a segment, so that no write removes its blob: so it is with an entry of the table of all that there is, whose item no crash takes. A log notes no blob where it seals its current buffer.
+use Rattle.std.proofs.Common.{◌≡◌, ◌<◌, ◌+◌, ℕ, ℤ, Bool, true, false, nat_le, if◌then◌else◌, List, length, subst, arith, inl, inr}
+use Rattle.std.specs.List.{Contains}
+use Rattle.std.proofs.lemmas.List.Elements.{All-contains}
+use Rattle.sled_codec.specs.History.{History, Message, table}
+use Rattle.sled_store.specs.Device.{Trace}
+use Rattle.sled_store.specs.Outdated.{IsNamedNow, MayName, NamesBlob}
+use Rattle.sled_store.specs.SegmentStates.{Machine, slot_at}
+use Rattle.sled_store.proofs.Marks.OutdatedSteps.{handed_blobs}
+use Rattle.sled_store.proofs.Marks.TableLemmas.{entry_above}
+use Rattle.sled_store.proofs.Segments.TableEntries.{from_table}
+use Rattle.sled_core.specs.Begun.{SegmentView}
+use Rattle.sled_core.specs.declared.logger.Log.{Log}
+use Rattle.sled_core.specs.Fits.{current_begin, current_of, ledger_of, ledger_sealed, machine_at, next_place, pins_of, segment_size_of}
+use Rattle.sled_core.specs.Freeing.{Ledger}
+use Rattle.sled_core.specs.Keeps.{IsSpared}
+use Rattle.sled_core.specs.Positions.{is_short, next_segment_at, position_in}
+use Rattle.sled_core.specs.ReadBuffer.{ledger_at}
+use Rattle.sled_core.specs.Running.{IsStored}
+use Rattle.sled_core.specs.invariants.Running.{Fits}
+use Rattle.sled_core.proofs.Holds.ReachLemmas.{fits_reach}
+use Rattle.sled_core.proofs.Line.Rewritten.{kept, ordered}
+use Rattle.sled_core.proofs.Logged.Messages.{logged_ascends}
+
+module _ {D C : Type 0} (trace : D → Trace) (sum : List ℕ → ℕ) (log : Log D C) (H : History) (A f : ℕ) (U : List Message) where
+  -- The blob of an entry of the table is that of an entry of the table of all messages.
+  pub named_now : (page : ℕ) (m : Message) (blob : ℤ) → Fits trace sum log H A f U → Contains (table H (next_place log) page) m → NamesBlob m blob
+      → IsNamedNow H blob
+  named_now page m blob fits entry names = record {
+    cut = next_place log;
+    past = λ x there. All-contains (λ (y : Message). y.place < next_place log) H.messages x (fits_reach trace sum log H A f U fits) there;
+    page = page;
+    entry = m;
+    there = entry;
+    names = names;
+  }
+
+  -- A blob that goes with a segment is named by a message of the history, and each that names it has a later one that gives its page a new beginning.
+  pub named_spared : (m : Message) → Fits trace sum log H A f U → MayName H m → IsSpared log m
+  unfolding Fits
+  named_spared m fits may = inr (λ k blob there names.
+      let gone = fits.shows.account.outdated k blob there in
+      elim (may blob names) [
+        | inl none ↦ none gone.message gone.there gone.names
+        | inr now ↦ (
+            let by = gone.superseded now.entry (from_table H now.cut now.page now.entry now.there).0 now.names in
+            let lower : by.message.place < now.cut = now.past by.message by.there in
+            let order = logged_ascends H (ordered trace sum log H A f U fits.shows) in
+            let above = entry_above H now.cut now.page now.entry order now.there by.message by.there by.same_page by.begins lower in
+            let later = by.later in
+            omega (arith, above, later))
+      ])
+
+  module _ (fits : Fits trace sum log H A f U) (m : Message) (entry : Contains (table H (next_place log) m.page) m) where
+    pub entry_spared : IsSpared log m
+    entry_spared = named_spared m fits (λ blob names. inr (named_now m.page m blob fits entry names))
+
+    pub entry_stored : IsStored trace sum log m
+    unfolding Fits
+    entry_stored = record {
+      below = fits.shows.parts.items.below m (from_table H (next_place log) m.page m entry).0;
+      item = kept trace sum log H A f U fits.shows m.page m entry;
+    }
+
+-- A slot that is handed out for a further segment has no blob.
+sealed_notes : (size : ℕ) (v : SegmentView) (m : Machine) (k : ℕ) (blob : ℤ) → Contains (slot_at (position_in size v m).machine k).blobs blob
+    → Contains (slot_at m k).blobs blob
+sealed_notes size v m k blob = by (is_short size (length v.parts.bytes)) where
+  by : (o : Bool)
+      → Contains (slot_at (if o then next_segment_at size v.parts.site.place m
+      else record { place = v.parts.site.place + length v.parts.bytes; begins = v.parts.site.place; slot = v.parts.site.slot; machine = m }).machine k).blobs blob
+      → Contains (slot_at m k).blobs blob
+  by true there = (handed_blobs m (v.parts.site.place + size) k blob there).there
+  by false there = there
+
+-- So no blob is noted where the current buffer is sealed, if it has a place.
+pub spared_sealed : {D C : Type 0} (place : ℕ) (old new : Log D C) → ledger_of new ≡ ledger_at place old → pins_of new ≡ pins_of old → (m : Message)
+    → IsSpared old m → IsSpared new m
+spared_sealed place old new same pins m (inl out) = inl (omega (arith, out, pins))
+spared_sealed place old new same pins m (inr none) = inr (λ k blob there.
+    none k blob (by (nat_le (current_begin old) place) k blob (subst (λ (l : Ledger). Contains (slot_at l.machine k).blobs blob) same there))) where
+  by : (o : Bool) (k : ℕ) (blob : ℤ) → Contains (slot_at (if o then ledger_sealed old else ledger_of old).machine k).blobs blob
+      → Contains (slot_at (machine_at old) k).blobs blob
+  by true k blob there = sealed_notes (segment_size_of old) (current_of old) (machine_at old) k blob there
+  by false k blob there = there
