@@ -17,7 +17,7 @@ use Rattle.sled_store.proofs.PublicLaws.{joined}
 use Rattle.sled_core.specs.declared.logger.Log.{Log}
 use Rattle.sled_core.specs.Fits.{device_of}
 use Rattle.sled_core.specs.Good.{IsGood}
-use Rattle.sled_core.specs.Keeps.{GoesOn, Preserves}
+use Rattle.sled_core.specs.Keeps.{GoesOnFor, IsSpared}
 use Rattle.sled_core.specs.Recoverable.{RecoverableIfOwn}
 use Rattle.sled_core.specs.invariants.Running.{Fits, Ready}
 use Rattle.sled_core.specs.Positions.{Position}
@@ -118,19 +118,19 @@ module _ (sum : List ℕ → ℕ) (size n most : ℕ) (old mid : Trace) (s : Sna
     }
 
     -- and gives from n while it goes on,
-    pub going_on : (next : Log D C) → GoesOn trace sum log next → Throughout (GivesFrom sum size n most) old (trace (device_of next))
+    pub going_on : (next : Log D C) → GoesOnFor (IsSpared log) trace sum log next → Throughout (GivesFrom sum size n most) old (trace (device_of next))
     going_on next goes = joined (GivesFrom sum size n most) old (trace (device_of log)) (trace (device_of next)) (starting (trace (device_of log)) start)
         (gives (trace (device_of log)) (trace (device_of next)) (subst (λ k. LeavesOnly (RecoverableIfOwn sum k has.history has.acknowledged place) (trace (device_of log)) (trace (device_of next))) begins.sized (goes.crash has.history has.acknowledged place [] fits)))
 
     -- from the bound that is found in it, which is no lower than what was reserved and no higher than all.
-    pub found_bounds : (v : ℕ) → IsLastBound has.history place v → (next : Log D C) → Preserves trace sum log next → HasBounds trace sum next v v × (n ≤ v) × (v ≤ most)
-    found_bounds v found next keeps = (
+    pub found_bounds : (v : ℕ) → IsLastBound has.history place v → (next : Log D C) → Fits trace sum next has.history has.acknowledged place [] → HasBounds trace sum next v v × (n ≤ v) × (v ≤ most)
+    found_bounds v found next still = (
       record {
         history = has.history;
         acknowledged = has.acknowledged;
         floor = place;
         unmarked = [];
-        fits = keeps.fits has.history has.acknowledged place [] fits;
+        fits = still;
         bounds = has.bounds;
         reserved = elim found [
           | inl none ↦ inl none.1

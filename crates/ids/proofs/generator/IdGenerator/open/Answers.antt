@@ -1,11 +1,11 @@
-use Rattle.std.proofs.Common.{rules, ◌∙◌, inl, inr, ◌<◌, ◌^◌, ℕ, ap, refl, subst, sym, arith}
+use Rattle.std.proofs.Common.{rules, ◌∙◌, inl, inr, ◌<◌, ◌^◌, ℕ, [], ap, refl, subst, sym, arith}
 use Rattle.sled_codec.specs.Snapshots.{model_of, stable_place}
 use Rattle.sled_store.specs.Device.{Trace, state_of}
 use Rattle.sled_store.specs.Moments.{IsLater, Throughout}
 use Rattle.sled_store.proofs.PublicLaws.{later_both}
 use Rattle.sled_core.specs.Fits.{device_of, fault_of, open_places, pins_of, position_of, segment_size_of, synced_end}
 use Rattle.sled_core.proofs.Blobs.FirmContent.{read_recoverable}
-use Rattle.sled_core.proofs.PublicLaws.{kept_further, none_is_empty}
+use Rattle.sled_core.proofs.PublicLaws.{none_is_empty}
 use Rattle.ids.specs.Bounds.{GivesFrom}
 use Rattle.ids.specs.Openings.{OpenFails}
 use Rattle.ids.specs.Readings.{CountsError, IsBoundRead}
@@ -115,8 +115,8 @@ returns-in-Ok-read_bound-clause-opens g c = λ n most can.
     let fits = c.in-Ok-start.ensures.fits r.0.history r.0.acknowledged (stable_place s.stable) r.0.ready in
     let start = c.in-Ok-start.ensures.crash r.0.history r.0.acknowledged (stable_place s.stable) r.0.ready in
     let found = c.in-Ok-read_bound.ensures.found r.0.history (stable_place s.stable) (begun_table sum config.config.segment_size n most old (trace config.device) s r.0 r.1 trace log _ c.in-Ok-start.ensures.begins (omega (arith, least)) fits start) in
-    let both = kept_further trace sum log c.read_bound.new.log c.pin-guard.new.self c.read_bound.ensures.only.keeps c.pin-guard.ensures.keeps in
-    let bounds = found_bounds sum config.config.segment_size n most old (trace config.device) s r.0 r.1 trace log _ c.in-Ok-start.ensures.begins (omega (arith, least)) fits start c.in-Ok-read_bound.bound found c.pin-guard.new.self both in
+    let still = c.pin-guard.ensures.keeps.fits r.0.history r.0.acknowledged (stable_place s.stable) [] (c.read_bound.ensures.only.preserves.fits r.0.history r.0.acknowledged (stable_place s.stable) [] fits) in
+    let bounds = found_bounds sum config.config.segment_size n most old (trace config.device) s r.0 r.1 trace log _ c.in-Ok-start.ensures.begins (omega (arith, least)) fits start c.in-Ok-read_bound.bound found c.pin-guard.new.self still in
     (has_generates trace sum _ bounds.0, bounds.1, bounds.2)
 
 pub returns-in-Ok-read_bound-clause-begins : goal.returns-in-Ok-read_bound-clause-begins
@@ -136,8 +136,9 @@ returns-in-Ok-read_bound-clause-keeps g c = λ n most can.
     let log = c.in-Ok-start.log in
     let fits = c.in-Ok-start.ensures.fits r.0.history r.0.acknowledged (stable_place s.stable) r.0.ready in
     let start = c.in-Ok-start.ensures.crash r.0.history r.0.acknowledged (stable_place s.stable) r.0.ready in
-    let both = kept_further trace sum log c.read_bound.new.log c.pin-guard.new.self c.read_bound.ensures.only.keeps c.pin-guard.ensures.keeps in
-    sized_back sum size n most old (trace config.device) can s config.config.segment_size same (trace (device_of c.pin-guard.new.self)) (going_on sum config.config.segment_size n most old (trace config.device) s r.0 r.1 trace log _ c.in-Ok-start.ensures.begins (omega (arith, least)) fits start c.pin-guard.new.self both.goes_on)
+    let pinned = ap (λ x. trace (device_of x)) c.pin-guard.ensures.taken in
+    subst (Throughout (GivesFrom sum size n most) old) (sym pinned)
+    (sized_back sum size n most old (trace config.device) can s config.config.segment_size same (trace (device_of c.read_bound.new.log)) (going_on sum config.config.segment_size n most old (trace config.device) s r.0 r.1 trace log _ c.in-Ok-start.ensures.begins (omega (arith, least)) fits start c.read_bound.new.log c.read_bound.ensures.only.preserves.goes_on))
 
 pub returns-in-Ok-read_bound-clause-answers : goal.returns-in-Ok-read_bound-clause-answers
 returns-in-Ok-read_bound-clause-answers g c =
@@ -187,7 +188,7 @@ returns-clause-keeps g c = λ n most can.
     let fits = c.in-Ok-start.ensures.fits r.0.history r.0.acknowledged (stable_place s.stable) r.0.ready in
     let start = c.in-Ok-start.ensures.crash r.0.history r.0.acknowledged (stable_place s.stable) r.0.ready in
     subst (λ x. Throughout (GivesFrom sum size n most) old (trace x.device)) (sym c.halt.ensures.config)
-    (sized_back sum size n most old (trace config.device) can s config.config.segment_size same (trace (device_of c.read_bound.new.log)) (going_on sum config.config.segment_size n most old (trace config.device) s r.0 r.1 trace log _ c.in-Ok-start.ensures.begins (omega (arith, least)) fits start c.read_bound.new.log c.read_bound.ensures.only.keeps.goes_on))
+    (sized_back sum size n most old (trace config.device) can s config.config.segment_size same (trace (device_of c.read_bound.new.log)) (going_on sum config.config.segment_size n most old (trace config.device) s r.0 r.1 trace log _ c.in-Ok-start.ensures.begins (omega (arith, least)) fits start c.read_bound.new.log c.read_bound.ensures.only.preserves.goes_on))
 
 pub returns-clause-fails : goal.returns-clause-fails
 returns-clause-fails g c = λ n most can.
