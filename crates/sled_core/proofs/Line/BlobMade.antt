@@ -115,7 +115,7 @@ module _ {D C : Type 0} (trace : D → Trace) (sum : List ℕ → ℕ) (old new 
       stable = device_stable old new rest;
       crash = leaves;
       sound = λ _. none;
-      items = items;
+      items = λ well m spared stored. items well m stored;
     };
     history = holds;
     fits = fits_on;

@@ -194,7 +194,9 @@ module _ {D C : Type 0} (trace : D → Trace) (sum : List ℕ → ℕ) (place : 
     ))
     came_sealed (inr (wrote, free)) = inr (inr (inr (leaves_failing wrote, sym held_at_same ∙ free)))
 
-    pub writes_around : {T : Type 0} (r : Result T Error) → synced_end old ≤ place → OnOk r ((waiting_of new ≡ without_around place (waiting_of mid)) × (ledger_of new ≡ ledger_behind (segment_size_of mid) (one_around place (waiting_of mid)) (ledger_of mid)))
+    pub writes_around : {T : Type 0} (r : Result T Error) → synced_end old ≤ place
+        → OnOk r ((waiting_of new ≡ without_around place (waiting_of mid))
+        × (ledger_of new ≡ ledger_behind (segment_size_of mid) (one_around place (waiting_of mid)) (ledger_of mid)))
         → OnErr r Fails → (IsHeld r → fault_of new ≡ None) → KeepsSegment mid new → WritesAround sum r (pos place) old new
     writes_around r behind done failed sound segment = record {
       still = λ below. absurd (omega (arith, ints, below, behind));
@@ -203,6 +205,9 @@ module _ {D C : Type 0} (trace : D → Trace) (sum : List ℕ → ℕ) (place : 
         | inl none ↦ leaves_sealed (none.0, none.2)
         | inr one ↦ absurd (let clash : None ≡ Some one.0.failed.fault = sym (sound held) ∙ one.0.failed.kept in cc)
       ];
-      some = on_err r _ _ (λ fails. elim fails [ inl none ↦ inr (inl (leaves_sealed (none.0, none.2))) | inr one ↦ inr (inr (inr (leaves_failing one.0))) ]) failed;
+      some = on_err r _ _ (λ fails. elim fails [
+        | inl none ↦ inr (inl (leaves_sealed (none.0, none.2)))
+        | inr one ↦ inr (inr (inr (leaves_failing one.0)))
+      ]) failed;
       marked = marked_same sum old mid new seals.marked segment (ap (λ (s : BufferStart). s.place) start);
     }

@@ -1,4 +1,5 @@
--- A message that may come to a history names no blob that goes with a segment, so that no write removes its blob: so it is with an entry of the table of all that there is, whose item no crash takes. A log notes no blob where it seals its current buffer.
+-- A message that may come to a history names no blob that goes with a segment, so that no write removes its blob: so it is with an entry of the table of all
+-- that there is, whose item no crash takes. A log notes no blob where it seals its current buffer.
 use Rattle.std.proofs.Common.{◌≡◌, ◌<◌, ◌+◌, ℕ, ℤ, Bool, true, false, nat_le, if◌then◌else◌, List, length, subst, arith, inl, inr}
 use Rattle.std.specs.List.{Contains}
 use Rattle.std.proofs.lemmas.List.Elements.{All-contains}
@@ -63,12 +64,17 @@ module _ {D C : Type 0} (trace : D → Trace) (sum : List ℕ → ℕ) (log : Lo
     }
 
 -- A slot that is handed out for a further segment has no blob.
-sealed_notes : (size : ℕ) (v : SegmentView) (m : Machine) (k : ℕ) (blob : ℤ) → Contains (slot_at (position_in size v m).machine k).blobs blob
+pub sealed_notes : (size : ℕ) (v : SegmentView) (m : Machine) (k : ℕ) (blob : ℤ) → Contains (slot_at (position_in size v m).machine k).blobs blob
     → Contains (slot_at m k).blobs blob
 sealed_notes size v m k blob = by (is_short size (length v.parts.bytes)) where
   by : (o : Bool)
       → Contains (slot_at (if o then next_segment_at size v.parts.site.place m
-      else record { place = v.parts.site.place + length v.parts.bytes; begins = v.parts.site.place; slot = v.parts.site.slot; machine = m }).machine k).blobs blob
+      else record {
+        place = v.parts.site.place + length v.parts.bytes;
+        begins = v.parts.site.place;
+        slot = v.parts.site.slot;
+        machine = m;
+      }).machine k).blobs blob
       → Contains (slot_at m k).blobs blob
   by true there = (handed_blobs m (v.parts.site.place + size) k blob there).there
   by false there = there
@@ -79,7 +85,7 @@ pub spared_sealed : {D C : Type 0} (place : ℕ) (old new : Log D C) → ledger_
 spared_sealed place old new same pins m (inl out) = inl (omega (arith, out, pins))
 spared_sealed place old new same pins m (inr none) = inr (λ k blob there.
     none k blob (by (nat_le (current_begin old) place) k blob (subst (λ (l : Ledger). Contains (slot_at l.machine k).blobs blob) same there))) where
-  by : (o : Bool) (k : ℕ) (blob : ℤ) → Contains (slot_at (if o then ledger_sealed old else ledger_of old).machine k).blobs blob
-      → Contains (slot_at (machine_at old) k).blobs blob
-  by true k blob there = sealed_notes (segment_size_of old) (current_of old) (machine_at old) k blob there
-  by false k blob there = there
+      by : (o : Bool) (k : ℕ) (blob : ℤ) → Contains (slot_at (if o then ledger_sealed old else ledger_of old).machine k).blobs blob
+          → Contains (slot_at (machine_at old) k).blobs blob
+      by true k blob there = sealed_notes (segment_size_of old) (current_of old) (machine_at old) k blob there
+      by false k blob there = there

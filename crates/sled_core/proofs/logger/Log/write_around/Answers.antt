@@ -219,12 +219,15 @@ returns-clause-same g c =
     let can = can g c.before in
     on_err c.write_buffer.result _ _ (λ failed. elim failed [
       | inl none ↦ inl ((same_buffers old new none.line).0, none.none, none.ledger)
-      | inr one ↦ inr (record {
-        failed = one.failed;
-        waiting = wrote_without looked can new (one.line looked.segment looked.among);
-        account = one.account looked.segment looked.among ∙ account_it looked can;
-        written = one.written;
-      }, held_none looked can g.C.Checksum.sum_of)
+      | inr one ↦ inr (
+        record {
+          failed = one.failed;
+          waiting = wrote_without looked can new (one.line looked.segment looked.among);
+          account = one.account looked.segment looked.among ∙ account_it looked can;
+          written = one.written;
+        },
+        held_none looked can g.C.Checksum.sum_of,
+      )
     ]) c.write_buffer.ensures.unwritten
 
 pub returns-clause-one : goal.returns-clause-one
