@@ -10,7 +10,7 @@ use Rattle.sled_codec.specs.Snapshots.{Entry}
 use Rattle.sled_store.specs.Device.{Trace}
 use Rattle.sled_core.specs.Marked.{BeginsMarked}
 use Rattle.sled_core.specs.declared.logger.Log.{Log}
-use Rattle.sled_core.specs.Fits.{device_of, fault_of, given_up_of, pins_of, reserved_end, segment_size_of, start_of}
+use Rattle.sled_core.specs.Fits.{device_of, given_up_of, pins_of, reserved_end, segment_size_of, start_of}
 use Rattle.sled_core.specs.Among.{AreAmong}
 use Rattle.sled_core.specs.Keeps.{KeepsWriting}
 use Rattle.sled_core.specs.ReadPointer.{place_read}
