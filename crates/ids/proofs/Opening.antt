@@ -17,7 +17,7 @@ use Rattle.sled_store.proofs.PublicLaws.{joined}
 use Rattle.sled_core.specs.declared.logger.Log.{Log}
 use Rattle.sled_core.specs.Fits.{device_of}
 use Rattle.sled_core.specs.Good.{IsGood}
-use Rattle.sled_core.specs.Keeps.{GoesOn, Preserves}
+use Rattle.sled_core.specs.Keeps.{GoesOnFor, IsSpared}
 use Rattle.sled_core.specs.Recoverable.{RecoverableIfOwn}
 use Rattle.sled_core.specs.invariants.Running.{Fits, Ready}
 use Rattle.sled_core.specs.Positions.{Position}
@@ -118,19 +118,19 @@ module _ (sum : List ℕ → ℕ) (size n most : ℕ) (old mid : Trace) (s : Sna
     }
 
     -- and gives from n while it goes on,
-    going_on : (next : Log D C) → GoesOn trace sum log next → Throughout (GivesFrom sum size n most) old (trace (device_of next))
+    going_on : (next : Log D C) → GoesOnFor (IsSpared log) trace sum log next → Throughout (GivesFrom sum size n most) old (trace (device_of next))
     going_on next goes = joined (GivesFrom sum size n most) old (trace (device_of log)) (trace (device_of next)) (starting (trace (device_of log)) start)
         (gives (trace (device_of log)) (trace (device_of next)) (subst (λ k. LeavesOnly (RecoverableIfOwn sum k has.history has.acknowledged place) (trace (device_of log)) (trace (device_of next))) begins.sized (goes.crash has.history has.acknowledged place [] fits)))
 
     -- from the bound that is found in it, which is no lower than what was reserved and no higher than all.
-    found_bounds : (v : ℕ) → IsLastBound has.history place v → (next : Log D C) → Preserves trace sum log next → HasBounds trace sum next v v × (n ≤ v) × (v ≤ most)
-    found_bounds v found next keeps = (
+    found_bounds : (v : ℕ) → IsLastBound has.history place v → (next : Log D C) → Fits trace sum next has.history has.acknowledged place [] → HasBounds trace sum next v v × (n ≤ v) × (v ≤ most)
+    found_bounds v found next still = (
       record {
         history = has.history;
         acknowledged = has.acknowledged;
         floor = place;
         unmarked = [];
-        fits = keeps.fits has.history has.acknowledged place [] fits;
+        fits = still;
         bounds = has.bounds;
         reserved = elim found [
           | inl none ↦ inl none.1
@@ -160,9 +160,10 @@ pub record HasBegun {D C : Type 0} (trace : D → Trace) (sum : List ℕ → ℕ
   pub history : History
   pub table : HasTable trace sum log s.pages history (stable_place s.stable)
   -- the device gives on while the log goes on
-  pub gives : (next : Log D C) → GoesOn trace sum log next → Throughout (GivesFrom sum size n most) old (trace (device_of next))
-  -- the generator begins with the bound that is found
-  pub bounds : (v : ℕ) → IsLastBound history (stable_place s.stable) v → (next : Log D C) → Preserves trace sum log next
+  pub gives : (next : Log D C) → GoesOnFor (IsSpared log) trace sum log next → Throughout (GivesFrom sum size n most) old (trace (device_of next))
+  -- the generator begins with the bound that is found, with a log that fits what this one does
+  pub bounds : (v : ℕ) → IsLastBound history (stable_place s.stable) v → (next : Log D C)
+      → ((A f : ℕ) (U : List Message) → Fits trace sum log history A f U → Fits trace sum next history A f U)
       → HasBounds trace sum next v v × (n ≤ v) × (v ≤ most)
 
 pub has_begun : {D C : Type 0} {trace : D → Trace} {log : Log D C} {len : ℕ} (sum : List ℕ → ℕ) (size n most : ℕ) (old mid : Trace) (s : SnapshotModel)
@@ -180,7 +181,9 @@ has_begun {trace = trace} {log = log} {len = len} sum size n most old mid s agai
       table = begun_table sum again n most old mid s has its.1 trace log len begins some fits_it leaves;
       gives = λ next goes. subst (λ k. Throughout (GivesFrom sum k n most) old (trace (device_of next))) same
           (going_on sum again n most old mid s has its.1 trace log len begins some fits_it leaves next goes);
-      bounds = found_bounds sum again n most old mid s has its.1 trace log len begins some fits_it leaves;
+      bounds = λ v found next keeps.
+          found_bounds sum again n most old mid s has its.1 trace log len begins some fits_it leaves v found next
+          (keeps has.acknowledged (stable_place s.stable) [] fits_it);
     }
 
 -- What was asked of the device, whatever that has. The configuration that a recovery leaves says the size of segments once more.

@@ -29,11 +29,11 @@ use Rattle.sled_core.specs.Causes.{IsFault}
 use Rattle.sled_core.specs.Fits.{FirstWaits, HasRecordOf, current_begin, device_of, fault_of, machine_at, position_of, position_with, reserved_end}
 use Rattle.sled_core.specs.Fits.{segment_size_of, synced_end}
 use Rattle.sled_core.specs.Freeing.{Ledger}
-use Rattle.sled_core.proofs.PublicLaws.{first_waits, kept_still, place_still, record_of_entry}
+use Rattle.sled_core.proofs.PublicLaws.{first_waits, record_of_entry}
 use Rattle.sled_log.specs.Replaces.{HasLast}
 use Rattle.sled_log.proofs.PublicLaws.{table_has_last, table_has_page}
 use Rattle.ids.specs.Bounds.{IsLastBound, IsLastMessage}
-use Rattle.ids.specs.Readings.{BeginsWith, CountsError, CountsFailure, HasTable, HoldsAt, IsIdle, IsNumberIn, IsOpenError, IsReadError, IsReadErrorUnless, OnlyRead}
+use Rattle.ids.specs.Readings.{BeginsWith, CountsError, CountsFailure, HasTable, HoldsAt, IsIdle, IsNumberIn, IsOpenError, IsReadError, IsReadErrorUnless}
 
 -- A message that has its item in its record is read with that,
 pub inline_read : (m : Message) (r : LogRead) → GivesMessage m r → IsInline m.pointer → ((h : MessageHeader) (item : Vec ℕ Global) (len : ℕ) → r ≡ read.Inline h item len → ⊥) → ⊥
@@ -99,14 +99,6 @@ fails_now e old new before now none fault = elim fault [
 ] where
   kept_none : None ≡ Some e → ⊥
   kept_none is = cc
-
--- A log of which nothing was asked was only read.
-pub read_still : {D C : Type 0} (trace : D → Trace) (sum : List ℕ → ℕ) (log : Log D C) → OnlyRead trace sum log log
-read_still trace sum log = record {
-  keeps = kept_still trace sum log;
-  tickets = record { awaits = λ ticket m awaits. awaits; opens = refl; given_up = λ m there. there };
-  position = place_still log;
-}
 
 -- Where a place is stable, no reservation holds the read of it.
 pub none_holds : (lsn : ℤ) (stable : ℕ) (held : Option ℕ) → lsn <ℤ pos stable → (if int_lt lsn (pos stable) then None else held) ≡ None

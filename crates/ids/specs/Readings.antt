@@ -15,8 +15,7 @@ use Rattle.sled_store.specs.Device.{Trace, state_of}
 use Rattle.sled_core.specs.declared.logger.Log.{Log}
 use Rattle.sled_core.specs.declared.logger.read_message.LogRead.{LogRead}
 use Rattle.sled_core.specs.declared.logger.read_message.LogRead.TheVariants as read
-use Rattle.sled_core.specs.Fits.{KeepsTickets, NoneSealed, device_of, fault_of, reserved_end, synced_end}
-use Rattle.sled_core.specs.Keeps.{Preserves, SamePlace}
+use Rattle.sled_core.specs.Fits.{NoneSealed, device_of, fault_of, reserved_end, synced_end}
 use Rattle.sled_core.specs.Reading.{IsInline, IsNoPlace, StandsAt, is_inline}
 use Rattle.sled_core.specs.invariants.Running.{Fits}
 use Rattle.ids.specs.Bounds.{IsLastMessage, IsOfBounds}
@@ -127,12 +126,6 @@ pub record HoldsAt {D C : Type 0} (trace : D → Trace) (sum : List ℕ → ℕ)
   pub inline : IsInline m.pointer
   pub stable : synced_end log ≡ cut
   pub entry : Contains (table H cut m.page) m
-
--- A log was only read: it holds and fits what it did, with the same tickets in the same place.
-pub record OnlyRead {D C : Type 0} (trace : D → Trace) (sum : List ℕ → ℕ) (old new : Log D C) : Type 0 where
-  pub keeps : Preserves trace sum old new
-  pub tickets : KeepsTickets old new
-  pub position : SamePlace old new
 
 -- a failure of the device was counted, and only that was
 abbrev pub CountsFailure : {T : Type 0} → Result T Error → ℕ → ℕ → Type 0

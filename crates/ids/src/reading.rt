@@ -5,9 +5,10 @@ ghost use Rattle.sled_codec.specs.History.{History, Message};
 ghost use Rattle.sled_codec.specs.PageTables.{entry_of};
 ghost use Rattle.sled_codec.specs.Snapshots.{Present, model_of, page_of};
 ghost use Rattle.sled_core.specs.Fits.{device_of, fault_of, position_of, segment_size_of, synced_end};
+ghost use Rattle.sled_core.specs.Keeps.{KeepsWriting};
 ghost use Rattle.sled_core.specs.Reading.{GivesMessage, IsInline};
 ghost use Rattle.ids.specs.Bounds.{HasBound, IsLastBound};
-ghost use Rattle.ids.specs.Readings.{AnswersBound, CountsFailure, FirstBelow, HasTable, HoldsAt, IsBoundBy, IsBoundIn, IsBoundRead, IsIdle, IsNumberIn, IsOpenError, IsReadErrorUnless, LiesBelow, OnlyRead, file_of};
+ghost use Rattle.ids.specs.Readings.{AnswersBound, CountsFailure, FirstBelow, HasTable, HoldsAt, IsBoundBy, IsBoundIn, IsBoundRead, IsIdle, IsNumberIn, IsOpenError, IsReadErrorUnless, LiesBelow, file_of};
 
 use crate::generator::BOUND_PAGE;
 use sled_log::device::{Checksum, Device};
@@ -25,7 +26,7 @@ pub(crate) fn read_bound<D: Device, C: Checksum>(
 ) -> Result<u64>
     ensures found { (H : History) (cut : ℕ) → HasTable D.trace C.sum_of log.old (model_of snapshot.now).pages H cut → IfOk result (λ n. IsLastBound H cut n) }
     ensures errors { (H : History) (cut : ℕ) → HasTable D.trace C.sum_of log.old (model_of snapshot.now).pages H cut → IfErr result IsOpenError }
-    ensures only { OnlyRead D.trace C.sum_of log.old log.new }
+    ensures only { KeepsWriting D.trace C.sum_of log.old log.new }
     ensures fault { OnOk result (fault_of log.old ≡ None → fault_of log.new ≡ None) }
     ensures unwritten { IsIdle log.old → D.trace (device_of log.new) ≡ D.trace (device_of log.old) }
     ensures goes_on { IsIdle log.old → position_of log.new ≡ position_of log.old }
@@ -49,7 +50,7 @@ fn read_page<D: Device, C: Checksum>(
         → IfOk result (λ v. v ≡ n) }
     ensures errors { (H : History) (m : Message) (cut n : ℕ) → HoldsAt D.trace C.sum_of log.old H m cut n → page_of page.now ≡ Present (entry_of m) []
         → IfErr result IsOpenError }
-    ensures only { OnlyRead D.trace C.sum_of log.old log.new }
+    ensures only { KeepsWriting D.trace C.sum_of log.old log.new }
     ensures fault { OnOk result (fault_of log.old ≡ None → fault_of log.new ≡ None) }
     ensures unwritten { IsIdle log.old → D.trace (device_of log.new) ≡ D.trace (device_of log.old) }
     ensures goes_on { IsIdle log.old → position_of log.new ≡ position_of log.old }
@@ -74,7 +75,7 @@ fn read_number<D: Device, C: Checksum>(
         → IfOk result (λ v. v ≡ n) }
     ensures errors { (H : History) (m : Message) (cut n : ℕ) → HoldsAt D.trace C.sum_of log.old H m cut n → pos m.place ≡ place → m.pointer ≡ pointer
         → IfErr result IsOpenError }
-    ensures only { OnlyRead D.trace C.sum_of log.old log.new }
+    ensures only { KeepsWriting D.trace C.sum_of log.old log.new }
     ensures fault { OnOk result (fault_of log.old ≡ None → fault_of log.new ≡ None) }
     ensures unwritten { IsIdle log.old → D.trace (device_of log.new) ≡ D.trace (device_of log.old) }
     ensures goes_on { IsIdle log.old → position_of log.new ≡ position_of log.old }

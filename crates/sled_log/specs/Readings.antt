@@ -10,9 +10,9 @@ use Rattle.sled_codec.specs.Snapshots.{Entry}
 use Rattle.sled_store.specs.Device.{Trace}
 use Rattle.sled_core.specs.Marked.{BeginsMarked}
 use Rattle.sled_core.specs.declared.logger.Log.{Log}
-use Rattle.sled_core.specs.Fits.{KeepsTickets, device_of, fault_of, given_up_of, pins_of, reserved_end, segment_size_of, start_of}
+use Rattle.sled_core.specs.Fits.{device_of, given_up_of, pins_of, reserved_end, segment_size_of, start_of}
 use Rattle.sled_core.specs.Among.{AreAmong}
-use Rattle.sled_core.specs.Keeps.{Preserves, SamePlace}
+use Rattle.sled_core.specs.Keeps.{KeepsWriting}
 use Rattle.sled_core.specs.ReadPointer.{place_read}
 use Rattle.sled_core.specs.Recoverable.{NoHeaderOfZeros}
 use Rattle.sled_core.specs.invariants.Running.{Fits}
@@ -43,13 +43,6 @@ pub record IsOfPage (H : History) (end page : ℕ) (m : Message) : Type 0 where
   pub read : place_read (pos m.place) m.pointer ≡ pos (read_at m)
   pub read_below : read_at m < end
 
--- A log holds and fits what it did, with the same tickets in the same place.
-pub record KeepsOpen {D C : Type 0} (trace : D → Trace) (sum : List ℕ → ℕ) (old new : Log D C) : Type 0 where
-  pub keeps : Preserves trace sum old new
-  pub tickets : KeepsTickets old new
-  pub position : SamePlace old new
-  pub free : fault_of new ≡ None → fault_of old ≡ None
-
 -- What the read of a message comes to.
 abbrev pub IsItem : {D C : Type 0} → (D → DeviceView) → (List ℕ → ℕ) → Log D C → LogView → Message → Log D C → LogView
     → Result (Vec ℕ Global) Error → Type 0
@@ -63,7 +56,7 @@ IsItem view sum old l m new l' (Err e) =
 -- A message of what a page is was read, where its place and its pointer were given, or that failed.
 pub record ReadsItem {D C : Type 0} (view : D → DeviceView) (sum : List ℕ → ℕ) (old : Log D C) (page : ℕ) (place : ℤ) (pointer : DiskPtr)
     (new : Log D C) (result : Result (Vec ℕ Global) Error) : Type 0 where
-  pub only : KeepsOpen (traces view) sum old new
+  pub only : KeepsWriting (traces view) sum old new
   pub marked : BeginsMarked sum old new
   pub item : (k : Unstored) (m : Message) (begun : ℕ) → IsRead (traces view) sum old k → IsOfPage k.history (reserved_end old) page m
       → pos m.place ≡ place → m.pointer ≡ pointer
@@ -78,7 +71,7 @@ page_told (Err e) = reply.Failed e
 -- The messages of what a page is were read, where their entries were given, or that failed.
 pub record ReadsEntries {D C : Type 0} (view : D → DeviceView) (sum : List ℕ → ℕ) (old : Log D C) (page : ℕ) (entries : List Entry) (new : Log D C)
     (result : Result (Vec (Vec ℕ Global) Global) Error) : Type 0 where
-  pub only : KeepsOpen (traces view) sum old new
+  pub only : KeepsWriting (traces view) sum old new
   pub step : (k : Unstored) (ms : List Message) (begun : ℕ) (a : RunState) → IsRead (traces view) sum old k
       → All (IsOfPage k.history (reserved_end old) page) ms → map entry_of ms ≡ entries → is_present ms ≡ true
       → a.device ≡ view (device_of old) → a.log ≡ Some (seen_log old begun k.tickets k.given_up k.heads)

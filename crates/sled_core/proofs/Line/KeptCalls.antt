@@ -250,6 +250,10 @@ writing_pinned trace sum old new out keeps = record {
   position = place_pinned old new out keeps.position;
 }
 
+-- nor does it fail in the accountant's step.
+pub none_failed : {D C : Type 0} (old new : Log D C) → 0 < pins_of old → FailedStep old new → ⊥
+none_failed old new out failed = let none = failed.unpinned in omega (arith, out, none)
+
 -- Two such calls are one.
 pub writing_further : {D C : Type 0} (trace : D → Trace) (sum : List ℕ → ℕ) (old mid new : Log D C) → KeepsWriting trace sum old mid
     → KeepsWriting trace sum mid new → KeepsWriting trace sum old new

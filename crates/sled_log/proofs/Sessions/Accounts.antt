@@ -18,11 +18,19 @@ use Rattle.sled_core.specs.Waiting.{BufferAt, BufferStart, Span, front_below, on
 use Rattle.sled_core.proofs.Line.Lying.{LieBetween, lie_up, line_lie}
 use Rattle.sled_core.proofs.Line.Segments.{line_segments}
 use Rattle.sled_core.proofs.Line.Shows.{buffers_add}
-use Rattle.sled_core.proofs.PublicLaws.{first_waits, ledger_account, shows_empty}
+use Rattle.sled_core.proofs.PublicLaws.{first_waits, ledger_account, none_failed, shows_empty}
 
 -- A pin is out where one is.
 pub is_out : {D C : Type 0} (log : Log D C) → pins_of log ≡ 1 → 0 < pins_of log
 is_out log one = omega (arith, one)
+
+-- Where it is, what failed leaves some that isn't written.
+pub front_short : {D C : Type 0} (trace : D → Trace) (sum : List ℕ → ℕ) (to : ℕ) (old new : Log D C) → 0 < pins_of old → WroteFront trace sum to old new
+    → synced_end new < to
+front_short trace sum to old new out front = elim front.short [
+  | inl failed ↦ absurd (none_failed old new out failed.0)
+  | inr short ↦ short
+]
 
 -- Buffers that begin below a place.
 
@@ -119,17 +127,17 @@ module _ {D C : Type 0} (log : Log D C) (sum : List ℕ → ℕ) (to : ℕ) wher
         ∙ (λ i. account_behind (front_shown i) (account_for i))
 
     -- or so many at the front.
-    module _ (trace : D → Trace) (some : current_begin log < to → 0 < held_len log) (front : WroteFront trace sum to log new) where
+    module _ (trace : D → Trace) (out : 0 < pins_of log) (some : current_begin log < to → 0 < held_len log) (front : WroteFront trace sum to log new) where
       taken : take front.count (sealed_for sum to log) ≡ take front.count (begun_below to (buffers_of sum log))
       taken = by (nat_lt (current_begin log) to) refl front.left front.start where
         by_left : to ≤ current_begin log → start_of new ≡ start_of log → (bs : List BufferAt) → FirstWaits (synced_end new) (current_begin new) bs → bs ≡ drop front.count (waiting_of log)
             → take front.count (waiting_of log) ≡ take front.count (begun_below to (buffers_of sum log))
         by_left far start [] first left =
             let place : current_begin new ≡ current_begin log = ap (λ (s : BufferStart). s.place) start in
-            let short = front.short in
+            let short = front_short trace sum to log new out front in
             absurd (omega (arith, first, place, short, far))
         by_left far start (b ∷ rest) first left =
-            let short = front.short in
+            let short = front_short trace sum to log new out front in
             take_begun to front.count _ (waiting_of log) (current_begin log) b rest waiting_lie (sym left) (omega (arith, first, short)) ∙ ap (take front.count) (sym (begun_waiting far))
 
         by : (o : Bool) → nat_lt (current_begin log) to ≡ o → waiting_of new ≡ drop front.count (if o then buffers_of sum log else waiting_of log) → start_of new ≡ (if o then start_sealed log else start_of log)
@@ -139,7 +147,7 @@ module _ {D C : Type 0} (log : Log D C) (sum : List ℕ → ℕ) (to : ℕ) wher
 
       pub account_front : account_of new ≡ account_behind (take front.count (begun_below to (buffers_of sum log))) (account_of log)
       account_front =
-          ap (λ (l : Ledger). l.account) front.ledger
+          front.ledger.0
           ∙ ledger_account (segment_size_of log) (take front.count (sealed_for sum to log)) (ledger_for to log)
           ∙ (λ i. account_behind (taken i) (account_for i))
 

@@ -34,14 +34,14 @@ use Rattle.sled_core.specs.Begun.{segment_view}
 use Rattle.sled_core.specs.OpenBatches.{not_whole}
 use Rattle.sled_core.proofs.Line.LineEnds.{noted_still}
 use Rattle.sled_core.specs.Fits.{HasRecordOf, buffers_of, current_begin, current_of, device_of, fault_of, held_len, next_place, noted_in, pins_of, reserved_end, segment_size_of, start_of, synced_end, waiting_of}
-use Rattle.sled_core.specs.Keeps.{SamePlace, start_sealed}
+use Rattle.sled_core.specs.Keeps.{KeepsWriting, SamePlace, start_sealed}
 use Rattle.sled_core.specs.OpenPlaces.{first_between}
 use Rattle.sled_core.specs.Fronts.{CameAround, syncs}
 use Rattle.sled_core.specs.ReadBuffer.{IsUsedUpAt, LeavesSealed, ReadAnswers, Settles, WritesAround, held_at, sealed_at, settling, start_at}
 use Rattle.sled_core.specs.SealedBuffers.{writing}
 use Rattle.sled_core.specs.Waiting.{BufferAt, BufferStart, HasLength, Span, has_place, held_around, one_around, span_of, spans, unless_held, without_around, write_around}
 use Rattle.sled_core.proofs.Holds.BufferEnds.{written_behind}
-use Rattle.sled_core.proofs.Line.KeptCalls.{kept_further, kept_still, place_further, place_pinned, place_still, tickets_further}
+use Rattle.sled_core.proofs.Line.KeptCalls.{none_failed, writing_further, writing_pinned, writing_still}
 use Rattle.sled_core.proofs.Line.Entered.{filled_last}
 use Rattle.sled_core.proofs.Holds.Facts.{current_facts}
 use Rattle.sled_core.specs.WholeBuffers.{IsWholeBuffer}
@@ -54,7 +54,7 @@ use Rattle.sled_log.specs.declared.session.Phase.TheVariants.{Open}
 use Rattle.sled_log.specs.declared.session.opened.Opened.{Opened}
 use Rattle.sled_log.proofs.Sessions.Accounts.{account_around, account_sealed, account_unsealed, is_out}
 use Rattle.sled_log.proofs.Sessions.Writing.{AreWhole, IsHeldBy, StaysPut, all_held, first_seen, flush_in, flush_out, if_held, next_start_seen, over, sealed_too, span_seen, kept_with, still_with, whole_seen}
-use Rattle.sled_log.specs.Readings.{IsOfPage, IsRead, KeepsOpen, ReadsEntries, ReadsItem, page_told}
+use Rattle.sled_log.specs.Readings.{IsOfPage, IsRead, ReadsEntries, ReadsItem, page_told}
 use Rattle.sled_log.specs.RunPhases.{IsOpenAt, Unstored, seen, seen_log, stands, traces, HasHeads}
 use Rattle.sled_log.specs.RunStates.{DeviceView, EndsInReach, LogView, RunState, current_span, first_waiting, held, is_present, next_start, opens, page_now, sealed_around, spans_without, start_around, top, with_log, MarkAt, heads_at}
 use Rattle.sled_log.specs.ReadSteps.{FailsAt, ReadStep, ReadsAll, ReadsAt, held_around_place, holding_read, read_around, read_at, reading_around}
@@ -315,12 +315,13 @@ module _ {D C : Type 0} (view : D → DeviceView) (sum : List ℕ → ℕ) (old 
             some sealed.1.synced sealed.1.still,
             inr (leaves_sealed sealed.0),
           )
-          | inr (inr written) ↦ inr (
+          | inr (inr (inl written)) ↦ inr (
             sym (holding_seen old sum at begun k of.read_below) ∙ written.2,
             record { buffers = sealed_at sum at old; shown = seen_so; made = written.1 ∙ ap (λ (es : List Event). after_all es old_view.trace) (calls_seen old sum at begun k of.read_below out) },
             (ap over_it (leaves (spans_without at (sealed_around at before)) (start_around at before) (fault_of new) (account_behind (one_around at (sealed_at sum at old)) (account_of old))
                 (ap spans written.0.0 ∙ without_around_seen old sum at begun k of.read_below) (written.0.1 ∙ start_seen old sum at begun k of.read_below) refl (account_around old new sum at written.0))),
           )
+          | inr (inr (inr failing)) ↦ absurd (none_failed old new out failing.0.4)
         ];
       }
 
@@ -417,7 +418,7 @@ pub record AreRead (sum : List ℕ → ℕ) (size : ℕ) (l : LogView) (ms : Lis
 -- So many of a page's entries are read.
 pub record HasReadSome {D C : Type 0} (view : D → DeviceView) (sum : List ℕ → ℕ) (old : Log D C) (page : ℕ) (entries : List Entry) (now : Log D C) (items : List (Vec ℕ Global)) (rest : List Entry) : Type 0 where
   pub free : fault_of old ≡ None
-  pub only : KeepsOpen (traces view) sum old now
+  pub only : KeepsWriting (traces view) sum old now
   pub so_far : (k : Unstored) (ms : List Message) (begun : ℕ) → IsRead (traces view) sum old k → All (IsOfPage k.history (reserved_end old) page) ms → map entry_of ms ≡ entries
       → (heads : List MarkAt) × HasHeads sum now heads
       × AreRead sum (segment_size_of old) (seen_log old begun k.tickets k.given_up k.heads) ms rest (view (device_of old)) (view (device_of now)) items (seen_log now begun k.tickets k.given_up heads)
@@ -435,47 +436,34 @@ fault_around l at bs = by (nat_lt at l.synced) where
   by false = refl
 
 module _ {D C : Type 0} (view : D → DeviceView) (sum : List ℕ → ℕ) (old : Log D C) (page : ℕ) where
-  -- nothing was done
-  pub only_same : KeepsOpen (traces view) sum old old
-  only_same = record { keeps = kept_still (traces view) sum old; tickets = record { awaits = λ ticket m awaits. awaits; opens = refl; given_up = λ m there. there }; position = place_still old; free = λ none. none }
-
   pub none_read : (entries : List Entry) → fault_of old ≡ None → HasReadSome view sum old page entries old [] entries
   none_read entries free = record {
     free = free;
-    only = only_same;
+    only = writing_still (traces view) sum old;
     so_far = λ k ms begun is all are. (k.heads, is.heads, record { done = []; left = ms; split = refl; entries = are; reads = (refl, refl, refl); items_are = refl; sound = free });
   }
 
   -- for want of memory for the list of items
   pub unread : (entries : List Entry) → fault_of old ≡ None → ReadsEntries view sum old page entries old (Err error.OutOfMemory)
   unread entries free = record {
-    only = only_same;
+    only = writing_still (traces view) sum old;
     step = λ k ms begun a is all are present device log. (k.heads, is.heads, inr (inl (free, sym device, λ i. record a { device = sym device i; log = sym log i })));
   }
 
   -- or since the log keeps a failure
   pub kept_unread : (entries : List Entry) (x : IoError) → fault_of old ≡ Some x → ReadsEntries view sum old page entries old (Err (error.Io x))
   kept_unread entries x kept = record {
-    only = only_same;
+    only = writing_still (traces view) sum old;
     step = λ k ms begun a is all are present device log. (k.heads, is.heads, inl (kept, sym device, λ i. record a { device = sym device i; log = sym log i }));
   }
 
   module _ (entries : List Entry) (mid : Log D C) (items : List (Vec ℕ Global)) where
-    -- what was kept up to there
-    further : (new : Log D C) → KeepsOpen (traces view) sum old mid → KeepsOpen (traces view) sum mid new → KeepsOpen (traces view) sum old new
-    further new first second = record {
-      keeps = kept_further (traces view) sum old mid new first.keeps second.keeps;
-      tickets = tickets_further old mid new first.tickets second.tickets;
-      position = place_further old mid new first.position second.position;
-      free = λ none. first.free (second.free none);
-    }
-
-    is_read : (k : Unstored) (heads : List MarkAt) → HasHeads sum mid heads → KeepsOpen (traces view) sum old mid → IsRead (traces view) sum old k → IsRead (traces view) sum mid (begun_with k heads)
+    is_read : (k : Unstored) (heads : List MarkAt) → HasHeads sum mid heads → KeepsWriting (traces view) sum old mid → IsRead (traces view) sum old k → IsRead (traces view) sum mid (begun_with k heads)
     is_read k heads among only is = record {
       made = is.made;
       zeros = is.zeros;
       unmarked = is.unmarked;
-      fits = only.keeps.fits k.history k.acknowledged k.floor is.unmarked is.fits;
+      fits = only.preserves.fits k.history k.acknowledged k.floor is.unmarked is.fits;
       pinned = only.position.pins ∙ is.pinned;
       given_up = λ m given. is.given_up m (only.tickets.given_up m given);
       heads = among;
@@ -512,7 +500,7 @@ module _ {D C : Type 0} (view : D → DeviceView) (sum : List ℕ → ℕ) (old 
         → HasReadSome view sum old page entries new (items ++ item ∷ []) rest
     one_more new e rest item some reads = record {
       free = some.free;
-      only = further new some.only reads.only;
+      only = writing_further (traces view) sum old mid new some.only reads.only;
       so_far = λ k ms begun is all are.
           let so = some.so_far k ms begun is all are in
           let heads : List MarkAt = so.0 in
@@ -540,7 +528,7 @@ module _ {D C : Type 0} (view : D → DeviceView) (sum : List ℕ → ℕ) (old 
     pub one_failed : (new : Log D C) (e : Entry) (rest : List Entry) (why : Error) → HasReadSome view sum old page entries mid items (e ∷ rest) → ReadsItem view sum mid page (to_z w64 (of_z w64 e.0)) e.1 new (Err why)
         → ReadsEntries view sum old page entries new (Err why)
     one_failed new e rest why some reads = record {
-      only = further new some.only reads.only;
+      only = writing_further (traces view) sum old mid new some.only reads.only;
       step = λ k ms begun a is all are present device log.
           let so = some.so_far k ms begun is all are in
           let heads : List MarkAt = so.0 in
@@ -646,4 +634,6 @@ module _ {D C : Type 0} (view : D → DeviceView) (sum : List ℕ → ℕ) (open
       (all_of_page k.history (reserved_end opened.log) page at.made at.ends) (sym present.entries) present.present refl refl
 
   pub open_still : IsOpenAt (traces view) sum (over opened new) (read_with page_read.0)
-  open_still = still_with (traces view) sum opened new k k.acknowledged page_read.0 page_read.1 at reads.only.tickets (place_pinned opened.log new (is_out opened.log at.pinned) reads.only.position) reads.only.free reads.only.keeps (reads.only.keeps.fits k.history k.acknowledged k.floor at.unmarked at.fits)
+  open_still =
+      let keeps = writing_pinned (traces view) sum opened.log new (is_out opened.log at.pinned) reads.only in
+      still_with (traces view) sum opened new k k.acknowledged page_read.0 page_read.1 at keeps.tickets keeps.position keeps.preserves.goes_on.sound keeps.preserves (keeps.preserves.fits k.history k.acknowledged k.floor at.unmarked at.fits)

@@ -226,7 +226,7 @@ module _ {D C : Type 0} (view : D → DeviceView) (sum : List ℕ → ℕ) (old 
         size = refl;
         ticket = awaits its_one.message.bytes;
         own = own ∙ sym (rewriting_apart (traces view) sum mid k at_mid page blob its_one);
-        stored = keeps.goes_on.items none its (rewriting_stored (traces view) sum mid k at_mid page blob its_one);
+        stored = keeps.goes_on.items none its tt (rewriting_stored (traces view) sum mid k at_mid page blob its_one);
         behind = behind;
         others = others;
         fault = answers.0;

@@ -7,4 +7,4 @@ use Rattle.sled_core.specs.Keeps.{GoesOn}
 use Rattle.sled_log.specs.RunPhases.{IsSafe}
 
 pub safe_on : {D C : Type 0} (trace : D → Trace) (sum : List ℕ → ℕ) (old new : Log D C) (m : Message) → GoesOn trace sum old new → IsSafe trace sum old m → IsSafe trace sum new m
-safe_on trace sum old new m goes_on safe = λ none. goes_on.items none m (safe (goes_on.sound none))
+safe_on trace sum old new m goes_on safe = λ none. goes_on.items none m tt (safe (goes_on.sound none))

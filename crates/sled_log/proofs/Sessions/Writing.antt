@@ -15,7 +15,7 @@ use Rattle.sled_store.specs.Accounts.{machine_of}
 use Rattle.sled_store.specs.Blobs.{UnlessFault}
 use Rattle.sled_store.specs.Device.{Event, Trace}
 use Rattle.sled_store.specs.Script.{Performs, after_all}
-use Rattle.sled_log.proofs.Sessions.Accounts.{account_above, account_front}
+use Rattle.sled_log.proofs.Sessions.Accounts.{account_above, account_front, front_short}
 use Rattle.sled_log.proofs.Sessions.BegunHeads.{HasOnlyBegun, heads_kept, heads_still}
 use Rattle.sled_core.specs.Account.{Account, account_behind, account_of}
 use Rattle.sled_core.specs.Fillings.{FillingAt}
@@ -477,8 +477,8 @@ module _ {D C : Type 0} (log : Log D C) (sum : List ℕ → ℕ) (begun : ℕ) (
                     let left = ap spans front.left ∙ drop_seen front.count (sealed_for sum to log) ∙ ap (λ (ss : List Span). drop front.count ss) sealed_seen in
                     let start = front.start ∙ start_seen in (
                       leaves new device now H A f position (drop front.count (sealed_below to l)) (start_below to l) (fault_of new) (account_behind (take front.count its_buffers) (account_of log)) left start refl
-                          (account_front log sum to new trace some front),
-                      subst (λ n. n < to) (first_seen new ∙ (λ i. first_waiting (left i) (start i))) front.short,
+                          (account_front log sum to new trace out some front),
+                      subst (λ n. n < to) (first_seen new ∙ (λ i. first_waiting (left i) (start i))) (front_short trace sum to log new out front),
                     )),
               )
             ];

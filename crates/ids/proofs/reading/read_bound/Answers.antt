@@ -2,10 +2,11 @@ use Rattle.std.proofs.Common.{◌≡◌, Some, ◌∙◌, ap, List}
 use Rattle.std.specs.List.{slice_get}
 use Rattle.sled_codec.specs.declared.serialization.snapshot.PageState.{PageState}
 use Rattle.sled_core.specs.Fits.{segment_size_of, synced_end}
+use Rattle.sled_core.proofs.PublicLaws.{writing_still}
 use Rattle.ids.specs.Readings.{file_of}
 use Rattle.ids.proofs.FirstPlaces.{first_lies}
 use Rattle.ids.proofs.FoundBounds.{answers_first, answers_zero}
-use Rattle.ids.proofs.ReadLemmas.{bound_read, found_read, holds_read, known_more, last_read, none_found, page_read, read_still}
+use Rattle.ids.proofs.ReadLemmas.{bound_read, found_read, holds_read, known_more, last_read, none_found, page_read}
 use Rattle.ids.proofs.reading.read_bound.Goals as goal
 
 pub returns-in-None-clause-found : goal.returns-in-None-clause-found
@@ -13,7 +14,7 @@ returns-in-None-clause-found g c = λ H cut has. none_found g.D.Device.trace g.C
     (c.in-None.ensures.value ∙ ap (λ (ps : List PageState). slice_get ps 0) c.deref.ensures.value)
 
 pub returns-in-None-clause-only : goal.returns-in-None-clause-only
-returns-in-None-clause-only g c = read_still g.D.Device.trace g.C.Checksum.sum_of c.args.log.now
+returns-in-None-clause-only g c = writing_still g.D.Device.trace g.C.Checksum.sum_of c.args.log.now
 
 pub returns-in-None-clause-bound : goal.returns-in-None-clause-bound
 returns-in-None-clause-bound g c = answers_zero g.C.Checksum.sum_of (segment_size_of c.args.log.now) (file_of g.D.Device.trace c.args.log.now) c.args.snapshot.now.pt.items

@@ -1,4 +1,4 @@
-use Rattle.std.proofs.Common.{◌∙◌, ◌/◌, ◌<ℤ◌, ℕ, ℤ, pos, Ok, Err, arith, subst, sym}
+use Rattle.std.proofs.Common.{◌∙◌, ◌/◌, ◌<ℤ◌, ℕ, ℤ, pos, Ok, Err, arith, inr, subst, sym}
 use Rattle.std.specs.Prelude.{unsigned_abs}
 use Rattle.std.specs.Int.{w64}
 use Rattle.std.proofs.lemmas.Int.{ints, to_z-of_z}
@@ -7,14 +7,14 @@ use Rattle.sled_store.specs.Device.{State, state_of}
 use Rattle.sled_core.specs.Fits.{device_of, segment_size_of, synced_end}
 use Rattle.sled_core.specs.ReadPointer.{IsDamageAt}
 use Rattle.sled_core.specs.Reading.{IsNoPlace, IsReading}
-use Rattle.sled_core.proofs.PublicLaws.{fits_holds}
+use Rattle.sled_core.proofs.PublicLaws.{writing_still}
 use Rattle.ids.specs.Readings.{AnswersBound, IsBoundBy, IsOpenError, IsReadErrorUnless}
 use Rattle.ids.proofs.FoundBounds.{answers_none, answers_read}
-use Rattle.ids.proofs.ReadLemmas.{counts_damage, damage_known, no_error, no_reason, none_holds, on_ok, read_counts, read_fails, read_goes_on, read_known, read_still, read_unwritten, record_there}
+use Rattle.ids.proofs.ReadLemmas.{counts_damage, damage_known, no_error, no_reason, none_holds, on_ok, read_counts, read_fails, read_goes_on, read_known, read_unwritten, record_there}
 use Rattle.ids.proofs.reading.read_number.Goals as goal
 
 pub returns-in_default-clause-only : goal.returns-in_default-clause-only
-returns-in_default-clause-only g c = read_still g.D.Device.trace g.C.Checksum.sum_of c.args.log.now
+returns-in_default-clause-only g c = writing_still g.D.Device.trace g.C.Checksum.sum_of c.args.log.now
 
 -- The message was read.
 
@@ -23,7 +23,7 @@ returns-in-Ok-clause-number g c = λ H m cut n holds place pointer.
     let trace = g.D.Device.trace in
     let sum = g.C.Checksum.sum_of in
     let log = c.args.log.now in
-    let gives = c.in-Ok.ensures.message H m (fits_holds trace sum log H holds.acknowledged holds.floor holds.unmarked holds.fits) holds.last.there (record_there trace sum log H m cut n holds) (place ∙ sym (to_z-of_z w64 c.args.place c.ranges.place)) (pointer ∙ c.in-Inline.is) tt in
+    let gives = c.in-Ok.ensures.message H m (inr (holds.acknowledged, holds.floor, holds.unmarked, holds.fits)) holds.last.there (record_there trace sum log H m cut n holds) (place ∙ sym (to_z-of_z w64 c.args.place c.ranges.place)) (pointer ∙ c.in-Inline.is) tt in
     (c.number_in.ensures.number m n gives holds.last.has).0
 
 pub returns-in-Ok-clause-errors : goal.returns-in-Ok-clause-errors
@@ -31,7 +31,7 @@ returns-in-Ok-clause-errors g c = λ H m cut n holds place pointer.
     let trace = g.D.Device.trace in
     let sum = g.C.Checksum.sum_of in
     let log = c.args.log.now in
-    let gives = c.in-Ok.ensures.message H m (fits_holds trace sum log H holds.acknowledged holds.floor holds.unmarked holds.fits) holds.last.there (record_there trace sum log H m cut n holds) (place ∙ sym (to_z-of_z w64 c.args.place c.ranges.place)) (pointer ∙ c.in-Inline.is) tt in
+    let gives = c.in-Ok.ensures.message H m (inr (holds.acknowledged, holds.floor, holds.unmarked, holds.fits)) holds.last.there (record_there trace sum log H m cut n holds) (place ∙ sym (to_z-of_z w64 c.args.place c.ranges.place)) (pointer ∙ c.in-Inline.is) tt in
     no_error IsOpenError c.number_in.result (no_reason _ c.number_in.result holds.inline (c.number_in.ensures.number m n gives holds.last.has).1)
 
 pub returns-in-Ok-clause-fault : goal.returns-in-Ok-clause-fault

@@ -5,9 +5,10 @@ use Rattle.sled_codec.specs.declared.result.Error.TheVariants.{Corruption}
 use Rattle.sled_codec.specs.Snapshots.{Entry, page_of}
 use Rattle.sled_core.specs.Fits.{segment_size_of, synced_end}
 use Rattle.std.specs.Prelude.{IfErr}
+use Rattle.sled_core.proofs.PublicLaws.{writing_still}
 use Rattle.ids.specs.Readings.{AnswersBound, IsBoundBy, IsBoundIn, IsReadErrorUnless, LiesBelow, file_of}
 use Rattle.ids.proofs.FoundBounds.{answers_free}
-use Rattle.ids.proofs.ReadLemmas.{read_still, same_base}
+use Rattle.ids.proofs.ReadLemmas.{same_base}
 use Rattle.ids.proofs.reading.read_page.Goals as goal
 
 pub returns-in-Present-clause-number : goal.returns-in-Present-clause-number
@@ -23,7 +24,7 @@ returns-in-Present-clause-errors g c = λ H m cut n holds is.
     c.read_number.ensures.errors H m cut n holds (sym (ap (λ (e : Entry). e.0) base) ∙ sym (to_z-of_z w64 c.in-Present.base.0 fits)) (sym (ap (λ (e : Entry). e.1) base))
 
 pub returns-in-Free-clause-only : goal.returns-in-Free-clause-only
-returns-in-Free-clause-only g c = read_still g.D.Device.trace g.C.Checksum.sum_of c.args.log.now
+returns-in-Free-clause-only g c = writing_still g.D.Device.trace g.C.Checksum.sum_of c.args.log.now
 
 pub returns-in-Present-clause-known : goal.returns-in-Present-clause-known
 returns-in-Present-clause-known g c = λ idle.

@@ -22,7 +22,6 @@ use Rattle.sled_core.specs.invariants.Recoverable.{Recoverable}
 use Rattle.sled_core.proofs.Blobs.FirmContent.{read_recoverable}
 use Rattle.sled_core.specs.invariants.Running.{Fits, Ready}
 use Rattle.sled_core.specs.Running.{end_below}
-use Rattle.sled_core.proofs.Holds.ReachLemmas.{fits_holds}
 use Rattle.sled_core.proofs.Read.ReadingLemmas.{if_ok}
 use Rattle.sled_log.specs.Orderly.{CanRecover}
 use Rattle.sled_log.specs.Restarts.{FlushFails, HasRestarted}
@@ -49,7 +48,7 @@ returns-in-Ok-clause-ready g c = λ H A f U can.
     let there : CanRecover sum size (state_of old) H end f = can_recover trace sum c.args.log log config.device H A end f U now_size same (same ∙ c.in-Ok.ensures.calls) c.in-Ok.ensures.answers.2 c.in-Ok.ensures.answers.3 c.in-Ok.ensures.buffers.0.above can (c.in-Ok.ensures.acknowledges H A f U can.fits) in
     let kept : IsKept sum (account_of log).mark (account_of log).durable size log.segments.first.site log.segments.first.buffer.written_len (state_of old) (logged H) =
     subst (λ (t : Trace). IsKept sum (account_of log).mark (account_of log).durable size log.segments.first.site log.segments.first.buffer.written_len (state_of t) (logged H)) (sym same)
-    (subst (λ n. IsKept sum (account_of log).mark (account_of log).durable n log.segments.first.site log.segments.first.buffer.written_len (state_of (trace (device_of log))) (logged H)) now_size (c.in-Ok.ensures.records H (fits_holds trace sum c.args.log H A f U can.fits))) in
+    (subst (λ n. IsKept sum (account_of log).mark (account_of log).durable n log.segments.first.site log.segments.first.buffer.written_len (state_of (trace (device_of log))) (logged H)) now_size (c.in-Ok.ensures.records H (inr (A, f, U, can.fits)))) in
     let long : 256 ≤ size = (let least = config.config.least in omega (arith, least, sizes)) in
     let less : max A (end_below (reserved_end c.args.log) H) ≤ end = (let low = end_rises (reserved_end c.args.log) (synced_end log) H c.in-Ok.ensures.synced.whole in omega (arith, low)) in
     if_ok c.read_snapshot_or_default-snapshot.result _ (λ s. Ready sum size (state_of new) (model_of s) H (max A (end_below (reserved_end c.args.log) H)) (stable_place s.stable_lsn))

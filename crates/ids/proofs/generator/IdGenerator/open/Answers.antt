@@ -5,7 +5,7 @@ use Rattle.sled_store.specs.Moments.{IsLater, Throughout}
 use Rattle.sled_store.proofs.PublicLaws.{later_both}
 use Rattle.sled_core.specs.Fits.{device_of, fault_of, open_places, pins_of, position_of, segment_size_of, synced_end}
 use Rattle.sled_core.proofs.Blobs.FirmContent.{read_recoverable}
-use Rattle.sled_core.proofs.PublicLaws.{kept_further, none_is_empty}
+use Rattle.sled_core.proofs.PublicLaws.{none_is_empty}
 use Rattle.ids.specs.Bounds.{GivesFrom}
 use Rattle.ids.specs.Generators.{CanOpen}
 use Rattle.ids.specs.Openings.{OpenFails}
@@ -133,8 +133,8 @@ returns-in-Ok-read_bound-clause-opens g c = λ n most can.
     let sum = g.C.Checksum.sum_of in
     let place : ℕ = stable_place (model_of c.in-Ok.snapshot).stable in
     let b = started g (goal.at.returns-in-Ok-read_bound-clause-opens g c).In-Ok-start n most can in
-    let both = kept_further trace sum c.in-Ok-start.log c.read_bound.new.log c.pin-guard.new.self c.read_bound.ensures.only.keeps c.pin-guard.ensures.keeps in
-    let bounds = b.bounds c.in-Ok-read_bound.bound (c.in-Ok-read_bound.ensures.found b.history place b.table) c.pin-guard.new.self both in
+    let bounds = b.bounds c.in-Ok-read_bound.bound (c.in-Ok-read_bound.ensures.found b.history place b.table) c.pin-guard.new.self
+    (λ A f U fits. c.pin-guard.ensures.keeps.fits b.history A f U (c.read_bound.ensures.only.preserves.fits b.history A f U fits)) in
     (has_generates trace sum _ bounds.0, bounds.1, bounds.2)
 
 pub returns-in-Ok-read_bound-clause-begins : goal.returns-in-Ok-read_bound-clause-begins
@@ -143,9 +143,9 @@ returns-in-Ok-read_bound-clause-begins g c = (refl, refl, refl, ap fault_of c.pi
 pub returns-in-Ok-read_bound-clause-keeps : goal.returns-in-Ok-read_bound-clause-keeps
 returns-in-Ok-read_bound-clause-keeps g c = λ n most can.
     let b = started g (goal.at.returns-in-Ok-read_bound-clause-keeps g c).In-Ok-start n most can in
-    let both = kept_further g.D.Device.trace g.C.Checksum.sum_of c.in-Ok-start.log c.read_bound.new.log c.pin-guard.new.self
-    c.read_bound.ensures.only.keeps c.pin-guard.ensures.keeps in
-    b.gives c.pin-guard.new.self both.goes_on
+    let trace = g.D.Device.trace in
+    subst (Throughout (GivesFrom g.C.Checksum.sum_of c.args.config.config.segment_size n most) (trace c.args.config.device))
+    (sym (ap (λ x. trace (device_of x)) c.pin-guard.ensures.taken)) (b.gives c.read_bound.new.log c.read_bound.ensures.only.preserves.goes_on)
 
 pub returns-in-Ok-read_bound-clause-answers : goal.returns-in-Ok-read_bound-clause-answers
 returns-in-Ok-read_bound-clause-answers g c =
@@ -185,7 +185,7 @@ returns-clause-keeps g c = λ n most can.
     let trace = g.D.Device.trace in
     let b = started g (goal.at.returns-clause-keeps g c).In-Ok-start n most can in
     subst (λ x. Throughout (GivesFrom g.C.Checksum.sum_of c.args.config.config.segment_size n most) (trace c.args.config.device) (trace x.device))
-    (sym c.halt.ensures.config) (b.gives c.read_bound.new.log c.read_bound.ensures.only.keeps.goes_on)
+    (sym c.halt.ensures.config) (b.gives c.read_bound.new.log c.read_bound.ensures.only.preserves.goes_on)
 
 pub returns-clause-fails : goal.returns-clause-fails
 returns-clause-fails g c = λ n most can.

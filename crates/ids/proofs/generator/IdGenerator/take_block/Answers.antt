@@ -1,7 +1,7 @@
 use Rattle.std.proofs.Common.{◌≡◌, ◌∙◌, inl, inr, ◌<◌, ◌≤◌, nat_lt, if◌then◌else◌, max, ap, arith, refl, subst, sym, ℕ, Bool, true, false}
 use Rattle.std.proofs.lemmas.Bool.Decides.{nat_tests}
 use Rattle.sled_store.proofs.PublicLaws.{later_both}
-use Rattle.sled_core.proofs.PublicLaws.{none_holding, none_is_empty}
+use Rattle.sled_core.proofs.PublicLaws.{none_holding, none_is_empty, writing_pinned}
 use Rattle.sled_core.specs.Fits.{IsUsedUpBelow, device_of, fault_of, holding_below, reserved_end}
 use Rattle.ids.specs.Generators.{IsUsedUp, NextFails, further_bound}
 use Rattle.ids.proofs.Generating.{asked_then, config_then, faulty_still, flush_fails, flush_whole, flush_written, generates_has, gives_still, had_room, has_flushed, has_generates, has_still, next_begins, none_written, used_up, within_block}
@@ -29,13 +29,14 @@ returns-in-Ok-flush-clause-keeps g c =
     let mid = c.ask.new.self in
     let first = c.ask.ensures.gives_on in
     let flushed = c.in-Ok-flush.ensures in
+    let keeps = writing_pinned trace sum mid.log c.flush.new.self mid.pinned flushed.keeps in
     record {
       asked = first.asked;
       block = first.block;
-      generates = λ generates. has_generates trace sum _ (has_flushed trace sum mid.log c.flush.new.self mid.bound mid.asked mid.ahead flushed.synced.whole flushed.keeps.position.reserved flushed.acknowledges (generates_has trace sum mid (first.generates generates)));
-      keeps = λ generates. asked_then trace sum c.args.self.now mid c.flush.new.self (ap (λ x. x.segment_size) first.config.config) c.ask.ensures.rest.bound first.asked (first.generates generates) flushed.keeps.preserves.goes_on (first.keeps generates);
-      later = later_both _ _ _ first.later flushed.keeps.preserves.goes_on.later;
-      config = config_then first.config flushed.keeps.preserves.goes_on.config;
+      generates = λ generates. has_generates trace sum _ (has_flushed trace sum mid.log c.flush.new.self mid.bound mid.asked mid.ahead flushed.synced.whole keeps.position.reserved flushed.acknowledges (generates_has trace sum mid (first.generates generates)));
+      keeps = λ generates. asked_then trace sum c.args.self.now mid c.flush.new.self (ap (λ x. x.segment_size) first.config.config) c.ask.ensures.rest.bound first.asked (first.generates generates) keeps.preserves.goes_on (first.keeps generates);
+      later = later_both _ _ _ first.later keeps.preserves.goes_on.later;
+      config = config_then first.config keeps.preserves.goes_on.config;
     }
 
 pub returns-in-Ok-flush-clause-writes : goal.returns-in-Ok-flush-clause-writes
@@ -60,14 +61,15 @@ returns-in-Err-flush-clause-keeps g c =
     let mid = c.ask.new.self in
     let first = c.ask.ensures.gives_on in
     let failed = c.in-Err-flush.ensures in
-    let same = failed.keeps.position.reserved in
+    let keeps = writing_pinned trace sum mid.log c.flush.new.self mid.pinned failed.keeps in
+    let same = keeps.position.reserved in
     record {
       asked = first.asked;
       block = first.block;
-      generates = λ generates. has_generates trace sum _ (has_still trace sum mid.log c.flush.new.self mid.bound mid.asked failed.keeps.preserves (omega (arith, same)) (generates_has trace sum mid (first.generates generates)));
-      keeps = λ generates. asked_then trace sum c.args.self.now mid c.flush.new.self (ap (λ x. x.segment_size) first.config.config) c.ask.ensures.rest.bound first.asked (first.generates generates) failed.keeps.preserves.goes_on (first.keeps generates);
-      later = later_both _ _ _ first.later failed.keeps.preserves.goes_on.later;
-      config = config_then first.config failed.keeps.preserves.goes_on.config;
+      generates = λ generates. has_generates trace sum _ (has_still trace sum mid.log c.flush.new.self mid.bound mid.asked keeps.preserves (omega (arith, same)) (generates_has trace sum mid (first.generates generates)));
+      keeps = λ generates. asked_then trace sum c.args.self.now mid c.flush.new.self (ap (λ x. x.segment_size) first.config.config) c.ask.ensures.rest.bound first.asked (first.generates generates) keeps.preserves.goes_on (first.keeps generates);
+      later = later_both _ _ _ first.later keeps.preserves.goes_on.later;
+      config = config_then first.config keeps.preserves.goes_on.config;
     }
 
 pub returns-in-Err-flush-clause-causes : goal.returns-in-Err-flush-clause-causes

@@ -3,8 +3,10 @@ use Rattle.std.proofs.Common.{◌<◌, ◌∷◌, List, length, map, arith, subs
 use Rattle.std.proofs.lemmas.List.{length-map}
 use Rattle.sled_codec.specs.declared.serialization.snapshot.PageState.{PageState}
 use Rattle.sled_codec.specs.Snapshots.{Entry, Free, Page, Present, Uninitialized, page_of}
+use Rattle.sled_core.proofs.PublicLaws.{writing_pinned}
 use Rattle.sled_log.specs.Readings.{ReadsEntries}
 use Rattle.sled_log.specs.RunPhases.{view_by}
+use Rattle.sled_log.proofs.Sessions.Accounts.{is_out}
 use Rattle.sled_log.proofs.Sessions.MadePages.{page_free, page_not_nothing}
 use Rattle.sled_log.proofs.Sessions.Reading.{open_still, page_found, page_read, read_with}
 use Rattle.sled_log.proofs.Sessions.Within.{going_on, untouched}
@@ -22,13 +24,14 @@ returns-in-Ok-clause-step g c = λ k at free.
     let look = c.in-Some.ensures.lookup in
     let has = page_found opened.pages.items c.deref.result.now c.args.page c.in-Some.state.now (Present base frags) c.deref.ensures.value look.3.0 look.1 (ap page_of c.in-Present.is) in
     let reads = subst (λ l. ReadsEntries view sum opened.log c.args.page (base ∷ l) new (Ok c.in-Ok.items)) c.deref-in-Present.ensures.value c.in-Ok.ensures.reads in
+    let keeps = writing_pinned g.D.Device.trace sum opened.log new (is_out opened.log at.pinned) reads.only in
     let read = page_read view sum opened c.args.page k at new base frags (Ok c.in-Ok.items) has reads in
     record {
       not_refused = refl;
       next = read_with view sum opened c.args.page k at new base frags (Ok c.in-Ok.items) has reads read.0;
       step = read.2;
       at = λ own. open_still view sum opened c.args.page k at new base frags (Ok c.in-Ok.items) has reads;
-      crash = λ own. going_on g.D.Device.trace sum opened k at new reads.only.keeps.goes_on;
+      crash = λ own. going_on g.D.Device.trace sum opened k at new keeps.preserves.goes_on;
     }
 
 -- src/session/reading.rt:20:1
@@ -43,13 +46,14 @@ returns-in-Err-clause-step g c = λ k at free.
     let look = c.in-Some.ensures.lookup in
     let has = page_found opened.pages.items c.deref.result.now c.args.page c.in-Some.state.now (Present base frags) c.deref.ensures.value look.3.0 look.1 (ap page_of c.in-Present.is) in
     let reads = subst (λ l. ReadsEntries view sum opened.log c.args.page (base ∷ l) new (Err c.in-Err.e)) c.deref-in-Present.ensures.value c.in-Err.ensures.reads in
+    let keeps = writing_pinned g.D.Device.trace sum opened.log new (is_out opened.log at.pinned) reads.only in
     let read = page_read view sum opened c.args.page k at new base frags (Err c.in-Err.e) has reads in
     record {
       not_refused = refl;
       next = read_with view sum opened c.args.page k at new base frags (Err c.in-Err.e) has reads read.0;
       step = read.2;
       at = λ own. open_still view sum opened c.args.page k at new base frags (Err c.in-Err.e) has reads;
-      crash = λ own. going_on g.D.Device.trace sum opened k at new reads.only.keeps.goes_on;
+      crash = λ own. going_on g.D.Device.trace sum opened k at new keeps.preserves.goes_on;
     }
 
 -- src/session/reading.rt:20:1

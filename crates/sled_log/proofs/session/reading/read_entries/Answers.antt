@@ -70,7 +70,7 @@ returns-in_err-read_item-2-clause-reads g c = let gives = err_from_is_err_and c.
 
 -- src/session/reading.rt:50:29
 pub returns-in_err-read_item-2-clause-on : goal.returns-in_err-read_item-2-clause-on
-returns-in_err-read_item-2-clause-on g c = let keeps = (failed g c).only.keeps in record { later = keeps.goes_on.later; kept = keeps.goes_on.config }
+returns-in_err-read_item-2-clause-on g c = let keeps = (failed g c).only.preserves in record { later = keeps.goes_on.later; kept = keeps.goes_on.config }
 
 -- src/session/reading.rt:50:9
 pub push_reserved-requires-in-loop-frag : goal.push_reserved-requires-in-loop-frag
@@ -112,5 +112,5 @@ returns-clause-reads g c =
 -- src/session/reading.rt:37:1
 pub returns-clause-on : goal.returns-clause-on
 returns-clause-on g c =
-    let keeps = c.loop-frag.invariant.some.only.keeps in
+    let keeps = c.loop-frag.invariant.some.only.preserves in
     record { later = keeps.goes_on.later; kept = keeps.goes_on.config }

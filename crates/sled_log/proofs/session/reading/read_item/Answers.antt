@@ -8,10 +8,10 @@ use Rattle.sled_store.specs.Device.{state_of}
 use Rattle.sled_core.specs.declared.logger.read_message.LogRead.{LogRead}
 use Rattle.sled_core.specs.Fits.{device_of, reserved_end}
 use Rattle.sled_core.specs.Reading.{GivesMessage}
-use Rattle.sled_core.proofs.PublicLaws.{fits_holds, place_pinned}
+use Rattle.sled_core.proofs.PublicLaws.{fits_holds, writing_pinned}
 use Rattle.sled_log.specs.RunPhases.{view_by}
 use Rattle.sled_log.proofs.Sessions.Accounts.{is_out}
-use Rattle.sled_log.proofs.Sessions.Writing.{stays_put, was_free, whole_of}
+use Rattle.sled_log.proofs.Sessions.Writing.{stays_put, whole_of}
 use Rattle.sled_log.proofs.Sessions.Reading.{has_record, is_given, is_whole, read_failed, was_read}
 use Rattle.sled_log.proofs.session.reading.read_item.Goals as goal
 
@@ -29,14 +29,15 @@ returns-in_err-item-clause-reads g c =
     let place : ℤ = to_z w64 (of_z w64 c.args.place) in
     let gives = err_from_is_err_and c.from_residual.result c.from_residual.ensures.1 in
     rw (gives.1, gives.2) (record {
-      only = record { keeps = c.read.ensures.keeps.preserves; tickets = c.read.ensures.keeps.tickets; position = c.read.ensures.keeps.position; free = was_free old new c.read.ensures.refused.faulty };
+      only = c.read.ensures.keeps;
       marked = c.read.ensures.buffers.1.marked;
       item = λ k m begun is of here points none a.
           let at = here ∙ sym (to_z-of_z w64 c.args.place c.ranges.place) in
           let whole = is_whole trace sum old k c.args.page m place is of at c.args.pointer e points
           (came.undamaged k.history k.acknowledged k.floor is.unmarked m is.fits of.there (has_record old k.history (reserved_end old) c.args.page m of) at points)
           (came.blob k.history k.acknowledged k.floor is.unmarked m is.fits is.zeros).kept in
-          read_failed view sum old new k c.args.page m begun of (whole_of trace sum old k.given_up k.heads k.history k.acknowledged k.floor is.unmarked is.given_up is.heads is.fits) (stays_put trace sum old new c.read.ensures.keeps.tickets (place_pinned old new (is_out old is.pinned) c.read.ensures.keeps.position) c.read.ensures.keeps.preserves) (is_out old is.pinned) blobs e place c.args.pointer at points
+          let keeps = writing_pinned trace sum old new (is_out old is.pinned) c.read.ensures.keeps in
+          read_failed view sum old new k c.args.page m begun of (whole_of trace sum old k.given_up k.heads k.history k.acknowledged k.floor is.unmarked is.given_up is.heads is.fits) (stays_put trace sum old new keeps.tickets keeps.position keeps.preserves) (is_out old is.pinned) blobs e place c.args.pointer at points
           (came.calls, (came.buffers.1, came.answers, came.buffers.2)) whole none a;
     })
 
@@ -53,18 +54,19 @@ returns-in-Inline-clause-reads g c =
     let r : LogRead = c.in_ok-item.field-0 in
     let place : ℤ = to_z w64 (of_z w64 c.args.place) in
     record {
-      only = record { keeps = c.read.ensures.keeps.preserves; tickets = c.read.ensures.keeps.tickets; position = c.read.ensures.keeps.position; free = was_free old new c.read.ensures.refused.faulty };
+      only = c.read.ensures.keeps;
       marked = c.read.ensures.buffers.1.marked;
       item = λ k m begun is of here points.
           let at = here ∙ sym (to_z-of_z w64 c.args.place c.ranges.place) in
           let gives : GivesMessage m r = is_given trace sum old k c.args.page m place is of at c.args.pointer r points
-          (came.message k.history m (fits_holds trace sum old k.history k.acknowledged k.floor is.unmarked is.fits) of.there (has_record old k.history (reserved_end old) c.args.page m of) at points)
+          (came.message k.history m (inr (k.acknowledged, k.floor, is.unmarked, is.fits)) of.there (has_record old k.history (reserved_end old) c.args.page m of) at points)
           (came.blob k.history k.acknowledged k.floor is.unmarked m is.fits is.zeros).kept in
           let bytes : c.in-Inline.item.items ≡ m.bytes = elim c.in-Inline.is [
             | inl x ↦ (subst (GivesMessage m) x.2 gives).2
             | inr x ↦ (subst (GivesMessage m) x.3 gives).2
           ] in
-          let read = was_read view sum old new k c.args.page m begun of (whole_of trace sum old k.given_up k.heads k.history k.acknowledged k.floor is.unmarked is.given_up is.heads is.fits) (stays_put trace sum old new c.read.ensures.keeps.tickets (place_pinned old new (is_out old is.pinned) c.read.ensures.keeps.position) c.read.ensures.keeps.preserves) (is_out old is.pinned) blobs r place c.args.pointer at points
+          let keeps = writing_pinned trace sum old new (is_out old is.pinned) c.read.ensures.keeps in
+          let read = was_read view sum old new k c.args.page m begun of (whole_of trace sum old k.given_up k.heads k.history k.acknowledged k.floor is.unmarked is.given_up is.heads is.fits) (stays_put trace sum old new keeps.tickets keeps.position keeps.preserves) (is_out old is.pinned) blobs r place c.args.pointer at points
           (came.calls, (came.buffers.1, came.answers, came.buffers.2)) in
           (bytes, read.0, read.1, read.2);
     }
@@ -80,12 +82,12 @@ returns-in-Canceled g c =
     let place : ℤ = to_z w64 (of_z w64 c.args.place) in
     record {
       reads = record {
-        only = record { keeps = c.read.ensures.keeps.preserves; tickets = c.read.ensures.keeps.tickets; position = c.read.ensures.keeps.position; free = was_free old new c.read.ensures.refused.faulty };
+        only = c.read.ensures.keeps;
         marked = c.read.ensures.buffers.1.marked;
         item = λ k m begun is of here points.
             let at = here ∙ sym (to_z-of_z w64 c.args.place c.ranges.place) in
             let gives : GivesMessage m c.in_ok-item.field-0 = is_given trace sum old k c.args.page m place is of at c.args.pointer c.in_ok-item.field-0 points
-            (came.message k.history m (fits_holds trace sum old k.history k.acknowledged k.floor is.unmarked is.fits) of.there (has_record old k.history (reserved_end old) c.args.page m of) at points)
+            (came.message k.history m (inr (k.acknowledged, k.floor, is.unmarked, is.fits)) of.there (has_record old k.history (reserved_end old) c.args.page m of) at points)
             (came.blob k.history k.acknowledged k.floor is.unmarked m is.fits is.zeros).kept in
             absurd (elim c.in-Canceled.is [
               | inl x ↦ subst (GivesMessage m) x.1 gives

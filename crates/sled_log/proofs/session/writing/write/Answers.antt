@@ -3,10 +3,11 @@ use Rattle.std.proofs.Common.{◌≡◌, ◌∙◌, ◌≤◌, ◌&&◌, inl, in
 use Rattle.std.proofs.lemmas.Bool.Decides.{nat_tests}
 use Rattle.sled_store.specs.Device.{Event}
 use Rattle.sled_store.specs.Script.{Performs, after_all}
-use Rattle.sled_core.specs.Fits.{device_of, fault_of, ledger_of, segment_size_of, waiting_of}
+use Rattle.sled_core.specs.Fits.{device_of, fault_of, ledger_of, segment_size_of, synced_end, waiting_of}
+use Rattle.sled_core.specs.Fronts.{syncs}
 use Rattle.sled_core.specs.Account.{account_behind, account_of}
 use Rattle.sled_core.specs.Freeing.{Ledger}
-use Rattle.sled_core.proofs.PublicLaws.{ledger_account, pinned_pending, place_pinned}
+use Rattle.sled_core.proofs.PublicLaws.{ledger_account, none_failed, pinned_pending, writing_pinned}
 use Rattle.sled_core.specs.Waiting.{one_pending, spans}
 use Rattle.sled_log.specs.RunPhases.{seen, view_by}
 use Rattle.sled_log.specs.RunStates.{LogView, opens, pending_in_view, without_unheld}
@@ -35,6 +36,7 @@ returns-in-Ok-clause-step g c = λ k at free.
     let opened = c.args.opened.now in
     let old = opened.log in
     let new = c.write_to_log.new.self in
+    let keeps = writing_pinned trace sum old new (is_out old at.pinned) c.write_to_log.ensures.keeps in
     let l : LogView = seen opened k.tickets k.given_up k.heads in
     let answers = c.in-Ok.ensures.answers in
     let left : spans (waiting_of new) ≡ without_unheld (opens l) c.args.i l.waiting = ap spans c.in-Ok.ensures.written ∙ without_seen (opens l) c.args.i (waiting_of old) (waiting_held old sum (length opened.pages.items) k.tickets k.given_up k.heads) in
@@ -46,10 +48,10 @@ returns-in-Ok-clause-step g c = λ k at free.
         answers.0,
         record { buffers = waiting_of old; shown = shows_waiting old sum (length opened.pages.items) k.tickets k.given_up k.heads (whole_of trace sum old k.given_up k.heads k.history k.acknowledged k.floor at.unmarked at.given_up at.heads at.fits answers.0); made = c.in-Ok.ensures.calls ∙ ap (λ (es : List Event). after_all es (trace (device_of old))) (pinned_pending old (is_out old at.pinned) c.args.i) },
         answers.2,
-        leaves old sum (length opened.pages.items) k.tickets k.given_up k.heads new (view old.config.device) (view new.config.device) k.history k.acknowledged k.floor (stays_put trace sum old new c.write_to_log.ensures.keeps.tickets (place_pinned old new (is_out old at.pinned) c.write_to_log.ensures.keeps.position) c.write_to_log.ensures.keeps.preserves) _ _ _ _ left c.write_to_log.ensures.start answers.1 marks,
+        leaves old sum (length opened.pages.items) k.tickets k.given_up k.heads new (view old.config.device) (view new.config.device) k.history k.acknowledged k.floor (stays_put trace sum old new keeps.tickets keeps.position keeps.preserves) _ _ _ _ left c.write_to_log.ensures.start.0 answers.1 marks,
       );
-      at = λ own. still_open trace sum opened new k k.acknowledged at c.write_to_log.ensures.keeps.tickets (begun_none sum old new (record { heads = c.write_to_log.ensures.heads; fillings = c.write_to_log.ensures.fillings })) (place_pinned old new (is_out old at.pinned) c.write_to_log.ensures.keeps.position) (was_free old new c.write_to_log.ensures.faulty) c.write_to_log.ensures.keeps.preserves (c.write_to_log.ensures.keeps.preserves.fits k.history k.acknowledged k.floor at.unmarked at.fits);
-      crash = λ own. going_on trace sum opened k at new c.write_to_log.ensures.keeps.preserves.goes_on;
+      at = λ own. still_open trace sum opened new k k.acknowledged at keeps.tickets (begun_none sum old new (record { heads = c.write_to_log.ensures.heads; fillings = c.write_to_log.ensures.fillings })) keeps.position (was_free old new c.write_to_log.ensures.faulty) keeps.preserves (keeps.preserves.fits k.history k.acknowledged k.floor at.unmarked at.fits);
+      crash = λ own. going_on trace sum opened k at new keeps.preserves.goes_on;
     }
 
 pub returns-in-Err-clause-step : goal.returns-in-Err-clause-step
@@ -60,12 +62,17 @@ returns-in-Err-clause-step g c = λ k at free.
     let opened = c.args.opened.now in
     let old = opened.log in
     let new = c.write_to_log.new.self in
+    let keeps = writing_pinned trace sum old new (is_out old at.pinned) c.write_to_log.ensures.keeps in
     let l : LogView = seen opened k.tickets k.given_up k.heads in
-    let left : spans (waiting_of new) ≡ l.waiting = ap spans c.in-Err.ensures.err.1 in
+    let err : (synced_end new ≡ synced_end old) × (waiting_of new ≡ waiting_of old) × (syncs (trace (device_of new)) ≡ syncs (trace (device_of old))) × (ledger_of new ≡ ledger_of old) = elim c.in-Err.ensures.err [
+      | inl none ↦ none
+      | inr wrote ↦ absurd (none_failed old new (is_out old at.pinned) wrote.failed)
+    ] in
+    let left : spans (waiting_of new) ≡ l.waiting = ap spans err.1 in
     let device = view old.config.device in
     let now = view new.config.device in
     let begun = length opened.pages.items in
-    let put = stays_put trace sum old new c.write_to_log.ensures.keeps.tickets (place_pinned old new (is_out old at.pinned) c.write_to_log.ensures.keeps.position) c.write_to_log.ensures.keeps.preserves in
+    let put = stays_put trace sum old new keeps.tickets keeps.position keeps.preserves in
     let answers = held_none (Unit {0}) c.in-Err.e (fault_of old) (fault_of new) device.failures now.failures c.in-Err.ensures.answers in
     record {
       not_refused = refl;
@@ -83,14 +90,14 @@ returns-in-Err-clause-step g c = λ k at free.
               buffers = waiting_of old;
               shown = shows_waiting old sum begun k.tickets k.given_up k.heads (whole_of trace sum old k.given_up k.heads k.history k.acknowledged k.floor at.unmarked at.given_up at.heads at.fits none);
               made = subst (λ (es : List Event). Performs es device.trace now.trace) (pinned_pending old (is_out old at.pinned) c.args.i) c.write_to_log.ensures.at_most;
-              synced = (let same = c.in-Err.ensures.err.2 in omega (arith, same));
+              synced = (let same = err.2 in omega (arith, same));
               whole = λ sound. spared (Unit {0}) c.in-Err.e (fault_of old) (fault_of new) device.failures now.failures device.trace now.trace none sound c.in-Err.ensures.answers c.in-Err.ensures.refused;
               held = never_held (Unit {0}) c.in-Err.e (fault_of old) (fault_of new) device.failures now.failures _ c.in-Err.ensures.answers;
             },
-            leaves old sum begun k.tickets k.given_up k.heads new device now k.history k.acknowledged k.floor put _ _ _ _ left c.write_to_log.ensures.start refl (ap (λ (x : Ledger). x.account) c.in-Err.ensures.err.3),
+            leaves old sum begun k.tickets k.given_up k.heads new device now k.history k.acknowledged k.floor put _ _ _ _ left c.write_to_log.ensures.start.0 refl (ap (λ (x : Ledger). x.account) err.3),
           );
         })
       ];
-      at = λ own. still_open trace sum opened new k k.acknowledged at c.write_to_log.ensures.keeps.tickets (begun_none sum old new (record { heads = c.write_to_log.ensures.heads; fillings = c.write_to_log.ensures.fillings })) (place_pinned old new (is_out old at.pinned) c.write_to_log.ensures.keeps.position) (was_free old new c.write_to_log.ensures.faulty) c.write_to_log.ensures.keeps.preserves (c.write_to_log.ensures.keeps.preserves.fits k.history k.acknowledged k.floor at.unmarked at.fits);
-      crash = λ own. going_on trace sum opened k at new c.write_to_log.ensures.keeps.preserves.goes_on;
+      at = λ own. still_open trace sum opened new k k.acknowledged at keeps.tickets (begun_none sum old new (record { heads = c.write_to_log.ensures.heads; fillings = c.write_to_log.ensures.fillings })) keeps.position (was_free old new c.write_to_log.ensures.faulty) keeps.preserves (keeps.preserves.fits k.history k.acknowledged k.floor at.unmarked at.fits);
+      crash = λ own. going_on trace sum opened k at new keeps.preserves.goes_on;
     }
