@@ -8,7 +8,7 @@ use Rattle.sled_store.specs.Device.{state_of}
 use Rattle.sled_core.specs.declared.logger.read_message.LogRead.{LogRead}
 use Rattle.sled_core.specs.Fits.{device_of, reserved_end}
 use Rattle.sled_core.specs.Reading.{GivesMessage}
-use Rattle.sled_core.proofs.PublicLaws.{fits_holds, writing_pinned}
+use Rattle.sled_core.proofs.PublicLaws.{writing_pinned}
 use Rattle.sled_log.specs.RunPhases.{view_by}
 use Rattle.sled_log.proofs.Sessions.Accounts.{is_out}
 use Rattle.sled_log.proofs.Sessions.Writing.{stays_put, whole_of}
