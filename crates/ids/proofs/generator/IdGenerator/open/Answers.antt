@@ -115,7 +115,8 @@ returns-in-Ok-read_bound-clause-opens g c = λ n most can.
     let fits = c.in-Ok-start.ensures.fits r.0.history r.0.acknowledged (stable_place s.stable) r.0.ready in
     let start = c.in-Ok-start.ensures.crash r.0.history r.0.acknowledged (stable_place s.stable) r.0.ready in
     let found = c.in-Ok-read_bound.ensures.found r.0.history (stable_place s.stable) (begun_table sum config.config.segment_size n most old (trace config.device) s r.0 r.1 trace log _ c.in-Ok-start.ensures.begins (omega (arith, least)) fits start) in
-    let still = c.pin-guard.ensures.keeps.fits r.0.history r.0.acknowledged (stable_place s.stable) [] (c.read_bound.ensures.only.preserves.fits r.0.history r.0.acknowledged (stable_place s.stable) [] fits) in
+    let still = c.pin-guard.ensures.keeps.fits r.0.history r.0.acknowledged (stable_place s.stable) []
+    (c.read_bound.ensures.only.preserves.fits r.0.history r.0.acknowledged (stable_place s.stable) [] fits) in
     let bounds = found_bounds sum config.config.segment_size n most old (trace config.device) s r.0 r.1 trace log _ c.in-Ok-start.ensures.begins (omega (arith, least)) fits start c.in-Ok-read_bound.bound found c.pin-guard.new.self still in
     (has_generates trace sum _ bounds.0, bounds.1, bounds.2)
 
