@@ -123,7 +123,8 @@ module _ (sum : List ℕ → ℕ) (size n most : ℕ) (old mid : Trace) (s : Sna
         (gives (trace (device_of log)) (trace (device_of next)) (subst (λ k. LeavesOnly (RecoverableIfOwn sum k has.history has.acknowledged place) (trace (device_of log)) (trace (device_of next))) begins.sized (goes.crash has.history has.acknowledged place [] fits)))
 
     -- from the bound that is found in it, which is no lower than what was reserved and no higher than all.
-    found_bounds : (v : ℕ) → IsLastBound has.history place v → (next : Log D C) → Fits trace sum next has.history has.acknowledged place [] → HasBounds trace sum next v v × (n ≤ v) × (v ≤ most)
+    found_bounds : (v : ℕ) → IsLastBound has.history place v → (next : Log D C) → Fits trace sum next has.history has.acknowledged place []
+        → HasBounds trace sum next v v × (n ≤ v) × (v ≤ most)
     found_bounds v found next still = (
       record {
         history = has.history;

@@ -25,8 +25,8 @@ pub is_out : {D C : Type 0} (log : Log D C) → pins_of log ≡ 1 → 0 < pins_o
 is_out log one = omega (arith, one)
 
 -- Where it is, what failed leaves some that isn't written.
-pub front_short : {D C : Type 0} (trace : D → Trace) (sum : List ℕ → ℕ) (to : ℕ) (old new : Log D C) → 0 < pins_of old → WroteFront trace sum to old new
-    → synced_end new < to
+pub front_short : {D C : Type 0} (trace : D → Trace) (sum : List ℕ → ℕ) (to : ℕ) (old new : Log D C) → 0 < pins_of old
+    → WroteFront trace sum to old new → synced_end new < to
 front_short trace sum to old new out front = elim front.short [
   | inl failed ↦ absurd (none_failed old new out failed.0)
   | inr short ↦ short

@@ -636,4 +636,5 @@ module _ {D C : Type 0} (view : D → DeviceView) (sum : List ℕ → ℕ) (open
   pub open_still : IsOpenAt (traces view) sum (over opened new) (read_with page_read.0)
   open_still =
       let keeps = writing_pinned (traces view) sum opened.log new (is_out opened.log at.pinned) reads.only in
-      still_with (traces view) sum opened new k k.acknowledged page_read.0 page_read.1 at keeps.tickets keeps.position keeps.preserves.goes_on.sound keeps.preserves (keeps.preserves.fits k.history k.acknowledged k.floor at.unmarked at.fits)
+      still_with (traces view) sum opened new k k.acknowledged page_read.0 page_read.1 at keeps.tickets keeps.position keeps.preserves.goes_on.sound
+      keeps.preserves (keeps.preserves.fits k.history k.acknowledged k.floor at.unmarked at.fits)
