@@ -9,7 +9,6 @@ use Rattle.sled_store.specs.Device.{Event, Trace}
 use Rattle.sled_store.specs.Script.{Performs, after_all}
 use Rattle.sled_store.specs.SegmentStates.{Machine}
 use Rattle.sled_store.specs.declared.config.RunningConfig.{RunningConfig}
-use Rattle.sled_store.proofs.Marks.OutdatedSteps.{KeepsBlobs, blobs_same, handed_blobs}
 use Rattle.sled_store.proofs.Segments.Elements.{in_nothing, only_in}
 use Rattle.sled_store.proofs.Traces.ScriptLemmas.{performs_nothing}
 use Rattle.sled_core.specs.Begun.{SegmentView, segment_view}
@@ -22,9 +21,10 @@ use Rattle.sled_core.specs.Freeing.{Ledger}
 use Rattle.sled_core.specs.Keeps.{FailedStep, IsSpared, KeepsLog, KeepsWriting, LeavesAbove, LeavesSome, WritesBelow, sealed_for, start_sealed}
 use Rattle.sled_core.specs.Ledger.{ledger_behind, writings}
 use Rattle.sled_core.specs.Marked.{BeginsMarked}
-use Rattle.sled_core.specs.Positions.{Position, is_short, next_segment_at}
+use Rattle.sled_core.specs.Positions.{Position, is_short}
 use Rattle.sled_core.specs.Waiting.{BufferAt, free_below, held_below, holds_any}
-use Rattle.sled_core.proofs.Line.KeptCalls.{failed_over, log_still, log_writing, spared_slots, writing_further}
+use Rattle.sled_core.proofs.Line.KeptCalls.{failed_over, log_still, log_writing, writing_further}
+use Rattle.sled_core.proofs.Line.Spared.{spared_sealed}
 use Rattle.sled_core.proofs.Line.Below.{begin_all, free_front, held_front, line_past}
 use Rattle.sled_core.proofs.Line.Current.{ComeBehind, line_current}
 use Rattle.sled_core.proofs.Line.Entered.{filled_last}
@@ -223,26 +223,6 @@ sealed_ledger old mid with_slots position account =
     ledger_parts : machine_at mid ≡ (position_of old).machine → account_of mid ≡ account_of old → ledger_of mid ≡ ledger_sealed old
     ledger_parts machine account = λ i. record { machine = machine i; account = account i }
 
--- No blob goes with a segment that is begun.
-pub spared_sealed : {D C : Type 0} (old mid : Log D C) → machine_at mid ≡ (position_of old).machine → pins_of mid ≡ pins_of old → (m : Message)
-    → IsSpared old m → IsSpared mid m
-spared_sealed old mid slots pins =
-    spared_slots old mid (subst (λ (x : Machine). KeepsBlobs m.slots x.slots) (sym slots) (by (is_short size (length v.parts.bytes)))) pins
-  where
-    m : Machine
-    m = machine_at old
-
-    size : ℕ
-    size = segment_size_of old
-
-    v : SegmentView
-    v = current_of old
-
-    by : (o : Bool) → KeepsBlobs m.slots (if o then next_segment_at size v.parts.site.place m
-        else record { place = v.parts.site.place + length v.parts.bytes; begins = v.parts.site.place; slot = v.parts.site.slot; machine = m }).machine.slots
-    by true = handed_blobs m (v.parts.site.place + size)
-    by false = blobs_same m.slots
-
 -- What a call has before it writes, where the buffers that begin below a place are sealed: the log that it was, or the one with its current buffer sealed.
 module _ {D C : Type 0} (trace : D → Trace) (sum : List ℕ → ℕ) (to : ℕ) where
   pub record SealedFor (old mid : Log D C) : Type 0 where
@@ -285,7 +265,7 @@ module _ {D C : Type 0} (trace : D → Trace) (sum : List ℕ → ℕ) (to : ℕ
     reserved = let still = keeps.position.reserved in omega (arith, reserved, still);
     past = sealed_past sum to old mid reserved begins;
     keeps = keeps;
-    spared = spared_sealed old mid (ap (λ (l : Ledger). l.machine) ledger) same.pins;
+    spared = spared_sealed old mid ledger same.pins;
     device = ap (λ (x : RunningConfig D C). x.device) same.config;
     writing = writing_more sum to old mid reserved adds keeps.position.size
         (same_ledger sum to old mid mid below (sealed_past sum to old mid reserved begins) waiting start with_slots ledger keeps.position.size);

@@ -1,13 +1,13 @@
 -- A message that may come to a history names no blob that goes with a segment, so that no write removes its blob: so it is with an entry of the table of all
 -- that there is, whose item no crash takes. A log notes no blob where it seals its current buffer.
-use Rattle.std.proofs.Common.{◌≡◌, ◌<◌, ◌+◌, ℕ, ℤ, Bool, true, false, nat_le, if◌then◌else◌, List, length, subst, arith, inl, inr}
+use Rattle.std.proofs.Common.{◌≡◌, ◌<◌, ◌+◌, ℕ, ℤ, Bool, true, false, nat_le, if◌then◌else◌, List, length, subst, sym, arith, inl, inr}
 use Rattle.std.specs.List.{Contains}
 use Rattle.std.proofs.lemmas.List.Elements.{All-contains}
 use Rattle.sled_codec.specs.History.{History, Message, table}
 use Rattle.sled_store.specs.Device.{Trace}
 use Rattle.sled_store.specs.Outdated.{IsNamedNow, MayName, NamesBlob}
 use Rattle.sled_store.specs.SegmentStates.{Machine, slot_at}
-use Rattle.sled_store.proofs.Marks.OutdatedSteps.{handed_blobs}
+use Rattle.sled_store.proofs.Marks.OutdatedSteps.{KeepsBlobs, blobs_same, handed_blobs}
 use Rattle.sled_store.proofs.Marks.TableLemmas.{entry_above}
 use Rattle.sled_store.proofs.Segments.TableEntries.{from_table}
 use Rattle.sled_core.specs.Begun.{SegmentView}
@@ -15,11 +15,12 @@ use Rattle.sled_core.specs.declared.logger.Log.{Log}
 use Rattle.sled_core.specs.Fits.{current_begin, current_of, ledger_of, ledger_sealed, machine_at, next_place, pins_of, segment_size_of}
 use Rattle.sled_core.specs.Freeing.{Ledger}
 use Rattle.sled_core.specs.Keeps.{IsSpared}
-use Rattle.sled_core.specs.Positions.{is_short, next_segment_at, position_in}
+use Rattle.sled_core.specs.Positions.{is_short, next_segment_at}
 use Rattle.sled_core.specs.ReadBuffer.{ledger_at}
 use Rattle.sled_core.specs.Running.{IsStored}
 use Rattle.sled_core.specs.invariants.Running.{Fits}
 use Rattle.sled_core.proofs.Holds.ReachLemmas.{fits_reach}
+use Rattle.sled_core.proofs.Line.KeptCalls.{spared_slots}
 use Rattle.sled_core.proofs.Line.Rewritten.{kept, ordered}
 use Rattle.sled_core.proofs.Logged.Messages.{logged_ascends}
 
@@ -63,29 +64,35 @@ module _ {D C : Type 0} (trace : D → Trace) (sum : List ℕ → ℕ) (log : Lo
       item = kept trace sum log H A f U fits.shows m.page m entry;
     }
 
--- A slot that is handed out for a further segment has no blob.
-pub sealed_notes : (size : ℕ) (v : SegmentView) (m : Machine) (k : ℕ) (blob : ℤ) → Contains (slot_at (position_in size v m).machine k).blobs blob
-    → Contains (slot_at m k).blobs blob
-sealed_notes size v m k blob = by (is_short size (length v.parts.bytes)) where
-  by : (o : Bool)
-      → Contains (slot_at (if o then next_segment_at size v.parts.site.place m
-      else record {
-        place = v.parts.site.place + length v.parts.bytes;
-        begins = v.parts.site.place;
-        slot = v.parts.site.slot;
-        machine = m;
-      }).machine k).blobs blob
-      → Contains (slot_at m k).blobs blob
-  by true there = (handed_blobs m (v.parts.site.place + size) k blob there).there
-  by false there = there
+-- A slot that is handed out for a further segment has no blob: so no other blob goes with a segment where the current buffer is sealed.
+sealed_blobs : {D C : Type 0} (old : Log D C) → KeepsBlobs (machine_at old).slots (ledger_sealed old).machine.slots
+sealed_blobs old = by (is_short size (length v.parts.bytes)) where
+  m : Machine
+  m = machine_at old
 
--- So no blob is noted where the current buffer is sealed, if it has a place.
-pub spared_sealed : {D C : Type 0} (place : ℕ) (old new : Log D C) → ledger_of new ≡ ledger_at place old → pins_of new ≡ pins_of old → (m : Message)
+  size : ℕ
+  size = segment_size_of old
+
+  v : SegmentView
+  v = current_of old
+
+  by : (o : Bool) → KeepsBlobs m.slots (if o then next_segment_at size v.parts.site.place m
+      else record { place = v.parts.site.place + length v.parts.bytes; begins = v.parts.site.place; slot = v.parts.site.slot; machine = m }).machine.slots
+  by true = handed_blobs m (v.parts.site.place + size)
+  by false = blobs_same m.slots
+
+spared_by : {D C : Type 0} (old new : Log D C) (l : Ledger) → KeepsBlobs (machine_at old).slots l.machine.slots → ledger_of new ≡ l
+    → pins_of new ≡ pins_of old → (m : Message) → IsSpared old m → IsSpared new m
+spared_by old new l keeps same = spared_slots old new (subst (λ (x : Ledger). KeepsBlobs (machine_at old).slots x.machine.slots) (sym same) keeps)
+
+pub spared_sealed : {D C : Type 0} (old new : Log D C) → ledger_of new ≡ ledger_sealed old → pins_of new ≡ pins_of old → (m : Message)
     → IsSpared old m → IsSpared new m
-spared_sealed place old new same pins m (inl out) = inl (omega (arith, out, pins))
-spared_sealed place old new same pins m (inr none) = inr (λ k blob there.
-    none k blob (by (nat_le (current_begin old) place) k blob (subst (λ (l : Ledger). Contains (slot_at l.machine k).blobs blob) same there))) where
-      by : (o : Bool) (k : ℕ) (blob : ℤ) → Contains (slot_at (if o then ledger_sealed old else ledger_of old).machine k).blobs blob
-          → Contains (slot_at (machine_at old) k).blobs blob
-      by true k blob there = sealed_notes (segment_size_of old) (current_of old) (machine_at old) k blob there
-      by false k blob there = there
+spared_sealed old new = spared_by old new (ledger_sealed old) (sealed_blobs old)
+
+-- So it is where it is sealed if it has a place.
+pub spared_at : {D C : Type 0} (place : ℕ) (old new : Log D C) → ledger_of new ≡ ledger_at place old → pins_of new ≡ pins_of old → (m : Message)
+    → IsSpared old m → IsSpared new m
+spared_at place old new = spared_by old new (ledger_at place old) (by (nat_le (current_begin old) place)) where
+  by : (o : Bool) → KeepsBlobs (machine_at old).slots (if o then ledger_sealed old else ledger_of old).machine.slots
+  by true = sealed_blobs old
+  by false = blobs_same (machine_at old).slots

@@ -20,7 +20,7 @@ use Rattle.sled_core.proofs.Line.Outcomes.{answers_used, on_err, seal_answers, s
 use Rattle.sled_core.proofs.Line.HeaderMarks.{none_begun, segment_same}
 use Rattle.sled_core.proofs.Line.SealsFor.{SealsFor, came_sealed, held_at_same, held_sound, holds_reserved, seals_current, seals_still, settling_same, writes_around}
 use Rattle.sled_core.proofs.Line.Settles.{held_stable, stable_written}
-use Rattle.sled_core.proofs.Line.Spared.{spared_sealed}
+use Rattle.sled_core.proofs.Line.Spared.{spared_at}
 use Rattle.sled_core.proofs.logger.Log.settle.Given.{Over}
 use Rattle.sled_core.proofs.logger.Log.settle.Goals.{then-place-current_begin+in_ok-seal, else-place-current_begin}
 use Rattle.sled_core.proofs.logger.Log.settle.Goals as goal
@@ -198,7 +198,7 @@ returns-clause-keeps g c =
     let first = seals g c in
     writing_further g.D.Device.trace g.C.Checksum.sum_of old mid c.write_around.new.self
     (log_writing g.D.Device.trace g.C.Checksum.sum_of old mid (record { preserves = first.keeps; tickets = first.tickets; position = first.position })
-    (spared_sealed c.args.place old mid first.sealed.2 first.position.pins))
+    (spared_at c.args.place old mid first.sealed.2 first.position.pins))
     c.write_around.ensures.keeps
 
 pub returns-clause-answers : goal.returns-clause-answers
