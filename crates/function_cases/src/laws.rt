@@ -38,6 +38,8 @@ fn laws_of_running_logs() {
     core_laws::less_is_acknowledged_before::<PlaceSum>();
     core_laws::batches_end_in_what_was_reserved::<MemDevice, PlaceSum>();
     core_laws::the_stable_end_never_falls::<MemDevice, PlaceSum>();
+    core_laws::what_was_in_a_table_keeps_its_record::<MemDevice, PlaceSum>();
+    core_laws::a_history_grows_from_the_mark::<MemDevice, PlaceSum>();
     core_laws::what_has_its_record_has_its_segment::<MemDevice, PlaceSum>();
     core_laws::an_iterator_only_reads_its_log::<MemDevice, PlaceSum>();
     core_laws::one_reading_says_what_is_given();

@@ -106,6 +106,7 @@ pub mod StepAlong
 pub mod StepBetween
 pub mod StepFits
 pub mod StepTaken
+pub mod TableKept
 pub mod Targets
 pub mod TicketEnds
 pub mod TornLine

@@ -63,6 +63,8 @@ pub use Rattle.sled_core.proofs.Line.Pinned.{pinned_around, pinned_at, pinned_be
 pub use Rattle.sled_core.proofs.Line.PinnedWrites.{ledger_account, machine_pinned}
 pub use Rattle.sled_core.proofs.Stable.OfLog.{stable_of_log}
 pub use Rattle.sled_core.proofs.Line.Spared.{named_now, named_spared}
+-- What was in a table keeps its record while the mark stays.
+pub use Rattle.sled_core.proofs.Line.TableKept.{awaited_above, grows_completed, grows_further, grows_same, table_kept}
 pub use Rattle.sled_core.proofs.Line.WholeBuffers.{buffers_whole}
 pub use Rattle.sled_core.proofs.Line.OpenSeen.{buffers_held, current_count, current_least, none_is_empty, ticket_places}
 -- A reservation: its clauses, put together.

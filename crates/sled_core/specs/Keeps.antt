@@ -119,7 +119,8 @@ pub record SamePosition {D C : Type 0} (old new : Log D C) : Type 0 where
   pub size : segment_size_of new ≡ segment_size_of old
 
 -- So it is with a call that writes buffers, but that a mark may join by it, and slots come free, and a segment that isn't begun yet gets one of those. While a
--- pin is out no mark joins, and no slot comes free.
+-- pin is out no mark joins, and no slot comes free: so who took one goes on reading what was in the table then, call by call, until it goes back (law
+-- `what_was_in_a_table_keeps_its_record`).
 pub record SamePlace {D C : Type 0} (old new : Log D C) : Type 0 where
   pub place : next_place new ≡ next_place old
   pub pinned : 0 < pins_of old → position_of new ≡ position_of old

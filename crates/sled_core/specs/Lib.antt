@@ -14,6 +14,7 @@ pub mod Freeing
 pub mod Fronts
 pub mod GivenUp
 pub mod Good
+pub mod Grown
 pub mod HeaderMark
 pub mod Heads
 pub mod Iterates

@@ -11,8 +11,8 @@ ghost use Rattle.std.specs.Int.{w64, cast_signed, cast_unsigned};
 ghost use Rattle.std.specs.List.{All};
 ghost use Rattle.sled_codec.specs.declared.result.DiskPtr.TheVariants.{Blob};
 ghost use Rattle.sled_codec.specs.declared.serialization.message.LogKind.{LogKind};
-ghost use Rattle.sled_codec.specs.declared.serialization.message.LogKind.TheVariants.{Replace};
-ghost use Rattle.sled_codec.specs.History.{Message, Batch, History, no_history, table};
+ghost use Rattle.sled_codec.specs.declared.serialization.message.LogKind.TheVariants.{Free, Link, Replace};
+ghost use Rattle.sled_codec.specs.History.{Message, Batch, Completed, History, Step, no_history, table};
 ghost use Rattle.sled_codec.specs.WellFormed.{LieApart};
 ghost use Rattle.sled_store.specs.Device.{Trace, State, Left, Leaves, Crashed, state_of, content_of, content_left, at_rest, fresh, Content, Settled, Wrote, Synced, step};
 ghost use Rattle.sled_store.specs.Moments.{IsLater, LeavesOnly};
@@ -28,6 +28,7 @@ ghost use Rattle.sled_core.specs.HeaderMark.{mark_at};
 ghost use Rattle.sled_core.specs.Account.{account_behind};
 ghost use Rattle.sled_core.specs.Freeing.{Ledger};
 ghost use Rattle.sled_core.specs.Fronts.{synced_writes, syncs};
+ghost use Rattle.sled_core.specs.Grown.{GrowsFrom};
 ghost use Rattle.sled_core.specs.Ledger.{ledger_behind, writings};
 ghost use Rattle.sled_core.specs.ReadBuffer.{ledger_at, settling};
 ghost use Rattle.sled_core.specs.Waiting.{BufferAt, HasLength, spans, write_around, write_pending, writes_below};
@@ -298,6 +299,27 @@ pub fn what_is_not_synced_has_its_record<D: Device, C: Checksum>()
     ensures unsynced { (log : Log D C) (H : History) (m : Message) → synced_end log ≤ m.place → HasRecordOf log H m }
     ensures entry { (log : Log D C) (H : History) (m : Message) (cut : ℕ) → synced_end log ≤ cut → Contains (table H cut m.page) m
         → HasRecordOf log H m }
+{}
+
+/// While the mark that joined stays, as it does while a pin is out (`joined` of `SamePlace`), a log goes on having the record of each
+/// entry of a table from that mark on, whatever comes to its page from there on. So what a reader saw under a pin it goes on reading until
+/// the pin goes back, also once it was replaced.
+pub fn what_was_in_a_table_keeps_its_record<D: Device, C: Checksum>()
+    ensures { (old new : Log D C) (H H' : History) (m : Message) (cut : ℕ) → Holds D.trace C.sum_of old H → Holds D.trace C.sum_of new H'
+        → (account_of new).mark ≡ (account_of old).mark → GrowsFrom (account_of old).mark m H H' → (account_of old).mark ≤ℤ pos cut
+        → Contains (table H cut m.page) m → HasRecordOf new H' m }
+{}
+
+/// The history of a log grows as that law asks (`GrowsFrom`), call by call. What a ticket awaits lies at the mark or above it, so each
+/// message that is completed may come, but a Free in front of a Link of its page; a batch brings no message; and it grows so by what both
+/// of two calls do.
+pub fn a_history_grows_from_the_mark<D: Device, C: Checksum>()
+    ensures awaited { (log : Log D C) (H : History) (ticket : Reservation) (m : Message) → Holds D.trace C.sum_of log H → Awaits log ticket m
+        → (account_of log).mark ≤ℤ pos m.place }
+    ensures completed { (mark : ℤ) (m : Message) (H H' : History) (c : Message) → Step H (Completed c) H' → mark ≤ℤ pos c.place
+        → (m.kind ≡ Link → c.page ≡ m.page → c.kind ≡ Free → m.place ≤ c.place) → GrowsFrom mark m H H' }
+    ensures same { (mark : ℤ) (m : Message) (H H' : History) → H'.messages ≡ H.messages → GrowsFrom mark m H H' }
+    ensures both { (mark : ℤ) (m : Message) (old mid new : History) → GrowsFrom mark m old mid → GrowsFrom mark m mid new → GrowsFrom mark m old new }
 {}
 
 /// A log still has the segment of each message that it has the record of: so its iterator passes over none of them for want of a segment.
