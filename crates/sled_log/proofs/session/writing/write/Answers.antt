@@ -65,7 +65,7 @@ returns-in-Err-clause-step g c = λ k at free.
     let keeps = writing_pinned trace sum old new (is_out old at.pinned) c.write_to_log.ensures.keeps in
     let l : LogView = seen opened k.tickets k.given_up k.heads in
     let err : (synced_end new ≡ synced_end old) × (waiting_of new ≡ waiting_of old) × (syncs (trace (device_of new)) ≡ syncs (trace (device_of old)))
-        × (ledger_of new ≡ ledger_of old) = elim c.in-Err.ensures.err [
+    × (ledger_of new ≡ ledger_of old) = elim c.in-Err.ensures.err [
       | inl none ↦ none
       | inr wrote ↦ absurd (none_failed old new (is_out old at.pinned) wrote.failed)
     ] in
