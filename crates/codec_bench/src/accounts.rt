@@ -270,7 +270,7 @@ impl Work {
 }
 
 /// The page whose turn is behind that of another.
-fn page_behind(page: u64, pages: u64) -> u64 {
+pub fn page_behind(page: u64, pages: u64) -> u64 {
     page.wrapping_add(STRIDE) % pages.max(1)
 }
 
@@ -295,7 +295,7 @@ fn size() -> io::Result<Config> {
 }
 
 /// How many runs there are over so many pages or segments.
-fn runs(count: u32) -> u32 {
+pub fn runs(count: u32) -> u32 {
     (1000000 / count.max(1)).max(3).min(RUNS)
 }
 

@@ -37,9 +37,9 @@ impl Checksum for NoSum {
 const PAGES: u64 = 200;
 
 /// How many messages go over many segments, and how many pages they replace.
-const MESSAGES: u32 = 100000;
+pub const MESSAGES: u32 = 100000;
 
-const MANY_PAGES: u64 = 10000;
+pub const MANY_PAGES: u64 = 10000;
 
 /// How often they are measured.
 const SEGMENT_RUNS: u32 = 10;
@@ -112,7 +112,7 @@ fn fill<C: Checksum>(log: &mut Log<MemDevice, C>, item: &Vec<u8>, guard: &Guard)
 }
 
 /// The page that is replaced behind another one of so many.
-fn page_behind(page: u64, pages: u64) -> u64 {
+pub fn page_behind(page: u64, pages: u64) -> u64 {
     let next = page.wrapping_add(1);
     if next >= pages {
         return 0;
@@ -189,7 +189,7 @@ fn scan_segment<C: Checksum>(config: &mut RunningConfig<MemDevice, C>) -> io::Re
 }
 
 /// Recovers the table, and answers how many pages it has.
-fn recover<C: Checksum>(config: &mut RunningConfig<MemDevice, C>) -> io::Result<usize> {
+pub fn recover<C: Checksum>(config: &mut RunningConfig<MemDevice, C>) -> io::Result<usize> {
     match read_snapshot_or_default(config) {
         Ok(snapshot) => Ok(snapshot.pt.len()),
         Err(_) => Err(io::Error::other("the log isn't recovered")),

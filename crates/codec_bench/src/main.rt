@@ -1,5 +1,5 @@
-//! The program `codec_bench`: how long the codecs take for a value, a log for a record and for a batch, the accountant
-//! for a segment, and the stable end for an interval that is synced (`docs/BENCHMARKS.md`).
+//! The program `codec_bench`: how long the codecs take for a value, a log for a record, for a batch and where it frees
+//! segments, the accountant for a segment, and the stable end for an interval that is synced (`docs/BENCHMARKS.md`).
 //!
 //! Without an argument it prints one fixed line. With the argument `time` it measures, and prints a line
 //! for each figure.
@@ -9,6 +9,7 @@ mod accounts;
 mod batches;
 mod blobs;
 mod figure;
+mod freeing;
 mod headers;
 mod identifiers;
 mod logs;
@@ -74,6 +75,7 @@ fn main(rt: HostRuntime) -> io::Result<()> {
     blobs::measure(&rt, "blobs of 2 MB", 2000000)?;
     measure_recoveries(&rt)?;
     measure_accounts(&rt)?;
+    measure_freeing(&rt)?;
     batches::measure(&rt, "batches settled one by one", 1)?;
     batches::measure(&rt, "batches settled by hundreds", 100)?;
     batches::measure(&rt, "batches settled at once", u32::MAX)?;
@@ -139,6 +141,16 @@ fn measure_accounts(rt: &HostRuntime) -> io::Result<()> {
     accounts::measure_drains(rt, "1000 slots", 1000)?;
     accounts::measure_drains(rt, "10000 slots", 10000)?;
     accounts::measure_drains(rt, "100000 slots", 100000)
+}
+
+// A log whose segments come back, and marks of it over more and more pages.
+fn measure_freeing(rt: &HostRuntime) -> io::Result<()> {
+    freeing::measure_rounds(rt)?;
+    freeing::measure_turns(rt)?;
+    freeing::measure_writes(rt)?;
+    freeing::measure_marks(rt, "1000 pages", 1000)?;
+    freeing::measure_marks(rt, "10000 pages", 10000)?;
+    freeing::measure_marks(rt, "100000 pages", 100000)
 }
 
 // Whether `time` is among the arguments.
