@@ -18,6 +18,7 @@ ghost use Rattle.sled_store.specs.Device.{Trace, State, Left, Leaves, Crashed, s
 ghost use Rattle.sled_store.specs.Moments.{IsLater, LeavesOnly};
 ghost use Rattle.sled_store.specs.Script.{Performs};
 ghost use Rattle.sled_store.specs.Outdated.{IsNamedNow, MayName, NamesBlob};
+ghost use Rattle.sled_store.specs.SegmentStates.{slot_at};
 ghost use Rattle.sled_core.specs.Fits.{stable_end, KeepsAll, Awaits, FirstWaits, FitsInline, HasRecordOf, IsLeastOpen, IsUnchanged, IsUsedUpBelow, IsUsedUpFor, IsWritten, NoneOpen, blob_at, body_length, buffers_of, current_begin, device_of, fault_of, fillings_of, given_up_of, heads_of, held_len, holding_below, in_blob_of, is_moved, ledger_for, ledger_of, line_of, machine_at, message_for, message_rewriting, next_place, noted_in, open_of, open_places, pins_of, reserved_end, sealing_end, segment_size_of, start_behind, start_of, synced_end, target_of, waiting_behind, waiting_of, writing_below, writing_pending, writing_some};
 ghost use Rattle.sled_core.specs.invariants.Fits.{Holds};
 ghost use Rattle.sled_codec.specs.Snapshots.{SnapshotModel, empty_model, stable_place};
@@ -256,11 +257,18 @@ pub fn a_crash_now_loses_nothing<D: Device, C: Checksum>()
         → LeavesRecoverable C.sum_of (segment_size_of log) H A f (state_of (D.trace (device_of log))) }
 {}
 
-/// What two calls keep one behind the other both of them keep, and where nothing is done all is kept.
+/// What two calls keep one behind the other both of them keep, and where nothing is done all is kept. So it is with calls that write,
+/// behind which segments may come free: two in a row keep what one does, and one that frees nothing keeps at least that, where no
+/// blob goes with a segment that didn't.
 pub fn calls_keep_together<D: Device, C: Checksum>()
     ensures none { (log : Log D C) → Preserves D.trace C.sum_of log log }
     ensures both { (old mid new : Log D C) → Preserves D.trace C.sum_of old mid → Preserves D.trace C.sum_of mid new → Preserves D.trace C.sum_of old new }
     ensures goes_on { (old mid new : Log D C) → Preserves D.trace C.sum_of old mid → GoesOn D.trace C.sum_of mid new → GoesOn D.trace C.sum_of old new }
+    ensures writing { (old mid new : Log D C) → KeepsWriting D.trace C.sum_of old mid → KeepsWriting D.trace C.sum_of mid new
+        → KeepsWriting D.trace C.sum_of old new }
+    ensures frees_nothing { (old new : Log D C) → KeepsLog D.trace C.sum_of old new
+        → ((k : ℕ) (blob : ℤ) → Contains (slot_at (machine_at new) k).blobs blob → (j : ℕ) × Contains (slot_at (machine_at old) j).blobs blob)
+        → KeepsWriting D.trace C.sum_of old new }
 {}
 
 /// The greatest place that was reserved lies in nothing that fills a segment, so a batch may end there; and the batches that
