@@ -92,6 +92,15 @@ pub fn what_is_in_the_table_can_be_rewritten<D: Device, C: Checksum>()
         → Contains (table H (next_place log) page) m → NamesBlob m blob → IsNamedNow H blob }
 {}
 
+/// Of each entry of the table of all that there is no crash takes the item, nor does a write, whether a pin is out or not. So what a
+/// client reads of its table it goes on reading.
+pub fn what_is_in_the_table_is_stored<D: Device, C: Checksum>()
+    ensures stored { (log : Log D C) (H : History) (A f : ℕ) (U : List Message) (m : Message) → Fits D.trace C.sum_of log H A f U
+        → Contains (table H (next_place log) m.page) m → IsStored D.trace C.sum_of log m }
+    ensures spared { (log : Log D C) (H : History) (A f : ℕ) (U : List Message) (m : Message) → Fits D.trace C.sum_of log H A f U
+        → Contains (table H (next_place log) m.page) m → IsSpared log m }
+{}
+
 /// What counts as acknowledged once all below a place is durable (`end_below`) is the greatest end of what begins there:
 /// each message and each batch that begins below the place ends at it or before, and it is no greater than that asks.
 pub fn what_is_durable_is_acknowledged()
