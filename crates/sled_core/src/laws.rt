@@ -38,7 +38,7 @@ ghost use Rattle.sled_core.specs.Batches.{LiesInNoFilling};
 ghost use Rattle.sled_core.specs.Causes.{FaultAnswers, HeldAnswers, ReserveAnswers, ReserveCauses};
 ghost use Rattle.sled_core.specs.Keeps.{GoesOn, IsSpared, KeepsLog, KeepsSeen, KeepsWriting, Preserves};
 ghost use Rattle.sled_core.specs.Reasons.{ReserveFails, TellsOf, WriteFails};
-ghost use Rattle.sled_core.specs.Reading.{IsInline};
+ghost use Rattle.sled_core.specs.Reading.{BlobIsBelow, IsInline};
 ghost use Rattle.sled_core.specs.Ready.{IsReady};
 ghost use Rattle.sled_core.specs.declared.iterator.Segment.{Segment};
 ghost use Rattle.sled_core.specs.Replayed.{IsDamagedBefore, IsReplayed};
@@ -232,6 +232,17 @@ pub fn a_pin_keeps_all<D: Device, C: Checksum>()
 pub fn no_write_removes_what_may_be_named<D: Device, C: Checksum>()
     ensures { (log : Log D C) (H : History) (A f : ℕ) (U : List Message) (m : Message) → Fits D.trace C.sum_of log H A f U → MayName H m
         → IsSpared log m }
+{}
+
+/// A message of the history names no blob of a place above its own. So a blob of the next place of the log, or of a higher one, is named
+/// by none, and a message that has its item in such a blob may come to the history (`MayName`).
+pub fn a_higher_blob_is_named_by_none<D: Device, C: Checksum>()
+    ensures below { (log : Log D C) (H : History) (A f : ℕ) (U : List Message) (e : Message) → Fits D.trace C.sum_of log H A f U → Contains H.messages e
+        → BlobIsBelow e e.pointer }
+    ensures unnamed { (log : Log D C) (H : History) (A f : ℕ) (U : List Message) (e : Message) (blob : ℤ) → Fits D.trace C.sum_of log H A f U
+        → pos (next_place log) ≤ℤ blob → Contains H.messages e → NamesBlob e blob → ⊥ }
+    ensures may { (log : Log D C) (H : History) (A f : ℕ) (U : List Message) (m : Message) (lid : ℕ) (blob : ℤ) → Fits D.trace C.sum_of log H A f U
+        → pos (next_place log) ≤ℤ blob → m.pointer ≡ Blob lid blob → MayName H m }
 {}
 
 /// Marks join with the writes of buffers, whatever is freed behind them.
