@@ -92,8 +92,8 @@ pub fn what_is_in_the_table_can_be_rewritten<D: Device, C: Checksum>()
         → Contains (table H (next_place log) page) m → NamesBlob m blob → IsNamedNow H blob }
 {}
 
-/// Of each entry of the table of all that there is no crash takes the item, nor does a write, whether a pin is out or not. So what a
-/// client reads of its table it goes on reading.
+/// Of each entry of the table of all that there is no crash takes the item, and no write removes its blob, whether a pin is out or not:
+/// `items` of `PreservesWriting` speaks of it.
 pub fn what_is_in_the_table_is_stored<D: Device, C: Checksum>()
     ensures stored { (log : Log D C) (H : History) (A f : ℕ) (U : List Message) (m : Message) → Fits D.trace C.sum_of log H A f U
         → Contains (table H (next_place log) m.page) m → IsStored D.trace C.sum_of log m }
