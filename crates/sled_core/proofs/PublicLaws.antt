@@ -62,6 +62,7 @@ pub use Rattle.sled_core.proofs.Line.NoneLeft.{noted_pegs}
 pub use Rattle.sled_core.proofs.Line.Pinned.{pinned_around, pinned_at, pinned_below, pinned_pending, pinned_some, pinned_synced}
 pub use Rattle.sled_core.proofs.Line.PinnedWrites.{ledger_account, machine_pinned}
 pub use Rattle.sled_core.proofs.Stable.OfLog.{stable_of_log}
+pub use Rattle.sled_core.proofs.Line.MayMarks.{due_may_link, due_may_mark}
 pub use Rattle.sled_core.proofs.Line.Spared.{blob_below, blob_unnamed, entry_spared, entry_stored, higher_may, named_now, named_spared}
 -- What was in a table keeps its record while the mark stays.
 pub use Rattle.sled_core.proofs.Line.TableKept.{awaited_above, grows_completed, grows_further, grows_same, table_kept}

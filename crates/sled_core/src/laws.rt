@@ -18,7 +18,9 @@ ghost use Rattle.sled_store.specs.Device.{Trace, State, Left, Leaves, Crashed, s
 ghost use Rattle.sled_store.specs.Moments.{IsLater, LeavesOnly};
 ghost use Rattle.sled_store.specs.Script.{Performs};
 ghost use Rattle.sled_store.specs.Outdated.{IsNamedNow, MayName, NamesBlob};
-ghost use Rattle.sled_store.specs.SegmentStates.{slot_at};
+ghost use Rattle.sled_store.specs.Marks.{IsFormerState, info_of};
+ghost use Rattle.sled_store.specs.SegmentStates.{MayMark, slot_at};
+ghost use Rattle.sled_store.specs.declared.segment.slot.CacheInfo.{CacheInfo};
 ghost use Rattle.sled_core.specs.Fits.{stable_end, KeepsAll, Awaits, FirstWaits, FitsInline, HasRecordOf, IsLeastOpen, IsUnchanged, IsUsedUpBelow, IsUsedUpFor, IsWritten, NoneOpen, blob_at, body_length, buffers_of, current_begin, device_of, fault_of, fillings_of, given_up_of, heads_of, held_len, holding_below, in_blob_of, is_moved, ledger_for, ledger_of, line_of, machine_at, message_for, message_rewriting, next_place, noted_in, open_of, open_places, pins_of, reserved_end, sealing_end, segment_size_of, start_behind, start_of, synced_end, target_of, waiting_behind, waiting_of, writing_below, writing_pending, writing_some};
 ghost use Rattle.sled_core.specs.invariants.Fits.{Holds};
 ghost use Rattle.sled_codec.specs.Snapshots.{SnapshotModel, empty_model, stable_place};
@@ -52,6 +54,7 @@ ghost use Rattle.sled_core.specs.invariants.Running.{Fits, Ready};
 ghost use Rattle.sled_core.specs.Running.{IsStored, end_below};
 ghost use Rattle.sled_core.specs.Manifests.{is_manifest, kind_for};
 ghost use Rattle.sled_core.specs.Tickets.{is_manifest_of, len_of, own_blob, place_of, pointer_of};
+ghost use Rattle.sled_core.specs.Unmarked.{without};
 ghost use Rattle.sled_core.specs.Own.{IsSomeRecord, written_out_of_order, IsReachedToEnd};
 ghost use Rattle.sled_core.specs.StableEnds.{LiesIn, IsContiguousEnd, IsHalfSynced, IsStableEnd, AreApart, places_of};
 ghost use Rattle.sled_codec.specs.Sums.{place_sum};
@@ -243,6 +246,15 @@ pub fn a_higher_blob_is_named_by_none<D: Device, C: Checksum>()
         → pos (next_place log) ≤ℤ blob → Contains H.messages e → NamesBlob e blob → ⊥ }
     ensures may { (log : Log D C) (H : History) (A f : ℕ) (U : List Message) (m : Message) (lid : ℕ) (blob : ℤ) → Fits D.trace C.sum_of log H A f U
         → pos (next_place log) ≤ℤ blob → m.pointer ≡ Blob lid blob → MayName H m }
+{}
+
+/// A completed message that isn't marked yet may be marked (`Log::can_mark`): a Link as it is, and what begins its page in place of all
+/// that the page is made of by what is marked. So a client that marks truthfully needn't test it.
+pub fn what_is_not_marked_may_be_marked<D: Device, C: Checksum>()
+    ensures link { (log : Log D C) (H : History) (A f : ℕ) (U : List Message) (m : Message) → Fits D.trace C.sum_of log H A f U → Contains U m
+        → MayMark (segment_size_of log) (machine_at log) (info_of m) [] }
+    ensures begins { (log : Log D C) (H : History) (A f : ℕ) (U : List Message) (m : Message) (old : List CacheInfo) → Fits D.trace C.sum_of log H A f U
+        → Contains U m → IsFormerState (without U H) m.page old → MayMark (segment_size_of log) (machine_at log) (info_of m) old }
 {}
 
 /// Marks join with the writes of buffers, whatever is freed behind them.
