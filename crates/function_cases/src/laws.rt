@@ -54,6 +54,9 @@ fn laws_of_running_logs() {
     core_laws::a_pin_defers_freeing::<MemDevice, PlaceSum>();
     core_laws::a_pin_keeps_all::<MemDevice, PlaceSum>();
     core_laws::no_write_removes_what_may_be_named::<MemDevice, PlaceSum>();
+    core_laws::a_higher_blob_is_named_by_none::<MemDevice, PlaceSum>();
+    core_laws::what_is_in_the_table_is_stored::<MemDevice, PlaceSum>();
+    core_laws::what_is_not_marked_may_be_marked::<MemDevice, PlaceSum>();
     core_laws::marks_join_with_what_is_written();
 }
 

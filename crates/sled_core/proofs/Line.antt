@@ -54,6 +54,7 @@ pub mod MarkCalls
 pub mod MarkedSlots
 pub mod Marks
 pub mod MarksJoin
+pub mod MayMarks
 pub mod Moves
 pub mod NeededSlots
 pub mod NextDue

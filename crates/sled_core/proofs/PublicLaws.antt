@@ -39,7 +39,7 @@ use Rattle.sled_core.proofs.Line.Spans.{spans_added}
 use Rattle.sled_core.proofs.Logged.Messages.{all_in_log}
 use Rattle.sled_core.proofs.Start.Places.{goes_on_at}
 pub use Rattle.sled_core.proofs.Start.FreshReady.{fresh_leaves, fresh_ready, empty_ready, empty_recoverable}
-pub use Rattle.sled_core.proofs.Line.KeptCalls.{goes_on_further, kept_still, kept_further}
+pub use Rattle.sled_core.proofs.Line.KeptCalls.{goes_on_further, kept_still, kept_further, log_writing_where, writing_further, writing_pinned}
 use Rattle.sled_core.specs.Keeps.{Preserves}
 use Rattle.sled_core.specs.OpenBatches.{stable_below}
 use Rattle.sled_core.proofs.Line.LineEnds.{stable_kept}
@@ -62,7 +62,8 @@ pub use Rattle.sled_core.proofs.Line.NoneLeft.{noted_pegs}
 pub use Rattle.sled_core.proofs.Line.Pinned.{pinned_around, pinned_at, pinned_below, pinned_pending, pinned_some, pinned_synced}
 pub use Rattle.sled_core.proofs.Line.PinnedWrites.{ledger_account, machine_pinned}
 pub use Rattle.sled_core.proofs.Stable.OfLog.{stable_of_log}
-pub use Rattle.sled_core.proofs.Line.Spared.{named_now, named_spared}
+pub use Rattle.sled_core.proofs.Line.MayMarks.{due_may_link, due_may_mark}
+pub use Rattle.sled_core.proofs.Line.Spared.{blob_below, blob_unnamed, entry_spared, entry_stored, higher_may, named_now, named_spared}
 -- What was in a table keeps its record while the mark stays.
 pub use Rattle.sled_core.proofs.Line.TableKept.{awaited_above, grows_completed, grows_further, grows_same, table_kept}
 pub use Rattle.sled_core.proofs.Line.WholeBuffers.{buffers_whole}
@@ -80,7 +81,7 @@ pub use Rattle.sled_core.proofs.Crash.OwnBehind.{lost_behind, read_own}
 pub use Rattle.sled_core.proofs.Crash.OwnLemmas.{lost_own, nothing_own, synced_own, written_own, zeros_by_place, zeros_no_header}
 pub use Rattle.sled_core.proofs.Crash.OwnRecords.{out_of_order_own}
 -- Helpers: a call that does nothing, a reservation of an item that fits inline, and a call that goes on without a blob, by their clauses; the acknowledged end of what a log fits; and that an inline message may come.
-pub use Rattle.sled_core.proofs.Line.KeptCalls.{goes_on_still, none_failed, writing_further, writing_pinned, writing_still}
+pub use Rattle.sled_core.proofs.Line.KeptCalls.{goes_on_still, none_failed, writing_still}
 pub use Rattle.sled_core.proofs.Holds.ReachLemmas.{fits_acknowledged, inline_named}
 pub use Rattle.sled_core.proofs.Line.WithoutBlob.{alone_answers, alone_keeps, alone_same, without_further, without_none}
 pub use Rattle.sled_core.proofs.Line.ReservedInline.{ReservesInline, comes_inline, inline_keeps, inline_message, not_in_blob, refused_inline}

@@ -18,6 +18,9 @@ ghost use Rattle.sled_store.specs.Device.{Trace, State, Left, Leaves, Crashed, s
 ghost use Rattle.sled_store.specs.Moments.{IsLater, LeavesOnly};
 ghost use Rattle.sled_store.specs.Script.{Performs};
 ghost use Rattle.sled_store.specs.Outdated.{IsNamedNow, MayName, NamesBlob};
+ghost use Rattle.sled_store.specs.Marks.{IsFormerState, info_of};
+ghost use Rattle.sled_store.specs.SegmentStates.{MayMark, slot_at};
+ghost use Rattle.sled_store.specs.declared.segment.slot.CacheInfo.{CacheInfo};
 ghost use Rattle.sled_core.specs.Fits.{stable_end, KeepsAll, Awaits, FirstWaits, FitsInline, HasRecordOf, IsLeastOpen, IsUnchanged, IsUsedUpBelow, IsUsedUpFor, IsWritten, NoneOpen, blob_at, body_length, buffers_of, current_begin, device_of, fault_of, fillings_of, given_up_of, heads_of, held_len, holding_below, in_blob_of, is_moved, ledger_for, ledger_of, line_of, machine_at, message_for, message_rewriting, next_place, noted_in, open_of, open_places, pins_of, reserved_end, sealing_end, segment_size_of, start_behind, start_of, synced_end, target_of, waiting_behind, waiting_of, writing_below, writing_pending, writing_some};
 ghost use Rattle.sled_core.specs.invariants.Fits.{Holds};
 ghost use Rattle.sled_codec.specs.Snapshots.{SnapshotModel, empty_model, stable_place};
@@ -37,7 +40,7 @@ ghost use Rattle.sled_core.specs.Batches.{LiesInNoFilling};
 ghost use Rattle.sled_core.specs.Causes.{FaultAnswers, HeldAnswers, ReserveAnswers, ReserveCauses};
 ghost use Rattle.sled_core.specs.Keeps.{GoesOn, IsSpared, KeepsLog, KeepsSeen, KeepsWriting, Preserves};
 ghost use Rattle.sled_core.specs.Reasons.{ReserveFails, TellsOf, WriteFails};
-ghost use Rattle.sled_core.specs.Reading.{IsInline};
+ghost use Rattle.sled_core.specs.Reading.{BlobIsBelow, IsInline};
 ghost use Rattle.sled_core.specs.Ready.{IsReady};
 ghost use Rattle.sled_core.specs.declared.iterator.Segment.{Segment};
 ghost use Rattle.sled_core.specs.Replayed.{IsDamagedBefore, IsReplayed};
@@ -51,6 +54,7 @@ ghost use Rattle.sled_core.specs.invariants.Running.{Fits, Ready};
 ghost use Rattle.sled_core.specs.Running.{IsStored, end_below};
 ghost use Rattle.sled_core.specs.Manifests.{is_manifest, kind_for};
 ghost use Rattle.sled_core.specs.Tickets.{is_manifest_of, len_of, own_blob, place_of, pointer_of};
+ghost use Rattle.sled_core.specs.Unmarked.{without};
 ghost use Rattle.sled_core.specs.Own.{IsSomeRecord, written_out_of_order, IsReachedToEnd};
 ghost use Rattle.sled_core.specs.StableEnds.{LiesIn, IsContiguousEnd, IsHalfSynced, IsStableEnd, AreApart, places_of};
 ghost use Rattle.sled_codec.specs.Sums.{place_sum};
@@ -89,6 +93,15 @@ pub fn what_is_in_the_table_can_be_rewritten<D: Device, C: Checksum>()
         → IsStored D.trace C.sum_of log (message_rewriting log m.page blob m.bytes) }
     ensures named { (log : Log D C) (H : History) (A f : ℕ) (U : List Message) (page : ℕ) (m : Message) (blob : ℤ) → Fits D.trace C.sum_of log H A f U
         → Contains (table H (next_place log) page) m → NamesBlob m blob → IsNamedNow H blob }
+{}
+
+/// Of each entry of the table of all that there is no crash takes the item, and no write removes its blob, whether a pin is out or not:
+/// `items` of `PreservesWriting` speaks of it.
+pub fn what_is_in_the_table_is_stored<D: Device, C: Checksum>()
+    ensures stored { (log : Log D C) (H : History) (A f : ℕ) (U : List Message) (m : Message) → Fits D.trace C.sum_of log H A f U
+        → Contains (table H (next_place log) m.page) m → IsStored D.trace C.sum_of log m }
+    ensures spared { (log : Log D C) (H : History) (A f : ℕ) (U : List Message) (m : Message) → Fits D.trace C.sum_of log H A f U
+        → Contains (table H (next_place log) m.page) m → IsSpared log m }
 {}
 
 /// What counts as acknowledged once all below a place is durable (`end_below`) is the greatest end of what begins there:
@@ -224,6 +237,26 @@ pub fn no_write_removes_what_may_be_named<D: Device, C: Checksum>()
         → IsSpared log m }
 {}
 
+/// A message of the history names no blob of a place above its own. So a blob of the next place of the log, or of a higher one, is named
+/// by none, and a message that has its item in such a blob may come to the history (`MayName`).
+pub fn a_higher_blob_is_named_by_none<D: Device, C: Checksum>()
+    ensures below { (log : Log D C) (H : History) (A f : ℕ) (U : List Message) (e : Message) → Fits D.trace C.sum_of log H A f U → Contains H.messages e
+        → BlobIsBelow e e.pointer }
+    ensures unnamed { (log : Log D C) (H : History) (A f : ℕ) (U : List Message) (e : Message) (blob : ℤ) → Fits D.trace C.sum_of log H A f U
+        → pos (next_place log) ≤ℤ blob → Contains H.messages e → NamesBlob e blob → ⊥ }
+    ensures may { (log : Log D C) (H : History) (A f : ℕ) (U : List Message) (m : Message) (lid : ℕ) (blob : ℤ) → Fits D.trace C.sum_of log H A f U
+        → pos (next_place log) ≤ℤ blob → m.pointer ≡ Blob lid blob → MayName H m }
+{}
+
+/// A completed message that isn't marked yet may be marked (`Log::can_mark`): a Link as it is, and what begins its page in place of all
+/// that the page is made of by what is marked. So a client that marks truthfully needn't test it.
+pub fn what_is_not_marked_may_be_marked<D: Device, C: Checksum>()
+    ensures link { (log : Log D C) (H : History) (A f : ℕ) (U : List Message) (m : Message) → Fits D.trace C.sum_of log H A f U → Contains U m
+        → MayMark (segment_size_of log) (machine_at log) (info_of m) [] }
+    ensures begins { (log : Log D C) (H : History) (A f : ℕ) (U : List Message) (m : Message) (old : List CacheInfo) → Fits D.trace C.sum_of log H A f U
+        → Contains U m → IsFormerState (without U H) m.page old → MayMark (segment_size_of log) (machine_at log) (info_of m) old }
+{}
+
 /// Marks join with the writes of buffers, whatever is freed behind them.
 pub fn marks_join_with_what_is_written()
     ensures { (size : ℕ) (bs : List BufferAt) (l : Ledger) → (ledger_behind size bs l).account ≡ account_behind bs l.account }
@@ -256,11 +289,18 @@ pub fn a_crash_now_loses_nothing<D: Device, C: Checksum>()
         → LeavesRecoverable C.sum_of (segment_size_of log) H A f (state_of (D.trace (device_of log))) }
 {}
 
-/// What two calls keep one behind the other both of them keep, and where nothing is done all is kept.
+/// What two calls keep one behind the other both of them keep, and where nothing is done all is kept. So it is with calls that write,
+/// behind which segments may come free: two in a row keep what one does, and one that frees nothing keeps at least that, where no
+/// blob goes with a segment that didn't.
 pub fn calls_keep_together<D: Device, C: Checksum>()
     ensures none { (log : Log D C) → Preserves D.trace C.sum_of log log }
     ensures both { (old mid new : Log D C) → Preserves D.trace C.sum_of old mid → Preserves D.trace C.sum_of mid new → Preserves D.trace C.sum_of old new }
     ensures goes_on { (old mid new : Log D C) → Preserves D.trace C.sum_of old mid → GoesOn D.trace C.sum_of mid new → GoesOn D.trace C.sum_of old new }
+    ensures writing { (old mid new : Log D C) → KeepsWriting D.trace C.sum_of old mid → KeepsWriting D.trace C.sum_of mid new
+        → KeepsWriting D.trace C.sum_of old new }
+    ensures frees_nothing { (old new : Log D C) → KeepsLog D.trace C.sum_of old new
+        → ((k : ℕ) (blob : ℤ) → Contains (slot_at (machine_at new) k).blobs blob → (j : ℕ) × Contains (slot_at (machine_at old) j).blobs blob)
+        → KeepsWriting D.trace C.sum_of old new }
 {}
 
 /// The greatest place that was reserved lies in nothing that fills a segment, so a batch may end there; and the batches that

@@ -2,7 +2,7 @@
 //!
 //! A log keeps the bytes of its segments that aren't wholly on the device, the reservations in them, the accountant of all
 //! segments, the count of pins, and the first failure of its device, which it answers from then on. `specs/Fits.antt` says which history it holds.
-ghost use Rattle.std.specs.Prelude.{All, List, ◌≡◌, ◌≢◌, ◌↔◌, ◌+◌, ◌-◌, ◌<◌, ◌^◌, ◌∷◌, ◌-ℤ◌, pos, [], ℕ, length, false, IsTrue, IfOk, IfErr, OnOk, OnErr, Contains, None, Some, ◌/◌, unsigned_abs, ℤ, max};
+ghost use Rattle.std.specs.Prelude.{All, List, ◌≡◌, ◌≢◌, ◌⊎◌, ◌<ℤ◌, ◌↔◌, ◌+◌, ◌-◌, ◌<◌, ◌^◌, ◌∷◌, ◌-ℤ◌, pos, [], ℕ, length, false, IsTrue, IfOk, IfErr, OnOk, OnErr, Contains, None, Some, ◌/◌, unsigned_abs, ℤ, max};
 ghost use Rattle.sled_codec.specs.History.{History, Message, Completed, Step};
 ghost use Rattle.sled_codec.specs.Errors.{IsCorrupt, IsCorruption};
 ghost use Rattle.sled_store.specs.Device.{state_of};
@@ -279,8 +279,9 @@ impl<D: Device, C: Checksum> Log<D, C> {
     /// pointer's blob is missing: the log doesn't keep that. `Io` where the device failed in this call: the log keeps that. `OutOfMemory` where the current
     /// buffer could not be sealed, or from the device.
     pub fn read(&mut self, pid: PageId, lsn: Lsn, ptr: DiskPtr) -> Result<LogRead>
-        ensures message { (H : History) (m : Message) → HoldsFast D.trace C.sum_of self.old H → Contains H.messages m → HasRecordOf self.old H m
-            → pos m.place ≡ lsn → m.pointer ≡ ptr → IsInline ptr → IfOk result (GivesMessage m) }
+        ensures message { (H : History) (m : Message)
+            → HoldsFast D.trace C.sum_of self.old H ⊎ (Holds D.trace C.sum_of self.old H × (lsn <ℤ pos (synced_end self.old)))
+            → Contains H.messages m → HasRecordOf self.old H m → pos m.place ≡ lsn → m.pointer ≡ ptr → IsInline ptr → IfOk result (GivesMessage m) }
         ensures undamaged { (H : History) (A f : ℕ) (U : List Message) (m : Message) → Fits D.trace C.sum_of self.old H A f U → Contains H.messages m
             → HasRecordOf self.old H m → pos m.place ≡ lsn → m.pointer ≡ ptr → IsInline ptr → IsCorruption result → ⊥ }
         ensures blob { (H : History) (A f : ℕ) (U : List Message) (m : Message)

@@ -225,6 +225,18 @@ pub spared_slots : {D C : Type 0} (old new : Log D C) → KeepsBlobs (machine_at
 spared_slots old new keeps pins m (inl out) = inl (omega (arith, out, pins))
 spared_slots old new keeps pins m (inr none) = inr (λ k blob there. none k blob (keeps k blob there).there)
 
+-- So it is wherever the blob went before,
+spared_where : {D C : Type 0} (old new : Log D C)
+    → ((k : ℕ) (blob : ℤ) → Contains (slot_at (machine_at new) k).blobs blob → (j : ℕ) × Contains (slot_at (machine_at old) j).blobs blob)
+    → pins_of new ≡ pins_of old → (m : Message) → IsSpared old m → IsSpared new m
+spared_where old new before pins m (inl out) = inl (omega (arith, out, pins))
+spared_where old new before pins m (inr none) = inr (λ k blob there. let was = before k blob there in none was.0 blob was.1)
+
+pub log_writing_where : {D C : Type 0} (trace : D → Trace) (sum : List ℕ → ℕ) (old new : Log D C) → KeepsLog trace sum old new
+    → ((k : ℕ) (blob : ℤ) → Contains (slot_at (machine_at new) k).blobs blob → (j : ℕ) × Contains (slot_at (machine_at old) j).blobs blob)
+    → KeepsWriting trace sum old new
+log_writing_where trace sum old new keeps before = log_writing trace sum old new keeps (spared_where old new before keeps.position.pins)
+
 -- and where the slots are the same.
 pub spared_same : {D C : Type 0} (old new : Log D C) → machine_at new ≡ machine_at old → pins_of new ≡ pins_of old → (m : Message) → IsSpared old m
     → IsSpared new m

@@ -1,8 +1,11 @@
 -- A message that may come to a history names no blob that goes with a segment, so that no write removes its blob: so it is with an entry of the table of all
--- that there is, whose item no crash takes. A log notes no blob where it seals its current buffer.
-use Rattle.std.proofs.Common.{◌≡◌, ◌<◌, ◌+◌, ℕ, ℤ, Bool, true, false, nat_le, if◌then◌else◌, List, length, subst, sym, arith, inl, inr}
+-- that there is, whose item no crash takes, and with a message whose blob is of the next place or a higher one. A log notes no blob where it seals its
+-- current buffer.
+use Rattle.std.proofs.Common.{◌≡◌, ◌∙◌, ◌<◌, ◌≤ℤ◌, ◌+◌, ℕ, ℤ, pos, Bool, true, false, nat_le, if◌then◌else◌, List, length, subst, sym, arith, inl, inr}
 use Rattle.std.specs.List.{Contains}
+use Rattle.std.proofs.lemmas.Int.{ints}
 use Rattle.std.proofs.lemmas.List.Elements.{All-contains}
+use Rattle.sled_codec.specs.declared.result.DiskPtr.TheVariants.{Blob}
 use Rattle.sled_codec.specs.History.{History, Message, table}
 use Rattle.sled_store.specs.Device.{Trace}
 use Rattle.sled_store.specs.Outdated.{IsNamedNow, MayName, NamesBlob}
@@ -17,6 +20,7 @@ use Rattle.sled_core.specs.Freeing.{Ledger}
 use Rattle.sled_core.specs.Keeps.{IsSpared}
 use Rattle.sled_core.specs.Positions.{is_short, next_segment_at}
 use Rattle.sled_core.specs.ReadBuffer.{ledger_at}
+use Rattle.sled_core.specs.Reading.{BlobIsBelow}
 use Rattle.sled_core.specs.Running.{IsStored}
 use Rattle.sled_core.specs.invariants.Running.{Fits}
 use Rattle.sled_core.proofs.Holds.ReachLemmas.{fits_reach}
@@ -63,6 +67,27 @@ module _ {D C : Type 0} (trace : D → Trace) (sum : List ℕ → ℕ) (log : Lo
       below = fits.shows.parts.items.below m (from_table H (next_place log) m.page m entry).0;
       item = kept trace sum log H A f U fits.shows m.page m entry;
     }
+
+module _ {D C : Type 0} (trace : D → Trace) (sum : List ℕ → ℕ) (log : Log D C) (H : History) (A f : ℕ) (U : List Message)
+    (fits : Fits trace sum log H A f U) where
+  -- A message of the history names no blob of a place above its own.
+  pub blob_below : (e : Message) → Contains H.messages e → BlobIsBelow e e.pointer
+  unfolding Fits
+  blob_below e there = fits.shows.parts.items.below e there
+
+  -- So none names a blob of the next place, or of a higher one,
+  pub blob_unnamed : (e : Message) (blob : ℤ) → pos (next_place log) ≤ℤ blob → Contains H.messages e → NamesBlob e blob → ⊥
+  blob_unnamed e blob high there names =
+      let low : e.place < next_place log = All-contains (λ (y : Message). y.place < next_place log) H.messages e (fits_reach trace sum log H A f U fits) there in
+      let below : blob ≤ℤ pos e.place = subst (BlobIsBelow e) names.1 (blob_below e there) in
+      omega (arith, ints, low, high, below)
+
+  -- and a message that does may come.
+  pub higher_may : (m : Message) (lid : ℕ) (blob : ℤ) → pos (next_place log) ≤ℤ blob → m.pointer ≡ Blob lid blob → MayName H m
+  higher_may m lid blob high is other names =
+      let both : Blob lid blob ≡ Blob names.0 other = sym is ∙ names.1 in
+      let same : other ≡ blob = cc in
+      inl (λ e there its. blob_unnamed e other (subst (λ (z : ℤ). pos (next_place log) ≤ℤ z) (sym same) high) there its)
 
 -- A slot that is handed out for a further segment has no blob: so no other blob goes with a segment where the current buffer is sealed.
 sealed_blobs : {D C : Type 0} (old : Log D C) → KeepsBlobs (machine_at old).slots (ledger_sealed old).machine.slots

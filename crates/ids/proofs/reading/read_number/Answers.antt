@@ -23,7 +23,7 @@ returns-in-Ok-clause-number g c = λ H m cut n holds place pointer.
     let trace = g.D.Device.trace in
     let sum = g.C.Checksum.sum_of in
     let log = c.args.log.now in
-    let gives = c.in-Ok.ensures.message H m (inr (holds.acknowledged, holds.floor, holds.unmarked, holds.fits)) holds.last.there (record_there trace sum log H m cut n holds) (place ∙ sym (to_z-of_z w64 c.args.place c.ranges.place)) (pointer ∙ c.in-Inline.is) tt in
+    let gives = c.in-Ok.ensures.message H m (inl (inr (holds.acknowledged, holds.floor, holds.unmarked, holds.fits))) holds.last.there (record_there trace sum log H m cut n holds) (place ∙ sym (to_z-of_z w64 c.args.place c.ranges.place)) (pointer ∙ c.in-Inline.is) tt in
     (c.number_in.ensures.number m n gives holds.last.has).0
 
 pub returns-in-Ok-clause-errors : goal.returns-in-Ok-clause-errors
@@ -31,7 +31,7 @@ returns-in-Ok-clause-errors g c = λ H m cut n holds place pointer.
     let trace = g.D.Device.trace in
     let sum = g.C.Checksum.sum_of in
     let log = c.args.log.now in
-    let gives = c.in-Ok.ensures.message H m (inr (holds.acknowledged, holds.floor, holds.unmarked, holds.fits)) holds.last.there (record_there trace sum log H m cut n holds) (place ∙ sym (to_z-of_z w64 c.args.place c.ranges.place)) (pointer ∙ c.in-Inline.is) tt in
+    let gives = c.in-Ok.ensures.message H m (inl (inr (holds.acknowledged, holds.floor, holds.unmarked, holds.fits))) holds.last.there (record_there trace sum log H m cut n holds) (place ∙ sym (to_z-of_z w64 c.args.place c.ranges.place)) (pointer ∙ c.in-Inline.is) tt in
     no_error IsOpenError c.number_in.result (no_reason _ c.number_in.result holds.inline (c.number_in.ensures.number m n gives holds.last.has).1)
 
 pub returns-in-Ok-clause-fault : goal.returns-in-Ok-clause-fault

@@ -1,5 +1,5 @@
 -- A read settles its place first, and then reads the device.
-use Rattle.std.proofs.Common.{SFits, of_z, to_z, ◌≡◌, ◌∙◌, ◌<◌, ◌/◌, ap, sym, subst, ℕ, ℤ, arith, inl, inr, Option, IsTrue, rules, pos, refl, unsigned_abs, ◌<ℤ◌, ◌≤ℤ◌, None, List, Ok, Err}
+use Rattle.std.proofs.Common.{SFits, of_z, to_z, ◌≡◌, ◌∙◌, ◌<◌, ◌⊎◌, ◌/◌, ap, sym, subst, ℕ, ℤ, arith, inl, inr, Option, IsTrue, rules, pos, refl, unsigned_abs, ◌<ℤ◌, ◌≤ℤ◌, None, List, Ok, Err}
 use Rattle.std.specs.Int.{w64}
 use Rattle.std.specs.List.{Contains}
 use Rattle.std.specs.declared.io.Error.{Error as IoError}
@@ -226,9 +226,11 @@ at_ok : (g : given.Over) (c : goal.After-read_settled g) → to_z w64 (of_z w64 
 at_ok g c = at_is c.args.lsn c.place_read.result c.args.ptr c.ranges.lsn (record { sfits = c.place_read.type_inv }) c.place_read.ensures
 
 -- the record of a message stands where it is read
-held_there : (g : given.Over) (c : goal.After-read_settled g) (H : History) (m : Message) → HoldsFast g.D.Device.trace g.C.Checksum.sum_of c.args.self.now H → Contains H.messages m → HasRecordOf c.args.self.now H m → pos m.place ≡ c.args.lsn → m.pointer ≡ c.args.ptr → IsInline c.args.ptr
+held_there : (g : given.Over) (c : goal.After-read_settled g) (H : History) (m : Message)
+    → HoldsFast g.D.Device.trace g.C.Checksum.sum_of c.args.self.now H ⊎ (Holds g.D.Device.trace g.C.Checksum.sum_of c.args.self.now H × (c.args.lsn <ℤ pos (synced_end c.args.self.now)))
+    → Contains H.messages m → HasRecordOf c.args.self.now H m → pos m.place ≡ c.args.lsn → m.pointer ≡ c.args.ptr → IsInline c.args.ptr
     → MessageStands g.C.Checksum.sum_of (segment_size_of c.settle_at.new.self) (state_of (g.D.Device.trace c.settle_at.new.self.config.device)).log.bytes (lid_of c.args.ptr) (c.unsigned_abs.result / c.args.self.now.config.config.segment_size) m
-held_there g c H m fast there has at pointer inline =
+held_there g c H m either there has at pointer inline =
     let old = c.args.self.now in
     let mid = c.settle_at.new.self in
     let trace = g.D.Device.trace in
@@ -238,16 +240,23 @@ held_there g c H m fast there has at pointer inline =
     let here : to_z w64 (of_z w64 c.place_read.result) ≡ pos m.place = at_ok g c ∙ read_here c.args.lsn c.args.ptr inline ∙ sym at in
     let written : IsWrittenPlace mid m.place = subst (λ z. pos 0 ≤ℤ z → IsWrittenPlace mid (unsigned_abs z)) here c.in_ok-settle_at.ensures.written (omega (arith, ints)) in
     let still : m.place < synced_end old → mid ≡ old = λ below. subst (λ z. z <ℤ pos (synced_end old) → mid ≡ old) here c.settle_at.ensures.still (omega (arith, ints, below)) in
-    let holds : Holds trace sum old H = holds_fast trace sum old H fast in
-    let found = settled_record trace sum old mid H m holds (c.settle_at.ensures.keeps.preserves.history H fast) c.in_default.is c.in_ok-settle_at.ensures.answers.1.3 there has written still (c.in_ok-settle_at.ensures.joined H holds) (lid_of c.args.ptr) (pointer ∙ inline_is c.args.ptr inline) in
+    let holds : Holds trace sum old H = elim either [ inl fast ↦ holds_fast trace sum old H fast | inr synced ↦ synced.0 ] in
+    -- it holds the history fast, or nothing is written
+    let goes_on : Holds trace sum mid H = elim either [
+      | inl fast ↦ c.settle_at.ensures.keeps.preserves.history H fast
+      | inr synced ↦ (
+          let low : pos m.place <ℤ pos (synced_end old) = subst (λ z. z <ℤ pos (synced_end old)) (sym at) synced.1 in
+          subst (λ (l : Log g.row.D.Denot g.row.C.Denot). Holds trace sum l H) (sym (still (omega (arith, ints, low)))) synced.0)
+    ] in
+    let found = settled_record trace sum old mid H m holds goes_on c.in_default.is c.in_ok-settle_at.ensures.answers.1.3 there has written still (c.in_ok-settle_at.ensures.joined H holds) (lid_of c.args.ptr) (pointer ∙ inline_is c.args.ptr inline) in
     let place : c.unsigned_abs.result ≡ m.place = place_is g c ∙ ap unsigned_abs (sym at) in
     let number : c.unsigned_abs.result / c.args.self.now.config.config.segment_size ≡ m.place / size =
     ap (λ n. n / c.args.self.now.config.config.segment_size) place ∙ ap (λ n. m.place / n) (sym c.in_ok-settle_at.ensures.keeps.position.size) in
     subst (λ n. MessageStands sum size device.log.bytes (lid_of c.args.ptr) n m) (sym number) found.stands
 
 pub returns-clause-message : goal.returns-clause-message
-returns-clause-message g c = λ H m fast there has at pointer inline.
-    let s = held_there g c H m fast there has at pointer inline in
+returns-clause-message g c = λ H m either there has at pointer inline.
+    let s = held_there g c H m either there has at pointer inline in
     let device : State = state_of (g.D.Device.trace c.settle_at.new.self.config.device) in
     if_ok c.read_settled.result _ (GivesMessage m) (λ (r : LogRead) reads. gives g.C.Checksum.sum_of _ _ _ _ _ m s.header r s.stands s.known s.page (reads_inline g.C.Checksum.sum_of _ device _ _ c.args.ptr r inline reads)) c.read_settled.ensures.reading
 
@@ -255,7 +264,7 @@ returns-clause-message g c = λ H m fast there has at pointer inline.
 
 pub returns-clause-undamaged : goal.returns-clause-undamaged
 returns-clause-undamaged g c = λ H A f U m fits there has at pointer inline damaged.
-    stands_readable g.C.Checksum.sum_of _ _ _ _ m (held_there g c H m (inr (A, f, U, fits)) there has at pointer inline) _
+    stands_readable g.C.Checksum.sum_of _ _ _ _ m (held_there g c H m (inl (inr (A, f, U, fits))) there has at pointer inline) _
     (damage_inline g.C.Checksum.sum_of _ (state_of (g.D.Device.trace c.settle_at.new.self.config.device)) _ c.args.ptr c.read_settled.result inline c.read_settled.ensures.damage damaged)
 
 -- the blob of a message is there

@@ -59,7 +59,7 @@ returns-in-Inline-clause-reads g c =
       item = λ k m begun is of here points.
           let at = here ∙ sym (to_z-of_z w64 c.args.place c.ranges.place) in
           let gives : GivesMessage m r = is_given trace sum old k c.args.page m place is of at c.args.pointer r points
-          (came.message k.history m (inr (k.acknowledged, k.floor, is.unmarked, is.fits)) of.there (has_record old k.history (reserved_end old) c.args.page m of) at points)
+          (came.message k.history m (inl (inr (k.acknowledged, k.floor, is.unmarked, is.fits))) of.there (has_record old k.history (reserved_end old) c.args.page m of) at points)
           (came.blob k.history k.acknowledged k.floor is.unmarked m is.fits is.zeros).kept in
           let bytes : c.in-Inline.item.items ≡ m.bytes = elim c.in-Inline.is [
             | inl x ↦ (subst (GivesMessage m) x.2 gives).2
@@ -87,7 +87,7 @@ returns-in-Canceled g c =
         item = λ k m begun is of here points.
             let at = here ∙ sym (to_z-of_z w64 c.args.place c.ranges.place) in
             let gives : GivesMessage m c.in_ok-item.field-0 = is_given trace sum old k c.args.page m place is of at c.args.pointer c.in_ok-item.field-0 points
-            (came.message k.history m (inr (k.acknowledged, k.floor, is.unmarked, is.fits)) of.there (has_record old k.history (reserved_end old) c.args.page m of) at points)
+            (came.message k.history m (inl (inr (k.acknowledged, k.floor, is.unmarked, is.fits))) of.there (has_record old k.history (reserved_end old) c.args.page m of) at points)
             (came.blob k.history k.acknowledged k.floor is.unmarked m is.fits is.zeros).kept in
             absurd (elim c.in-Canceled.is [
               | inl x ↦ subst (GivesMessage m) x.1 gives
