@@ -40,7 +40,7 @@ use Rattle.sled_core.proofs.Logged.Messages.{all_in_log}
 use Rattle.sled_core.proofs.Start.Places.{goes_on_at}
 pub use Rattle.sled_core.proofs.Start.FreshReady.{fresh_leaves, fresh_ready, empty_ready, empty_recoverable}
 pub use Rattle.sled_core.proofs.Line.KeptCalls.{goes_on_further, kept_still, kept_further, log_writing_where, writing_further, writing_pinned}
-use Rattle.sled_core.specs.Keeps.{Preserves}
+use Rattle.sled_core.specs.Keeps.{Preserves, PreservesWriting}
 use Rattle.sled_core.specs.OpenBatches.{stable_below}
 use Rattle.sled_core.proofs.Line.LineEnds.{stable_kept}
 use Rattle.sled_core.proofs.Reached.StableBelow.{stable_low}
@@ -236,6 +236,9 @@ stable_reached_at log = stable_low (synced_end log) (noted_in log)
 -- The stable end doesn't fall where a call notes no batch, and stays where what is written and noted stays.
 pub stable_never_falls : {D C : Type 0} (trace : D → Trace) (sum : List ℕ → ℕ) (old new : Log D C) → Preserves trace sum old new → stable_end old ≤ stable_end new
 stable_never_falls trace sum old new keeps = stable_kept old new keeps.goes_on.stable keeps.noted
+
+pub stable_writing : {D C : Type 0} (trace : D → Trace) (sum : List ℕ → ℕ) (old new : Log D C) → PreservesWriting trace sum old new → stable_end old ≤ stable_end new
+stable_writing trace sum old new keeps = stable_kept old new keeps.goes_on.stable keeps.noted
 
 pub stable_stays : {D C : Type 0} (old new : Log D C) → KeepsAll old new → stable_end new ≡ stable_end old
 stable_stays old new same = λ i. stable_below (same.synced i) (same.noted i)

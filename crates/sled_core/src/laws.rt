@@ -38,7 +38,7 @@ ghost use Rattle.sled_core.specs.Waiting.{BufferAt, HasLength, spans, write_arou
 ghost use Rattle.sled_core.specs.WholeBuffers.{IsWholeBuffer};
 ghost use Rattle.sled_core.specs.Batches.{LiesInNoFilling};
 ghost use Rattle.sled_core.specs.Causes.{FaultAnswers, HeldAnswers, ReserveAnswers, ReserveCauses};
-ghost use Rattle.sled_core.specs.Keeps.{GoesOn, IsSpared, KeepsLog, KeepsSeen, KeepsWriting, Preserves};
+ghost use Rattle.sled_core.specs.Keeps.{GoesOn, IsSpared, KeepsLog, KeepsSeen, KeepsWriting, Preserves, PreservesWriting};
 ghost use Rattle.sled_core.specs.Reasons.{ReserveFails, TellsOf, WriteFails};
 ghost use Rattle.sled_core.specs.Reading.{BlobIsBelow, IsInline};
 ghost use Rattle.sled_core.specs.Ready.{IsReady};
@@ -317,11 +317,12 @@ pub fn a_log_is_stable_as_its_intervals_are<D: Device, C: Checksum>()
         → IsStableEnd s ((s +ℤ pos 1, pos (synced_end log) -ℤ pos 1) ∷ []) (map places_of (noted_in log)) (pos (stable_end log) -ℤ pos 1) }
 {}
 
-/// The stable end isn't behind what is on the device without a gap. It never falls, where a call notes no batch; it stays where
-/// what is written and noted stays.
+/// The stable end isn't behind what is on the device without a gap. It never falls, where a call notes no batch, whatever comes free by it;
+/// it stays where what is written and noted stays.
 pub fn the_stable_end_never_falls<D: Device, C: Checksum>()
     ensures reached { (log : Log D C) → stable_end log ≤ synced_end log }
     ensures keeps { (old new : Log D C) → Preserves D.trace C.sum_of old new → stable_end old ≤ stable_end new }
+    ensures writes { (old new : Log D C) → PreservesWriting D.trace C.sum_of old new → stable_end old ≤ stable_end new }
     ensures same { (old new : Log D C) → KeepsAll old new → stable_end new ≡ stable_end old }
 {}
 
