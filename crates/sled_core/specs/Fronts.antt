@@ -106,12 +106,12 @@ UnlessIo (Err (Io e)) P = Unit {0}
 UnlessIo _ P = P
 
 -- A log was given up with this answer, and so many buffers at the front were written: what was reserved isn't all among them, or the device failed behind
--- the last of them, in the accountant's step.
+-- the last of them, in the accountant's step, which isn't where the log kept a failure.
 pub record ClosedFront {T D C : Type 0} (trace : D → Trace) (sum : List ℕ → ℕ) (result : Result T Error) (log : Log D C) (after : Trace) : Type 0 where
   pub count : ℕ
   pub written : synced_writes after ≡ count + synced_writes (trace (device_of log))
   pub whole : UnlessIo result (after ≡ after_all (writing_some count sum log (reserved_end log)) (trace (device_of log)))
-  pub short : (IsIo result × (pins_of log ≡ 0) × (0 < count))
+  pub short : (IsIo result × (fault_of log ≡ None) × (pins_of log ≡ 0) × (0 < count))
       ⊎ (first_begin (drop count (sealed_for sum (reserved_end log) log)) (start_for (reserved_end log) log) < reserved_end log)
 
 -- How far the last flush of a log came that failed: nothing was asked of the device, so it didn't fail, though the current buffer was to be sealed, or the log
