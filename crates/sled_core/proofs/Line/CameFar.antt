@@ -1,5 +1,5 @@
 -- A call that writes buffers and fails: as many are gone as it wrote and synced, and unless the device failed each of them was written whole.
-use Rattle.std.proofs.Common.{◌≡◌, ◌∙◌, ◌⊎◌, ◌≤◌, ◌<◌, ◌≤ℤ◌, ◌<ℤ◌, ap, sym, subst, refl, arith, inl, inr, ℕ, ℤ, suc, pos, Bool, true, false, nat_lt, if◌then◌else◌, List, ◌∷◌, ◌++◌, take, drop, None, Some, Result, Ok, Err, OnErr}
+use Rattle.std.proofs.Common.{◌≡◌, ◌∙◌, ◌⊎◌, ◌-◌, ◌≤◌, ◌<◌, ◌≤ℤ◌, ◌<ℤ◌, ap, sym, subst, refl, arith, inl, inr, ℕ, ℤ, suc, pos, Bool, true, false, nat_lt, if◌then◌else◌, List, ◌∷◌, ◌++◌, take, drop, None, Some, Result, Ok, Err, OnErr}
 use Rattle.std.specs.Prelude.{unsigned_abs}
 use Rattle.std.specs.declared.io.Error.{Error as IoError}
 use Rattle.std.proofs.Math.Seq.{take-append_seam}
@@ -115,6 +115,7 @@ module _ {D C : Type 0} (trace : D → Trace) (sum : List ℕ → ℕ) (faults :
     failed_front new ready one with_slots =
         let is = one.line (first_view mid) refl in
         let failed = failed_since trace sum faults to old mid new so_far one.failed in
+        let less : suc so_far.count - 1 ≡ so_far.count = omega arith in
         record {
           count = suc so_far.count;
           left = one_gone trace sum faults to old mid new so_far ready is ∙ left_for (suc so_far.count);
@@ -126,7 +127,10 @@ module _ {D C : Type 0} (trace : D → Trace) (sum : List ℕ → ℕ) (faults :
             inr (
               failed,
               omega arith,
-              subst (λ (m : Machine). IsOnTheWay trace new m) (ap (λ (l : Ledger). l.machine) (so_far.ledger ∙ ledger_is so_far.count)) one.way,
+              subst
+                  (λ (n : ℕ). IsOnTheWay trace new (ledger_behind (segment_size_of old) (take n (sealed_for sum to old)) (ledger_for to old)).machine)
+                  (sym less)
+                  (subst (λ (m : Machine). IsOnTheWay trace new m) (ap (λ (l : Ledger). l.machine) (so_far.ledger ∙ ledger_is so_far.count)) one.way),
             ),
           );
           written = (let last = one.written in let before = so_far.written in omega (arith, last, before));
