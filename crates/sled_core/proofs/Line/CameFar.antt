@@ -1,5 +1,5 @@
 -- A call that writes buffers and fails: as many are gone as it wrote and synced, and unless the device failed each of them was written whole.
-use Rattle.std.proofs.Common.{◌≡◌, ◌∙◌, ◌⊎◌, ◌≤◌, ◌<◌, ◌≤ℤ◌, ◌<ℤ◌, ap, sym, refl, arith, inl, inr, ℕ, ℤ, suc, pos, Bool, true, false, nat_lt, if◌then◌else◌, List, ◌∷◌, ◌++◌, take, drop, None, Some, Result, Ok, Err, OnErr}
+use Rattle.std.proofs.Common.{◌≡◌, ◌∙◌, ◌⊎◌, ◌-◌, ◌≤◌, ◌<◌, ◌≤ℤ◌, ◌<ℤ◌, ap, sym, subst, refl, arith, inl, inr, ℕ, ℤ, suc, pos, Bool, true, false, nat_lt, if◌then◌else◌, List, ◌∷◌, ◌++◌, take, drop, None, Some, Result, Ok, Err, OnErr}
 use Rattle.std.specs.Prelude.{unsigned_abs}
 use Rattle.std.specs.declared.io.Error.{Error as IoError}
 use Rattle.std.proofs.Math.Seq.{take-append_seam}
@@ -14,7 +14,7 @@ use Rattle.sled_core.specs.Causes.{IsHeld}
 use Rattle.sled_core.specs.declared.logger.Log.{Log}
 use Rattle.sled_core.specs.Fits.{buffers_of, current_begin, device_of, ledger_for, ledger_of, ledger_sealed, line_of, position_sealed, position_with, segment_size_of, start_of, synced_end, waiting_of}
 use Rattle.sled_core.specs.Freeing.{Ledger}
-use Rattle.sled_core.specs.Fronts.{CameAround, WroteFront, WroteNone, synced_writes, syncs}
+use Rattle.sled_core.specs.Fronts.{CameAround, IsOnTheWay, WroteFront, WroteNone, synced_writes, syncs}
 use Rattle.sled_core.specs.Keeps.{LeavesSome, position_for, sealed_for, start_for, start_sealed}
 use Rattle.sled_core.specs.Ledger.{ledger_behind, writings}
 use Rattle.sled_core.specs.ReadBuffer.{SealsAround, WritesAround, held_at, settling}
@@ -101,7 +101,7 @@ module _ {D C : Type 0} (trace : D → Trace) (sum : List ℕ → ℕ) (faults :
           left = waiting ∙ so_far.gone ∙ left_for so_far.count;
           start = start ∙ so_far.start ∙ start_is;
           position = λ m. with_slots m ∙ so_far.with_slots m ∙ position_is m;
-          ledger = (ap (λ (l : Ledger). l.account) all, inr (ap (λ (l : Ledger). l.machine) all));
+          ledger = (ap (λ (l : Ledger). l.account) all, inl (ap (λ (l : Ledger). l.machine) all));
           written = none.written ∙ so_far.written;
           whole = λ sound. none.still sound ∙ so_far.came
               ∙ (λ i. after_all (writings (segment_size_of old) (sym done_is i) (if sym not_current i then ledger_sealed old else ledger_of old))
@@ -115,6 +115,7 @@ module _ {D C : Type 0} (trace : D → Trace) (sum : List ℕ → ℕ) (faults :
     failed_front new ready one with_slots =
         let is = one.line (first_view mid) refl in
         let failed = failed_since trace sum faults to old mid new so_far one.failed in
+        let less : suc so_far.count - 1 ≡ so_far.count = omega arith in
         record {
           count = suc so_far.count;
           left = one_gone trace sum faults to old mid new so_far ready is ∙ left_for (suc so_far.count);
@@ -123,7 +124,14 @@ module _ {D C : Type 0} (trace : D → Trace) (sum : List ℕ → ℕ) (faults :
           ledger = (
             one_account trace sum faults to old mid new so_far ready is (one.account (first_view mid) refl)
                 ∙ ap (λ (l : Ledger). l.account) (ledger_is (suc so_far.count)),
-            inl failed,
+            inr (
+              failed,
+              omega arith,
+              subst
+                  (λ (n : ℕ). IsOnTheWay trace new (ledger_behind (segment_size_of old) (take n (sealed_for sum to old)) (ledger_for to old)).machine)
+                  (sym less)
+                  (subst (λ (m : Machine). IsOnTheWay trace new m) (ap (λ (l : Ledger). l.machine) (so_far.ledger ∙ ledger_is so_far.count)) one.way),
+            ),
           );
           written = (let last = one.written in let before = so_far.written in omega (arith, last, before));
           whole = λ sound. absurd (let bad : None ≡ Some failed.fault = sym sound ∙ failed.kept in cc);

@@ -1,5 +1,5 @@
 -- A call that writes the buffers that begin below a place, and seals the current one first, where that does: what it makes of the log is what the write of those makes of the sealed one.
-use Rattle.std.proofs.Common.{◌≡◌, ◌∙◌, ◌⊎◌, ◌≤◌, ◌<◌, ◌+◌, ap, sym, refl, arith, subst, inl, inr, ℕ, Bool, true, false, if◌then◌else◌, List, [], ◌∷◌, ◌++◌, length, take, drop, map, None, Some, Result, Ok, Err, OnOk, OnErr}
+use Rattle.std.proofs.Common.{◌≡◌, ◌∙◌, ◌⊎◌, ◌≤◌, ◌<◌, ◌+◌, ◌-◌, ap, sym, refl, arith, subst, inl, inr, ℕ, Bool, true, false, if◌then◌else◌, List, [], ◌∷◌, ◌++◌, length, take, drop, map, None, Some, Result, Ok, Err, OnOk, OnErr}
 use Rattle.std.specs.declared.io.Error.{Error as IoError}
 use Rattle.std.specs.List.{Contains}
 use Rattle.std.proofs.lemmas.Bool.Decides.{nat_tests}
@@ -16,7 +16,7 @@ use Rattle.sled_core.specs.declared.logger.Log.{Log}
 use Rattle.sled_core.specs.Causes.{HeldAnswers, IsHeld, OnDone}
 use Rattle.sled_core.specs.inside.Fits.{AddsBuffers}
 use Rattle.sled_core.specs.Fits.{IsUnchanged, IsUsedUp, IsUsedUpBelow, KeepsAll, NoneSealed, buffers_of, current_begin, current_of, device_of, fault_of, holding_below, ledger_for, ledger_of, ledger_sealed, machine_at, pins_of, position_of, position_sealed, position_with, reserved_end, sealing_end, segment_size_of, start_of, synced_end, waiting_of, writing_below, writing_some}
-use Rattle.sled_core.specs.Fronts.{CameTo, WroteFront, synced_writes}
+use Rattle.sled_core.specs.Fronts.{CameTo, IsOnTheWay, WroteFront, synced_writes}
 use Rattle.sled_core.specs.Freeing.{Ledger}
 use Rattle.sled_core.specs.Keeps.{FailedStep, IsSpared, KeepsLog, KeepsWriting, LeavesAbove, LeavesSome, WritesBelow, sealed_for, start_sealed}
 use Rattle.sled_core.specs.Ledger.{ledger_behind, writings}
@@ -101,8 +101,12 @@ module _ {D C : Type 0} (sum : List ℕ → ℕ) (to : ℕ) (old mid : Log D C) 
         ledger = (
           front.ledger.0 ∙ ap (λ (l : Ledger). l.account) (all front.count same from),
           elim front.ledger.1 [
-            | inl failed ↦ inl (failed_over old mid new sound pins failed)
-            | inr machine ↦ inr (machine ∙ ap (λ (l : Ledger). l.machine) (all front.count same from))
+            | inl machine ↦ inl (machine ∙ ap (λ (l : Ledger). l.machine) (all front.count same from))
+            | inr failed ↦ inr (
+              failed_over old mid new sound pins failed.0,
+              failed.1,
+              subst (λ (m : Machine). IsOnTheWay trace new m) (ap (λ (l : Ledger). l.machine) (all (front.count - 1) same from)) failed.2,
+            )
           ],
         );
         written = front.written ∙ ap (λ d. front.count + synced_writes (trace d)) device;

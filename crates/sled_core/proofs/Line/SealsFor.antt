@@ -15,7 +15,8 @@ use Rattle.sled_core.specs.Begun.{SegmentView, segment_view}
 use Rattle.sled_core.specs.declared.logger.Log.{Log}
 use Rattle.sled_core.specs.inside.Fits.{AddsBuffers}
 use Rattle.sled_core.specs.Fits.{IsUsedUp, KeepsAll, KeepsTickets, buffers_of, current_begin, current_of, device_of, fault_of, held_len, ledger_of, ledger_sealed, position_sealed, position_with, reserved_end, sealing_end, segment_size_of, start_of, synced_end, waiting_of}
-use Rattle.sled_core.specs.Fronts.{CameAround, WroteNone, WroteThenFailed, synced_writes, syncs}
+use Rattle.sled_core.specs.Freeing.{Ledger}
+use Rattle.sled_core.specs.Fronts.{CameAround, IsOnTheWay, WroteNone, WroteThenFailed, synced_writes, syncs}
 use Rattle.sled_core.specs.Keeps.{Preserves, SamePosition, start_sealed}
 use Rattle.sled_core.specs.Ledger.{ledger_behind, writings}
 use Rattle.sled_core.specs.Marked.{BeginsMarked}
@@ -192,7 +193,12 @@ module _ {D C : Type 0} (trace : D → Trace) (sum : List ℕ → ℕ) (place : 
         account = failed.1.account ∙ seals.account;
       },
     ))
-    came_sealed (inr (wrote, free)) = inr (inr (inr (leaves_failing wrote, sym held_at_same ∙ free)))
+    came_sealed (inr (wrote, free)) = inr (inr (inr (
+      leaves_failing wrote,
+      sym held_at_same ∙ free,
+      wrote.written ∙ ap (λ d. suc (synced_writes (trace d))) seals.device,
+      subst (λ (m : Machine). IsOnTheWay trace new m) (ap (λ (l : Ledger). l.machine) seals.sealed.2) wrote.way,
+    )))
 
     pub writes_around : {T : Type 0} (r : Result T Error) → synced_end old ≤ place
         → OnOk r ((waiting_of new ≡ without_around place (waiting_of mid))

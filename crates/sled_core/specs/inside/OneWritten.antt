@@ -4,8 +4,8 @@ use Rattle.sled_store.specs.Device.{Trace}
 use Rattle.sled_core.specs.Account.{account_of, written_account}
 use Rattle.sled_core.specs.Begun.{SegmentView}
 use Rattle.sled_core.specs.declared.logger.Log.{Log}
-use Rattle.sled_core.specs.Fits.{KeepsTickets, device_of, ledger_of, line_of, segment_size_of}
-use Rattle.sled_core.specs.Fronts.{WroteNone, synced_writes}
+use Rattle.sled_core.specs.Fits.{KeepsTickets, device_of, ledger_of, line_of, machine_at, segment_size_of}
+use Rattle.sled_core.specs.Fronts.{IsOnTheWay, WroteNone, synced_writes}
 use Rattle.sled_core.specs.Keeps.{FailedStep, Preserves, SamePlace}
 use Rattle.sled_core.specs.inside.Turned.{mark_of, promoted, written_now}
 
@@ -28,3 +28,4 @@ pub record WroteOne {D C : Type 0} (trace : D → Trace) (n k : ℕ) (old new : 
   pub line : (v : SegmentView) → slice_get (line_of old) n ≡ Some v → line_of new ≡ promoted (segment_size_of old) (set (line_of old) n (written_now k v))
   pub account : (v : SegmentView) → slice_get (line_of old) n ≡ Some v → account_of new ≡ written_account (mark_of k v) (account_of old)
   pub written : synced_writes (trace (device_of new)) ≡ suc (synced_writes (trace (device_of old)))
+  pub way : IsOnTheWay trace new (machine_at old)

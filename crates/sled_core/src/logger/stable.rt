@@ -1,7 +1,8 @@
 //! Making what was reserved durable up to a place, and closing a log.
 //!
 //! Both write buffers as `Log::flush` does (`specs/Stable.antt`).
-ghost use Rattle.std.specs.Prelude.{List, ℕ, [], ◌≡◌, ◌+◌, ◌≤◌, ◌<ℤ◌, pos, IfOk, OnOk, OnErr, max, ◌⊎◌};
+ghost use Rattle.std.specs.Prelude.{List, ℕ, [], ◌≡◌, ◌+◌, ◌≤◌, ◌<ℤ◌, pos, Some, IfOk, OnOk, OnErr, max, ◌⊎◌};
+ghost use Rattle.std.specs.declared.io.Error.{Error as IoError};
 ghost use Rattle.sled_codec.specs.History.{History, Message};
 ghost use Rattle.sled_store.specs.Device.{state_of};
 ghost use Rattle.sled_store.specs.Moments.{LeavesOnly};
@@ -81,6 +82,7 @@ impl<D: Device, C: Checksum> Log<D, C> {
         ensures answers { CloseAnswers result.1 (holding_below C.sum_of self (reserved_end self)) (IsUsedUpBelow self (reserved_end self)) (fault_of self)
             (D.faults (device_of self)) (D.faults result.0.device) }
         ensures came { OnErr result.1 (ClosedAt D.trace C.sum_of result.1 self (D.trace result.0.device)) }
+        ensures faulty { (e : IoError) → fault_of self ≡ Some e → D.trace result.0.device ≡ D.trace (device_of self) }
         ensures idle { flushing C.sum_of self ≡ [] → D.faults result.0.device ≡ D.faults (device_of self) }
         ensures config { ConfigKept (config_of self) result.0 }
     {

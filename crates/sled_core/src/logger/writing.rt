@@ -19,7 +19,7 @@ ghost use Rattle.sled_core.specs.Buffers.{first_open_in, open_in};
 ghost use Rattle.sled_core.specs.Causes.{Answers, FaultOrMemory, HeldAnswers, OnDone};
 ghost use Rattle.sled_core.specs.invariants.Fits.{Holds};
 ghost use Rattle.sled_core.specs.Fits.{IsUnchanged, IsUsedUp, IsUsedUpBelow, IsWritten, KeepsAll, NoneSealed, buffers_of, config_of, current_begin, current_of, device_of, fault_of, fillings_of, flushing, heads_of, held_len, holding_below, ledger_for, ledger_of, line_of, machine_at, pending_of, position_with, reserved_end, sealing_end, segment_size_of, stable_end, start_of, synced_end, waiting_of, writing_below, writing_pending};
-ghost use Rattle.sled_core.specs.Fronts.{CameTo, WroteFront, WroteNone, WroteThenFailed, synced_writes, syncs};
+ghost use Rattle.sled_core.specs.Fronts.{CameTo, IsOnTheWay, WroteFront, WroteNone, WroteThenFailed, synced_writes, syncs};
 ghost use Rattle.sled_core.specs.Keeps.{FailedStep, HoldsFast, KeepsLog, KeepsWriting, LeavesAbove, WritesBelow, position_for, sealed_for, start_for, start_sealed};
 ghost use Rattle.sled_core.specs.Ledger.{ledger_behind, ledger_step, stepped_ledger, written_ledger};
 ghost use Rattle.sled_core.specs.LogStatus.{flushed, rolled, status_of};
@@ -310,7 +310,7 @@ impl<D: Device, C: Checksum> Log<D, C> {
             (D.trace (device_of self.old)) (D.trace (device_of self.new)) }
         ensures keeps { KeepsWriting D.trace C.sum_of self.old self.new }
         ensures answers { Answers result None (fault_of self.new) (D.faults (device_of self.old)) (D.faults (device_of self.new)) }
-        ensures failed { OnErr result (FailedStep self.old self.new) }
+        ensures failed { OnErr result (FailedStep self.old self.new × IsOnTheWay D.trace self.new (machine_at self.old)) }
         ensures written { synced_writes (D.trace (device_of self.new)) ≡ synced_writes (D.trace (device_of self.old)) }
     {
         if self.pins > 0 {

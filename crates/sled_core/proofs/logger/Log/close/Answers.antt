@@ -95,7 +95,7 @@ closes_part trace sum r old new sound never io (inr front) = inr (record {
   written = front.written;
   whole = sound _ front.whole;
   short = elim front.short [
-    | inl failed ↦ inl (io failed.0.fault failed.0.kept, failed.0.unpinned, failed.1)
+    | inl failed ↦ inl (io failed.0.fault failed.0.kept, failed.0.sound, failed.0.unpinned, failed.1)
     | inr short ↦ inr (subst (λ n. n < reserved_end old) (sym ((λ i. first_begin (sym front.left i) (sym front.start i)) ∙ sym (first_left new))) short)
   ];
 })
@@ -109,6 +109,13 @@ returns-clause-came g c =
     subst (λ (x : RunningConfig _ _). OnErr r (ClosedAt g.D.Device.trace sum r old (g.D.Device.trace x.device))) (sym c.halt.ensures.config)
     (on_err r _ _ (closes_part g.D.Device.trace sum r old new (no_fault r _ _ _ _ _ _ c.flush-flushed.ensures.answers) (io_kept r _ _ _ _ _ _ c.flush-flushed.ensures.answers)
     (λ e. io_answers r _ _ _ _ _ _ e c.flush-flushed.ensures.answers)) c.flush-flushed.ensures.buffers.1)
+
+-- Where the log keeps a failure the flush did nothing.
+pub returns-clause-faulty : goal.returns-clause-faulty
+returns-clause-faulty g c = λ e kept.
+    let trace = g.D.Device.trace in
+    ap (λ (x : RunningConfig g.row.D.Denot g.row.C.Denot). trace x.device) c.halt.ensures.config
+    ∙ ap (λ (l : Log g.row.D.Denot g.row.C.Denot). trace (device_of l)) (c.flush-flushed.ensures.spares.faulty e kept)
 
 pub returns-clause-idle : goal.returns-clause-idle
 returns-clause-idle g c = λ none. ap (λ (x : RunningConfig g.row.D.Denot g.row.C.Denot). g.D.Device.faults x.device) c.halt.ensures.config ∙ c.flush-flushed.ensures.spares.idle none

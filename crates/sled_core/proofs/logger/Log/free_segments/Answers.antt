@@ -7,14 +7,17 @@ use Rattle.sled_codec.specs.declared.result.Error.{Error}
 use Rattle.sled_codec.specs.declared.result.Error.TheVariants as error
 use Rattle.sled_store.specs.Accounts.{machine_of}
 use Rattle.sled_store.specs.Blobs.{RemoveAnswers}
+use Rattle.sled_store.specs.declared.config.Config.{Config}
 use Rattle.sled_store.specs.Device.{Trace}
 use Rattle.sled_store.specs.Script.{Performs, after_all}
 use Rattle.sled_store.specs.SegmentStates.{Step, stabilized}
 use Rattle.sled_store.specs.Stabilizing.{MovesSlots}
 use Rattle.sled_store.proofs.Traces.ScriptLemmas.{performs_none}
+use Rattle.sled_core.specs.Account.{account_of}
 use Rattle.sled_core.specs.Causes.{Answers}
 use Rattle.sled_core.specs.declared.logger.Log.{Log}
-use Rattle.sled_core.specs.Fits.{fault_of, ledger_of, machine_at, pins_of, segment_size_of}
+use Rattle.sled_core.specs.Fits.{device_of, fault_of, ledger_of, machine_at, pins_of, segment_size_of}
+use Rattle.sled_core.specs.Fronts.{IsOnTheWay}
 use Rattle.sled_core.specs.inside.Causes.{fault_in}
 use Rattle.sled_core.specs.Keeps.{FailedStep}
 use Rattle.sled_core.specs.Ledger.{ledger_step}
@@ -114,14 +117,26 @@ step_answers (Err (error.Io e)) now before after is did memory = inr (refl, is �
 step_answers (Err error.OutOfMemory) now before after is did memory = absurd (memory refl)
 step_answers (Err _) now before after is did memory = absurd did
 
-step_failed : {D C : Type 0} (old new : Log D C) (result : Result (Unit {0}) Error) (before after : ℕ) → pins_of old ≡ 0 → fault_of old ≡ None
-    → Answers result None (fault_of new) before after → IfErr result (λ e. e ≢ error.OutOfMemory) → OnErr result (FailedStep old new)
-step_failed old new (Ok u) before after pins none did memory = tt
-step_failed old new (Err (error.Io e)) before after pins none (inl kept) memory = let never : None ≡ Some e = kept.0 in cc
-step_failed old new (Err (error.Io e)) before after pins none (inr failed) memory =
-    record { unpinned = pins; sound = none; fault = e; kept = failed.1 }
-step_failed old new (Err error.OutOfMemory) before after pins none did memory = absurd (memory refl)
-step_failed old new (Err _) before after pins none did memory = absurd did
+step_failed : {D C : Type 0} (trace : D → Trace) (old new : Log D C) (result : Result (Unit {0}) Error) (before after : ℕ) → pins_of old ≡ 0 → fault_of old ≡ None
+    → Answers result None (fault_of new) before after → IfErr result (λ e. e ≢ error.OutOfMemory) → segment_size_of new ≡ segment_size_of old
+    → (account_of new).mark ≡ (account_of old).mark
+    → MovesSlots (segment_size_of old) (account_of old).mark result (machine_at old) (machine_at new) (trace (device_of old)) (trace (device_of new))
+    → OnErr result (FailedStep old new × IsOnTheWay trace new (machine_at old))
+step_failed trace old new (Ok u) before after pins none did memory size mark moved = tt
+step_failed trace old new (Err (error.Io e)) before after pins none (inl kept) memory size mark moved = let never : None ≡ Some e = kept.0 in cc
+step_failed trace old new (Err (error.Io e)) before after pins none (inr failed) memory size mark moved = (
+  record { unpinned = pins; sound = none; fault = e; kept = failed.1 },
+  record {
+    before = trace (device_of old);
+    fault = e;
+    moved = subst (λ (n : ℕ). MovesSlots {T = Unit {0}} n (account_of new).mark (Err (error.Io e)) (machine_at old) (machine_at new) (trace (device_of old))
+        (trace (device_of new))) (sym size)
+        (subst (λ (z : ℤ). MovesSlots {T = Unit {0}} (segment_size_of old) z (Err (error.Io e)) (machine_at old) (machine_at new) (trace (device_of old))
+        (trace (device_of new))) (sym mark) moved);
+  },
+)
+step_failed trace old new (Err error.OutOfMemory) before after pins none did memory size mark moved = absurd (memory refl)
+step_failed trace old new (Err _) before after pins none did memory size mark moved = absurd did
 
 pub returns-clause-answers : goal.returns-clause-answers
 returns-clause-answers g c =
@@ -129,10 +144,15 @@ returns-clause-answers g c =
 
 pub returns-clause-failed : goal.returns-clause-failed
 returns-clause-failed g c =
+    let trace = g.D.Device.trace in
+    let old = c.args.self.now in
     let did = c.stabilize-freed.ensures in
     let low = c.if-self-gt0.false in
-    step_failed c.args.self.now _ c.stabilize-freed.result _ _ (omega (arith, low)) c.requires.fault
-    (step_answers c.stabilize-freed.result _ _ _ c.note.ensures did.answers did.memory) did.memory
+    let is : old.marks.joined ≡ handed old.marks.joined = search rules in
+    step_failed trace old _ c.stabilize-freed.result _ _ (omega (arith, low)) c.requires.fault
+    (step_answers c.stabilize-freed.result _ _ _ c.note.ensures did.answers did.memory) did.memory (ap (λ (x : Config). x.segment_size) did.config) refl
+    (subst (λ (z : ℤ). MovesSlots (segment_size_of old) z c.stabilize-freed.result (machine_at old) (machine_of c.stabilize-freed.new.self)
+    (trace old.config.device) (trace c.stabilize-freed.new.config.device)) (sym is) did.moves)
 
 pub returns-clause-written : goal.returns-clause-written
 returns-clause-written g c =

@@ -225,6 +225,7 @@ returns-clause-same g c =
           waiting = wrote_without looked can new (one.line looked.segment looked.among);
           account = one.account looked.segment looked.among ∙ account_it looked can;
           written = one.written;
+          way = one.way;
         },
         held_none looked can g.C.Checksum.sum_of,
       )

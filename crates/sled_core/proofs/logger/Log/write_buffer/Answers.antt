@@ -7,6 +7,7 @@ use Rattle.sled_store.specs.Blobs.{UnlessFault}
 use Rattle.sled_store.specs.declared.config.Config.{Config}
 use Rattle.sled_store.specs.Device.{Event, Trace}
 use Rattle.sled_store.specs.Script.{Performs, after_all}
+use Rattle.sled_store.specs.SegmentStates.{Machine}
 use Rattle.sled_store.proofs.Traces.ScriptLemmas.{after_joined, performs_behind, performs_more}
 use Rattle.sled_core.specs.Account.{Account, account_of, written_account}
 use Rattle.sled_core.specs.Begun.{SegmentView, line_in}
@@ -14,7 +15,7 @@ use Rattle.sled_core.specs.Causes.{Answers}
 use Rattle.sled_core.specs.declared.logger.Log.{Log}
 use Rattle.sled_core.specs.Fits.{ledger_of, line_of, machine_at, pins_of, segment_size_of, synced_end}
 use Rattle.sled_core.specs.Freeing.{Ledger}
-use Rattle.sled_core.specs.Fronts.{synced_writes}
+use Rattle.sled_core.specs.Fronts.{IsOnTheWay, synced_writes}
 use Rattle.sled_core.specs.inside.OneWritten.{WritesNone, WroteOne}
 use Rattle.sled_core.specs.inside.Turned.{FreesSlots, mark_of, promoted, write_in, write_of, writing_in, writing_of, written_now}
 use Rattle.sled_core.specs.Keeps.{FailedStep}
@@ -67,9 +68,10 @@ module _ {D C : Type 0} (old mid : Log D C) (n k : ℕ) (v : SegmentView) (among
       → line_of mid ≡ promoted (segment_size_of old) (set (line_of old) n (written_now k v))
       → old.fault.kept ≡ None → pins_of mid ≡ pins_of old
       → trace mid.config.device ≡ after_all (write_in (line_of old) n k) (trace old.config.device)
-      → synced_writes (trace new.config.device) ≡ synced_writes (trace mid.config.device) → FailedStep mid new → WroteOne trace n k old new
+      → synced_writes (trace new.config.device) ≡ synced_writes (trace mid.config.device)
+      → FailedStep mid new × IsOnTheWay trace new (machine_at mid) → WroteOne trace n k old new
   wrote_one trace new rest line none pins calls written failed = record {
-    failed = failed_over old mid new none pins failed;
+    failed = failed_over old mid new none pins failed.0;
     line = λ u is.
         let same : u ≡ v = (let both : Some u ≡ Some v = sym is ∙ among in cc) in
         (λ i. line_in (rest.segments i)) ∙ line
@@ -79,6 +81,7 @@ module _ {D C : Type 0} (old mid : Log D C) (n k : ℕ) (v : SegmentView) (among
         account_same mid new rest.marks rest.pins ∙ account
         ∙ ap (λ (x : SegmentView). written_account (mark_of k x) (account_of old)) (sym same);
     written = written ∙ one_more (line_of old) n k v among (trace old.config.device) (trace mid.config.device) calls;
+    way = subst (λ (m : Machine). IsOnTheWay trace new m) slots failed.1;
   }
 
 pub returns-in_err-write_one-clause-at_most : goal.returns-in_err-write_one-clause-at_most
@@ -175,7 +178,8 @@ returns-clause-refused g c =
     let new = c.free_segments.new.self in
     step_refused c.free_segments.result new.fault.kept (g.D.Device.faults mid.config.device) (g.D.Device.faults new.config.device)
     (g.D.Device.trace old.config.device) (g.D.Device.trace new.config.device) c.free_segments.ensures.answers
-    (on_err c.free_segments.result (FailedStep mid new) _ (λ failed. (failed.fault, failed.kept)) c.free_segments.ensures.failed)
+    (on_err c.free_segments.result (FailedStep mid new × IsOnTheWay g.D.Device.trace new (machine_at mid)) _ (λ failed. (failed.0.fault, failed.0.kept))
+    c.free_segments.ensures.failed)
 
 pub returns-clause-unwritten : goal.returns-clause-unwritten
 returns-clause-unwritten g c =
@@ -184,7 +188,7 @@ returns-clause-unwritten g c =
     let new = c.free_segments.new.self in
     let did = c.in_ok-write_one.ensures in
     let r = c.requires.ready in
-    on_err c.free_segments.result (FailedStep mid new) _
+    on_err c.free_segments.result (FailedStep mid new × IsOnTheWay g.D.Device.trace new (machine_at mid)) _
     (λ failed.
     inr (wrote_one old mid c.args.n c.args.k r.segment r.among (did.account r.segment r.among) did.machine did.keeps.position.size g.D.Device.trace new
     c.free_segments.ensures.rest (did.line r.segment r.among) c.requires.fault did.keeps.position.pins did.calls c.free_segments.ensures.written failed))

@@ -115,6 +115,7 @@ returns-clause-err g c =
         waiting = without_it g c (one.line r.segment r.among);
         account = account_it g c (one.account r.segment r.among);
         written = one.written;
+        way = one.way;
       })
     ])
     c.write_buffer.ensures.unwritten
