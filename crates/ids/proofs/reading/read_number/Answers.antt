@@ -1,4 +1,4 @@
-use Rattle.std.proofs.Common.{◌∙◌, ◌/◌, ◌<ℤ◌, ℕ, ℤ, pos, Ok, Err, arith, inr, subst, sym}
+use Rattle.std.proofs.Common.{◌∙◌, ◌/◌, ◌<ℤ◌, ℕ, ℤ, pos, Ok, Err, arith, inl, inr, subst, sym}
 use Rattle.std.specs.Prelude.{unsigned_abs}
 use Rattle.std.specs.Int.{w64}
 use Rattle.std.proofs.lemmas.Int.{ints, to_z-of_z}
