@@ -84,7 +84,8 @@ IsSpared log m = (0 < pins_of log) ⊎ ((k : ℕ) (blob : ℤ) → Contains (slo
 abbrev pub PreservesWriting : {D C : Type 0} → (D → Trace) → (List ℕ → ℕ) → Log D C → Log D C → Type 0
 PreservesWriting trace sum old new = PreservesFor (HoldsFast trace sum old) (IsSpared old) trace sum old new
 
--- The device failed in the accountant's step behind the write of a buffer, and the log keeps that. While a pin is out no step is made.
+-- What is seen of a log whose device failed in the accountant's step behind the write of a buffer: no pin was out, since while one is no step is made, and the
+-- log keeps a failure that is new. (That slots are on the way of a step is said beside it, `IsOnTheWay`.)
 pub record FailedStep {D C : Type 0} (old new : Log D C) : Type 0 where
   pub unpinned : pins_of old ≡ 0
   pub sound : fault_of old ≡ None

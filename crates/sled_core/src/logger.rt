@@ -257,7 +257,8 @@ impl<D: Device, C: Checksum> Log<D, C> {
     /// Reads the message of this page and place that lies there, from the device. Where its place isn't stable, the one
     /// buffer that has it is written first, unless it is on the device: the current one is sealed for that, and no other
     /// buffer is written. Returns what stands there. A message has its record as long as it is of a segment that isn't wholly
-    /// on the device, or a table from the mark on that joined needs it; else its slot may have been filled when the log started.
+    /// on the device, or a table from the mark on that joined needs it; else its slot may be free or another segment's, or cut off.
+    /// Where no pin is out segments may come free behind that write, and blobs go, as in each call that writes.
     ///
     /// Of a message whose item is a blob that blob alone is read, and the place that counts is the blob's: a negative one is
     /// before all. Its header has the blob's kind, this page, the number of the segment of this place, and 0 for checksum and
