@@ -24,12 +24,11 @@ use Rattle.sled_core.specs.declared.logger.Log.{Log}
 use Rattle.sled_core.specs.declared.logger.read_message.LogRead.{LogRead}
 use Rattle.sled_core.specs.declared.logger.read_message.LogRead.TheVariants as read
 use Rattle.sled_core.specs.Reading.{GivesMessage, IsInline, IsNoPlace}
-use Rattle.sled_core.specs.ReadBuffer.{IsUsedUpAt, ReadAnswers, RefusesPlace, Settles, WritesAround, held_at}
+use Rattle.sled_core.specs.ReadBuffer.{IsUsedUpAt, ReadAnswers, RefusesPlace, Settles, held_at}
 use Rattle.sled_core.specs.Causes.{IsFault}
-use Rattle.sled_core.specs.Fits.{FirstWaits, HasRecordOf, current_begin, device_of, fault_of, machine_at, position_of, position_with, reserved_end}
-use Rattle.sled_core.specs.Fits.{segment_size_of, synced_end}
-use Rattle.sled_core.specs.Freeing.{Ledger}
-use Rattle.sled_core.proofs.PublicLaws.{first_waits, record_of_entry}
+use Rattle.sled_core.specs.Fits.{FirstWaits, HasRecordOf, current_begin, device_of, fault_of, reserved_end, segment_size_of, synced_end}
+use Rattle.sled_core.specs.Keeps.{KeepsLog}
+use Rattle.sled_core.proofs.PublicLaws.{first_waits, log_still, record_of_entry}
 use Rattle.sled_log.specs.Replaces.{HasLast}
 use Rattle.sled_log.proofs.PublicLaws.{table_has_last, table_has_page}
 use Rattle.ids.specs.Bounds.{IsLastBound, IsLastMessage}
@@ -148,20 +147,20 @@ module _ {D C : Type 0} (trace : D → Trace) (sum : List ℕ → ℕ) (lsn : �
           | inr place ↦ ap (λ x. trace (device_of x)) (refuses.unchanged (refuses.not_reserved idle.fault place (omega (arith, ints, up, end)) up))
         ]
 
-  -- The next record goes where it would have gone.
-  pub read_goes_on : (result : Result LogRead Error) → WritesAround sum result lsn old new → RefusesPlace result lsn (ptr.Inline lid) old new
-      → position_of new ≡ position_of old
-  read_goes_on result writes refuses = by (int_lt lsn (pos (synced_end old))) refl where
-    by : (b : Bool) → int_lt lsn (pos (synced_end old)) ≡ b → position_of new ≡ position_of old
-    by true is =
-        let still = writes.still (below_read lsn (pos (synced_end old)) is) in
-        still.3 (machine_at new) ∙ ap (λ (l : Ledger). position_with old l.machine) still.2
+  -- It keeps all that the log is.
+  pub read_keeps : (result : Result LogRead Error) → (lsn <ℤ pos (synced_end old) → KeepsLog trace sum old new) → RefusesPlace result lsn (ptr.Inline lid) old new
+      → KeepsLog trace sum old new
+  read_keeps result only refuses = by (int_lt lsn (pos (synced_end old))) refl where
+    still : new ≡ old → KeepsLog trace sum old new
+    still same = subst (λ (l : Log D C). KeepsLog trace sum old l) (sym same) (log_still trace sum old)
+    by : (b : Bool) → int_lt lsn (pos (synced_end old)) ≡ b → KeepsLog trace sum old new
+    by true is = only (below_read lsn (pos (synced_end old)) is)
     by false is =
         let end = idle.reserved in
         let up : pos (synced_end old) ≤ℤ lsn = not_below_read lsn (pos (synced_end old)) is in
         elim (no_place (segment_size_of old) lsn lid) [
-          | inl none ↦ ap position_of (refuses.no_place idle.fault none).1
-          | inr place ↦ ap position_of (refuses.unchanged (refuses.not_reserved idle.fault place (omega (arith, ints, up, end)) up))
+          | inl none ↦ still (refuses.no_place idle.fault none).1
+          | inr place ↦ still (refuses.unchanged (refuses.not_reserved idle.fault place (omega (arith, ints, up, end)) up))
         ]
 
   current_synced : current_begin old ≡ synced_end old

@@ -4,8 +4,8 @@ ghost use Rattle.sled_codec.specs.declared.result.Error.TheVariants.{Corruption}
 ghost use Rattle.sled_codec.specs.History.{History, Message};
 ghost use Rattle.sled_codec.specs.PageTables.{entry_of};
 ghost use Rattle.sled_codec.specs.Snapshots.{Present, model_of, page_of};
-ghost use Rattle.sled_core.specs.Fits.{device_of, fault_of, position_of, segment_size_of, synced_end};
-ghost use Rattle.sled_core.specs.Keeps.{KeepsWriting};
+ghost use Rattle.sled_core.specs.Fits.{device_of, fault_of, segment_size_of, synced_end};
+ghost use Rattle.sled_core.specs.Keeps.{KeepsLog, KeepsWriting};
 ghost use Rattle.sled_core.specs.Reading.{GivesMessage, IsInline};
 ghost use Rattle.ids.specs.Bounds.{HasBound, IsLastBound};
 ghost use Rattle.ids.specs.Readings.{AnswersBound, CountsFailure, FirstBelow, HasTable, HoldsAt, IsBoundBy, IsBoundIn, IsBoundRead, IsIdle, IsNumberIn, IsOpenError, IsReadErrorUnless, LiesBelow, file_of};
@@ -29,7 +29,7 @@ pub(crate) fn read_bound<D: Device, C: Checksum>(
     ensures only { KeepsWriting D.trace C.sum_of log.old log.new }
     ensures fault { OnOk result (fault_of log.old ≡ None → fault_of log.new ≡ None) }
     ensures unwritten { IsIdle log.old → D.trace (device_of log.new) ≡ D.trace (device_of log.old) }
-    ensures goes_on { IsIdle log.old → position_of log.new ≡ position_of log.old }
+    ensures kept { IsIdle log.old → KeepsLog D.trace C.sum_of log.old log.new }
     ensures known { IsIdle log.old → IfErr result (IsReadErrorUnless (FirstBelow (synced_end log.old) (model_of snapshot.now).pages)) }
     ensures answers { fault_of log.old ≡ None → CountsFailure result (D.faults (device_of log.old)) (D.faults (device_of log.new)) }
     ensures bound { AnswersBound result (IsBoundRead C.sum_of (segment_size_of log.old) (file_of D.trace log.new) (model_of snapshot.now).pages) }
@@ -53,7 +53,7 @@ fn read_page<D: Device, C: Checksum>(
     ensures only { KeepsWriting D.trace C.sum_of log.old log.new }
     ensures fault { OnOk result (fault_of log.old ≡ None → fault_of log.new ≡ None) }
     ensures unwritten { IsIdle log.old → D.trace (device_of log.new) ≡ D.trace (device_of log.old) }
-    ensures goes_on { IsIdle log.old → position_of log.new ≡ position_of log.old }
+    ensures kept { IsIdle log.old → KeepsLog D.trace C.sum_of log.old log.new }
     ensures known { IsIdle log.old → IfErr result (IsReadErrorUnless (LiesBelow (synced_end log.old) (page_of page.now))) }
     ensures answers { fault_of log.old ≡ None → CountsFailure result (D.faults (device_of log.old)) (D.faults (device_of log.new)) }
     ensures bound { AnswersBound result (IsBoundIn C.sum_of (segment_size_of log.old) (file_of D.trace log.new) (page_of page.now)) }
@@ -78,7 +78,7 @@ fn read_number<D: Device, C: Checksum>(
     ensures only { KeepsWriting D.trace C.sum_of log.old log.new }
     ensures fault { OnOk result (fault_of log.old ≡ None → fault_of log.new ≡ None) }
     ensures unwritten { IsIdle log.old → D.trace (device_of log.new) ≡ D.trace (device_of log.old) }
-    ensures goes_on { IsIdle log.old → position_of log.new ≡ position_of log.old }
+    ensures kept { IsIdle log.old → KeepsLog D.trace C.sum_of log.old log.new }
     ensures known { IsIdle log.old → IfErr result (IsReadErrorUnless (place <ℤ pos (synced_end log.old))) }
     ensures answers { fault_of log.old ≡ None → CountsFailure result (D.faults (device_of log.old)) (D.faults (device_of log.new)) }
     ensures bound { AnswersBound result (IsBoundBy C.sum_of (segment_size_of log.old) (file_of D.trace log.new) place pointer) }

@@ -81,7 +81,7 @@ pub use Rattle.sled_core.proofs.Crash.OwnBehind.{lost_behind, read_own}
 pub use Rattle.sled_core.proofs.Crash.OwnLemmas.{lost_own, nothing_own, synced_own, written_own, zeros_by_place, zeros_no_header}
 pub use Rattle.sled_core.proofs.Crash.OwnRecords.{out_of_order_own}
 -- Helpers: a call that does nothing, a reservation of an item that fits inline, and a call that goes on without a blob, by their clauses; the acknowledged end of what a log fits; and that an inline message may come.
-pub use Rattle.sled_core.proofs.Line.KeptCalls.{goes_on_still, none_failed, writing_still}
+pub use Rattle.sled_core.proofs.Line.KeptCalls.{goes_on_still, log_still, none_failed, writing_still}
 pub use Rattle.sled_core.proofs.Holds.ReachLemmas.{fits_acknowledged, inline_named}
 pub use Rattle.sled_core.proofs.Line.WithoutBlob.{alone_answers, alone_keeps, alone_same, without_further, without_none}
 pub use Rattle.sled_core.proofs.Line.ReservedInline.{ReservesInline, comes_inline, inline_keeps, inline_message, not_in_blob, refused_inline}

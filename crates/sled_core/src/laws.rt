@@ -26,9 +26,8 @@ ghost use Rattle.sled_core.specs.invariants.Fits.{Holds};
 ghost use Rattle.sled_codec.specs.Snapshots.{SnapshotModel, empty_model, stable_place};
 ghost use Rattle.sled_store.specs.Begin.{offset_at, place_at};
 ghost use Rattle.sled_codec.specs.Record.{IsHeader};
-ghost use Rattle.sled_core.specs.Account.{account_of};
 ghost use Rattle.sled_core.specs.HeaderMark.{mark_at};
-ghost use Rattle.sled_core.specs.Account.{account_behind};
+ghost use Rattle.sled_core.specs.Account.{account_behind, account_of};
 ghost use Rattle.sled_core.specs.Freeing.{Ledger};
 ghost use Rattle.sled_core.specs.Fronts.{synced_writes, syncs};
 ghost use Rattle.sled_core.specs.Grown.{GrowsFrom};
@@ -95,8 +94,7 @@ pub fn what_is_in_the_table_can_be_rewritten<D: Device, C: Checksum>()
         → Contains (table H (next_place log) page) m → NamesBlob m blob → IsNamedNow H blob }
 {}
 
-/// Of each entry of the table of all that there is no crash takes the item, and no write removes its blob, whether a pin is out or not:
-/// `items` of `PreservesWriting` speaks of it.
+/// Of each entry of the table of all that there is no crash takes the item, and no write its blob, with a pin or without (`items` of `PreservesWriting`).
 pub fn what_is_in_the_table_is_stored<D: Device, C: Checksum>()
     ensures stored { (log : Log D C) (H : History) (A f : ℕ) (U : List Message) (m : Message) → Fits D.trace C.sum_of log H A f U
         → Contains (table H (next_place log) m.page) m → IsStored D.trace C.sum_of log m }
@@ -125,12 +123,11 @@ pub fn written_messages_are_stable<D: Device, C: Checksum>()
     ensures { (log : Log D C) (H : History) → IsWritten D.trace C.sum_of log H → All (λ m. m.place + m.size ≤ synced_end log) H.messages }
 {}
 
-/// What is seen of the buffers of a log that aren't on the device: the current one, as it would be sealed, lies behind the
-/// sealed ones, from where it begins up to where it ends once it is sealed, and so it does where a reservation fills its
-/// segment; each has as many bytes as places, and unless it is held up it is whole records, each with its sum and of a kind
-/// that a reader knows, and those of messages that were given up with the bodies of these; none but what fills the segment
-/// ends it, from where the log has it, or the current one from where what was reserved ends; one that begins its segment
-/// has the header that the log has for that, and the mark of that header, and another one has no mark.
+/// What is seen of the buffers of a log that aren't on the device: the current one, as it would be sealed, lies behind the sealed ones, from where it begins up
+/// to where it ends once it is sealed, and so it does where a reservation fills its segment; each has as many bytes as places, and unless it is held up it is
+/// whole records, each with its sum and of a kind that a reader knows, and those of messages that were given up with the bodies of these; none but what fills
+/// the segment ends it, from where the log has it, or the current one from where what was reserved ends; one that begins its segment has the header that the
+/// log has for that, and the mark of that header, and another one has no mark.
 pub fn a_log_shows_its_buffers<D: Device, C: Checksum>()
     ensures current { (log : Log D C) → 0 < held_len log
         → spans (buffers_of C.sum_of log)
@@ -150,10 +147,9 @@ pub fn where_none_is_open_none_is_held<D: Device, C: Checksum>()
     ensures flush { (log : Log D C) → NoneOpen log → holding_below C.sum_of log (reserved_end log) ≡ None }
 {}
 
-/// The places of the open reservations of a log say what is seen of them: there are none exactly where none is open; a buffer
-/// that isn't on the device, the current one as it would be sealed, is held up by the first of them within it; those from
-/// where the current buffer begins on are its own: as many as it has open ones, and the first is the least place of these;
-/// and a ticket is for one of them.
+/// The places of the open reservations of a log say what is seen of them: there are none exactly where none is open; a buffer that isn't on the device, the
+/// current one as it would be sealed, is held up by the first of them within it; those from where the current buffer begins on are its own: as many as it has
+/// open ones, and the first is the least place of these; and a ticket is for one of them.
 pub fn open_reservations_are_seen<D: Device, C: Checksum>()
     ensures none { (log : Log D C) → NoneOpen log ↔ (open_places log ≡ []) }
     ensures held { (log : Log D C) → All (λ b. b.held ≡ first_between b.place b.end (open_places log)) (buffers_of C.sum_of log) }
@@ -289,9 +285,8 @@ pub fn a_crash_now_loses_nothing<D: Device, C: Checksum>()
         → LeavesRecoverable C.sum_of (segment_size_of log) H A f (state_of (D.trace (device_of log))) }
 {}
 
-/// What two calls keep one behind the other both of them keep, and where nothing is done all is kept. So it is with calls that write,
-/// behind which segments may come free: two in a row keep what one does, and one that frees nothing keeps at least that, where no
-/// blob goes with a segment that didn't.
+/// What two calls keep one behind the other both of them keep, and where nothing is done all is kept. So it is with calls that write, behind which segments may
+/// come free: two in a row keep what one does, and one that frees nothing keeps at least that, where no blob goes with a segment that didn't.
 pub fn calls_keep_together<D: Device, C: Checksum>()
     ensures none { (log : Log D C) → Preserves D.trace C.sum_of log log }
     ensures both { (old mid new : Log D C) → Preserves D.trace C.sum_of old mid → Preserves D.trace C.sum_of mid new → Preserves D.trace C.sum_of old new }
@@ -303,8 +298,7 @@ pub fn calls_keep_together<D: Device, C: Checksum>()
         → KeepsWriting D.trace C.sum_of old new }
 {}
 
-/// The greatest place that was reserved lies in nothing that fills a segment, so a batch may end there; and the batches that
-/// are noted end at or below it.
+/// The greatest place that was reserved lies in nothing that fills a segment, so a batch may end there; and the batches that are noted end at or below it.
 pub fn batches_end_in_what_was_reserved<D: Device, C: Checksum>()
     ensures filled { (log : Log D C) → LiesInNoFilling (segment_size_of log) (line_of log) (pos (reserved_end log) -ℤ pos 1) }
     ensures noted { (log : Log D C) (b : Batch) → Contains (noted_in log) b → b.peg < reserved_end log }
@@ -351,9 +345,8 @@ pub fn what_was_in_a_table_keeps_its_record<D: Device, C: Checksum>()
         → Contains (table H cut m.page) m → HasRecordOf new H' m }
 {}
 
-/// The history of a log grows as that law asks (`GrowsFrom`), call by call. What a ticket awaits lies at the mark or above it, so each
-/// message that is completed may come, but a Free in front of a Link of its page; a batch brings no message; and it grows so by what both
-/// of two calls do.
+/// The history of a log grows as that law asks (`GrowsFrom`), call by call. What a ticket awaits lies at the mark or above it, so each message that is
+/// completed may come, but a Free in front of a Link of its page; a batch brings no message; and it grows so by what both of two calls do.
 pub fn a_history_grows_from_the_mark<D: Device, C: Checksum>()
     ensures awaited { (log : Log D C) (H : History) (ticket : Reservation) (m : Message) → Holds D.trace C.sum_of log H → Awaits log ticket m
         → (account_of log).mark ≤ℤ pos m.place }
@@ -380,8 +373,7 @@ pub fn moments_follow_one_another<C: Checksum>()
     ensures later { (size : ℕ) (H : History) (A f : ℕ) (old new : Trace) → LeavesOnly (RecoverableIfOwn C.sum_of size H A f) old new → IsLater old new }
 {}
 
-/// A log can be started on an empty device, with nothing in its history, and a recovery can go on from what a
-/// crash leaves of it.
+/// A log can be started on an empty device, with nothing in its history, and a recovery can go on from what a crash leaves of it.
 pub fn an_empty_device_is_ready<C: Checksum>()
     ensures ready { (size : ℕ) → 256 ≤ size → size < 2 ^ 63 → Ready C.sum_of size fresh empty_model no_history 0 0 }
     ensures leaves { (size : ℕ) → 256 ≤ size → size < 2 ^ 63 → LeavesRecoverable C.sum_of size no_history 0 0 fresh }
@@ -391,8 +383,7 @@ pub fn an_empty_device_is_ready<C: Checksum>()
         → IsReady C.sum_of size device empty_model no_history }
 {}
 
-/// What a crash leaves can be recovered, and so can what the next crash leaves; and what is read behind a
-/// crash is the log's own.
+/// What a crash leaves can be recovered, and so can what the next crash leaves; and what is read behind a crash is the log's own.
 pub fn a_crash_leaves_what_can_be_recovered<C: Checksum>()
     ensures now { (size : ℕ) (H : History) (A f : ℕ) (trace : Trace) → LeavesRecoverable C.sum_of size H A f (state_of trace)
         → ReadsOnlyOwn C.sum_of size (state_of trace) → Recoverable C.sum_of size (content_of (state_of trace)) H A f }

@@ -258,7 +258,8 @@ impl<D: Device, C: Checksum> Log<D, C> {
     /// buffer that has it is written first, unless it is on the device: the current one is sealed for that, and no other
     /// buffer is written. Returns what stands there. A message has its record as long as it is of a segment that isn't wholly
     /// on the device, or a table from the mark on that joined needs it; else its slot may be free or another segment's, or cut off.
-    /// Where no pin is out segments may come free behind that write, and blobs go, as in each call that writes.
+    /// Where no pin is out segments may come free behind that write, and blobs go, as in each call that writes. Of a stable place
+    /// nothing is written, and the log keeps all that it is.
     ///
     /// Of a message whose item is a blob that blob alone is read, and the place that counts is the blob's: a negative one is
     /// before all. Its header has the blob's kind, this page, the number of the segment of this place, and 0 for checksum and
@@ -295,6 +296,7 @@ impl<D: Device, C: Checksum> Log<D, C> {
         ensures buffers { let at = place_read lsn ptr in SealsAround result at self.old self.new × WritesAround C.sum_of result at self.old self.new
             × OnErr result (CameAround D.trace C.sum_of at self.old self.new) }
         ensures keeps { KeepsWriting D.trace C.sum_of self.old self.new }
+        ensures only { place_read lsn ptr <ℤ pos (synced_end self.old) → KeepsLog D.trace C.sum_of self.old self.new }
         ensures answers { let blobs = (state_of (D.trace (device_of self.new))).blobs.file in let at = place_read lsn ptr in
             ReadAnswers C.sum_of blobs ptr result at (synced_end self.old) (reserved_end self.old) (held_at C.sum_of self.old at) (IsUsedUpAt self.old at)
             (fault_of self.old) (fault_of self.new) (D.faults (device_of self.old)) (D.faults (device_of self.new)) }

@@ -2,7 +2,7 @@ use Rattle.std.proofs.Common.{◌≡◌, Some, ◌∙◌, ap, List}
 use Rattle.std.specs.List.{slice_get}
 use Rattle.sled_codec.specs.declared.serialization.snapshot.PageState.{PageState}
 use Rattle.sled_core.specs.Fits.{segment_size_of, synced_end}
-use Rattle.sled_core.proofs.PublicLaws.{writing_still}
+use Rattle.sled_core.proofs.PublicLaws.{log_still, writing_still}
 use Rattle.ids.specs.Readings.{file_of}
 use Rattle.ids.proofs.FirstPlaces.{first_lies}
 use Rattle.ids.proofs.FoundBounds.{answers_first, answers_zero}
@@ -15,6 +15,9 @@ returns-in-None-clause-found g c = λ H cut has. none_found g.D.Device.trace g.C
 
 pub returns-in-None-clause-only : goal.returns-in-None-clause-only
 returns-in-None-clause-only g c = writing_still g.D.Device.trace g.C.Checksum.sum_of c.args.log.now
+
+pub returns-in-None-clause-kept : goal.returns-in-None-clause-kept
+returns-in-None-clause-kept g c = λ idle. log_still g.D.Device.trace g.C.Checksum.sum_of c.args.log.now
 
 pub returns-in-None-clause-bound : goal.returns-in-None-clause-bound
 returns-in-None-clause-bound g c = answers_zero g.C.Checksum.sum_of (segment_size_of c.args.log.now) (file_of g.D.Device.trace c.args.log.now) c.args.snapshot.now.pt.items

@@ -7,14 +7,17 @@ use Rattle.sled_store.specs.Device.{State, state_of}
 use Rattle.sled_core.specs.Fits.{device_of, segment_size_of, synced_end}
 use Rattle.sled_core.specs.ReadPointer.{IsDamageAt}
 use Rattle.sled_core.specs.Reading.{IsNoPlace, IsReading}
-use Rattle.sled_core.proofs.PublicLaws.{writing_still}
+use Rattle.sled_core.proofs.PublicLaws.{log_still, writing_still}
 use Rattle.ids.specs.Readings.{AnswersBound, IsBoundBy, IsOpenError, IsReadErrorUnless}
 use Rattle.ids.proofs.FoundBounds.{answers_none, answers_read}
-use Rattle.ids.proofs.ReadLemmas.{counts_damage, damage_known, no_error, no_reason, none_holds, on_ok, read_counts, read_fails, read_goes_on, read_known, read_unwritten, record_there}
+use Rattle.ids.proofs.ReadLemmas.{counts_damage, damage_known, no_error, no_reason, none_holds, on_ok, read_counts, read_fails, read_keeps, read_known, read_unwritten, record_there}
 use Rattle.ids.proofs.reading.read_number.Goals as goal
 
 pub returns-in_default-clause-only : goal.returns-in_default-clause-only
 returns-in_default-clause-only g c = writing_still g.D.Device.trace g.C.Checksum.sum_of c.args.log.now
+
+pub returns-in_default-clause-kept : goal.returns-in_default-clause-kept
+returns-in_default-clause-kept g c = λ idle. log_still g.D.Device.trace g.C.Checksum.sum_of c.args.log.now
 
 -- The message was read.
 
@@ -40,10 +43,9 @@ returns-in-Ok-clause-fault g c = on_ok _ c.number_in.result (λ free. c.in-Ok.en
 pub returns-in-Ok-clause-answers : goal.returns-in-Ok-clause-answers
 returns-in-Ok-clause-answers g c = λ free. counts_damage c.number_in.result _ _ c.number_in.ensures.damage c.in-Ok.ensures.answers.5
 
-pub returns-in-Ok-clause-goes_on : goal.returns-in-Ok-clause-goes_on
-returns-in-Ok-clause-goes_on g c = λ idle.
-    read_goes_on g.D.Device.trace g.C.Checksum.sum_of _ c.in-Inline.lid c.args.log.now c.read.new.self idle (Ok c.in-Ok.read) c.in-Ok.ensures.buffers.1
-    c.in-Ok.ensures.refused
+pub returns-in-Ok-clause-kept : goal.returns-in-Ok-clause-kept
+returns-in-Ok-clause-kept g c = λ idle.
+    read_keeps g.D.Device.trace g.C.Checksum.sum_of _ c.in-Inline.lid c.args.log.now c.read.new.self idle (Ok c.in-Ok.read) c.in-Ok.ensures.only c.in-Ok.ensures.refused
 
 pub returns-in-Ok-clause-unwritten : goal.returns-in-Ok-clause-unwritten
 returns-in-Ok-clause-unwritten g c = λ idle. read_unwritten g.D.Device.trace g.C.Checksum.sum_of _ c.in-Inline.lid c.args.log.now c.read.new.self idle (Ok c.in-Ok.read) c.in-Ok.ensures.calls c.in-Ok.ensures.refused
@@ -68,10 +70,9 @@ returns-in-Err-clause-errors g c = λ H m cut n holds place pointer.
 pub returns-in-Err-clause-answers : goal.returns-in-Err-clause-answers
 returns-in-Err-clause-answers g c = λ free. read_counts g.C.Checksum.sum_of _ c.in-Inline.lid _ _ _ _ _ _ _ _ _ c.in-Err.e free c.in-Err.ensures.answers
 
-pub returns-in-Err-clause-goes_on : goal.returns-in-Err-clause-goes_on
-returns-in-Err-clause-goes_on g c = λ idle.
-    read_goes_on g.D.Device.trace g.C.Checksum.sum_of _ c.in-Inline.lid c.args.log.now c.read.new.self idle (Err c.in-Err.e) c.in-Err.ensures.buffers.1
-    c.in-Err.ensures.refused
+pub returns-in-Err-clause-kept : goal.returns-in-Err-clause-kept
+returns-in-Err-clause-kept g c = λ idle.
+    read_keeps g.D.Device.trace g.C.Checksum.sum_of _ c.in-Inline.lid c.args.log.now c.read.new.self idle (Err c.in-Err.e) c.in-Err.ensures.only c.in-Err.ensures.refused
 
 pub returns-in-Err-clause-unwritten : goal.returns-in-Err-clause-unwritten
 returns-in-Err-clause-unwritten g c = λ idle. read_unwritten g.D.Device.trace g.C.Checksum.sum_of _ c.in-Inline.lid c.args.log.now c.read.new.self idle (Err c.in-Err.e) c.in-Err.ensures.calls c.in-Err.ensures.refused

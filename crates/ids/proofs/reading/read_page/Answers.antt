@@ -5,7 +5,7 @@ use Rattle.sled_codec.specs.declared.result.Error.TheVariants.{Corruption}
 use Rattle.sled_codec.specs.Snapshots.{Entry, page_of}
 use Rattle.sled_core.specs.Fits.{segment_size_of, synced_end}
 use Rattle.std.specs.Prelude.{IfErr}
-use Rattle.sled_core.proofs.PublicLaws.{writing_still}
+use Rattle.sled_core.proofs.PublicLaws.{log_still, writing_still}
 use Rattle.ids.specs.Readings.{AnswersBound, IsBoundBy, IsBoundIn, IsReadErrorUnless, LiesBelow, file_of}
 use Rattle.ids.proofs.FoundBounds.{answers_free}
 use Rattle.ids.proofs.ReadLemmas.{same_base}
@@ -25,6 +25,9 @@ returns-in-Present-clause-errors g c = λ H m cut n holds is.
 
 pub returns-in-Free-clause-only : goal.returns-in-Free-clause-only
 returns-in-Free-clause-only g c = writing_still g.D.Device.trace g.C.Checksum.sum_of c.args.log.now
+
+pub returns-in-Free-clause-kept : goal.returns-in-Free-clause-kept
+returns-in-Free-clause-kept g c = λ idle. log_still g.D.Device.trace g.C.Checksum.sum_of c.args.log.now
 
 pub returns-in-Present-clause-known : goal.returns-in-Present-clause-known
 returns-in-Present-clause-known g c = λ idle.

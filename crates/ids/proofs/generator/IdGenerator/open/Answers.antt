@@ -168,7 +168,7 @@ returns-in-Ok-read_bound-clause-acts g c =
     let still = pinned ∙ c.read_bound.ensures.unwritten (begins_idle _ _ s log begins) in
     let bound = subst (λ (t : Trace). IsBoundRead sum (segment_size_of log) (state_of t).log.bytes s.pages c.in-Ok-read_bound.bound) (sym pinned) c.in-Ok-read_bound.ensures.bound in (
       was_opened sum size config.config.segment_size same (trace c.args.config.device) (trace config.device) (trace (device_of c.pin-guard.new.self)) s c.in-Ok.ensures.ok (still ∙ c.in-Ok-start.ensures.made) answers.0 answers.1
-          (segment_size_of log) c.in-Ok-read_bound.bound (begins.sized ∙ same) bound _ (ap position_of c.pin-guard.ensures.taken ∙ c.read_bound.ensures.goes_on (begins_idle _ _ s log begins) ∙ begins.position),
+          (segment_size_of log) c.in-Ok-read_bound.bound (begins.sized ∙ same) bound _ (ap position_of c.pin-guard.ensures.taken ∙ (c.read_bound.ensures.kept (begins_idle _ _ s log begins)).position.position ∙ begins.position),
       ap (λ x. faults (device_of x)) c.pin-guard.ensures.taken ∙ c.in-Ok-read_bound.ensures.answers begins.fault ∙ answers.2 ∙ c.in-Ok.ensures.answers,
     )
 

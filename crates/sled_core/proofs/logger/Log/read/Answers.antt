@@ -20,7 +20,7 @@ use Rattle.sled_core.specs.declared.logger.Log.{Log}
 use Rattle.sled_core.specs.declared.logger.read_message.LogRead.{LogRead}
 use Rattle.sled_core.specs.Fits.{HasRecordOf, device_of, fault_of, next_place, reserved_end, segment_size_of, synced_end}
 use Rattle.sled_core.specs.Freeing.{Ledger}
-use Rattle.sled_core.specs.Keeps.{HoldsFast}
+use Rattle.sled_core.specs.Keeps.{HoldsFast, KeepsLog}
 use Rattle.sled_core.specs.invariants.Fits.{Holds}
 use Rattle.sled_core.specs.LogFile.{MessageStands}
 use Rattle.sled_core.specs.Fronts.{CameAround}
@@ -31,7 +31,7 @@ use Rattle.sled_core.specs.Running.{IsStored}
 use Rattle.sled_core.specs.inside.Recoverable.{HasItem}
 use Rattle.sled_core.specs.ReadPointer.{GivesBlob, IsStableBlob, place_read}
 use Rattle.sled_core.specs.inside.ReadPointer.{IsDamageOf}
-use Rattle.sled_core.proofs.Line.KeptCalls.{holds_fast, log_writing, spared_same, writing_further, writing_still}
+use Rattle.sled_core.proofs.Line.KeptCalls.{holds_fast, log_still, log_writing, spared_same, writing_further, writing_still}
 use Rattle.sled_core.proofs.Line.Advanced.{same_current}
 use Rattle.sled_core.proofs.Line.CameFar.{around_none, came_behind, seals_none, still_around}
 use Rattle.sled_core.proofs.Line.BlobReads.{gives_read, item_read, reads_stable, stable_begins, stable_stored}
@@ -67,6 +67,9 @@ returns-in-Some-clause-calls g c = record { made = tt; damaged = λ is. absurd i
 
 pub returns-in-Some-clause-keeps : goal.returns-in-Some-clause-keeps
 returns-in-Some-clause-keeps g c = writing_still g.D.Device.trace g.C.Checksum.sum_of c.args.self.now
+
+pub returns-in-Some-clause-only : goal.returns-in-Some-clause-only
+returns-in-Some-clause-only g c = λ _. log_still g.D.Device.trace g.C.Checksum.sum_of c.args.self.now
 
 pub returns-in-Some-clause-buffers : goal.returns-in-Some-clause-buffers
 returns-in-Some-clause-buffers g c = nothing_sealed g.D.Device.trace g.C.Checksum.sum_of c.args.self.now (place_read c.args.lsn c.args.ptr) (Io c.in-Some.e) (λ held. held)
@@ -116,6 +119,9 @@ returns-then-lsn-lt0-clause-buffers g c = nothing_sealed g.D.Device.trace g.C.Ch
 
 pub returns-then-lsn-lt0-clause-keeps : goal.returns-then-lsn-lt0-clause-keeps
 returns-then-lsn-lt0-clause-keeps g c = writing_still g.D.Device.trace g.C.Checksum.sum_of c.args.self.now
+
+pub returns-then-lsn-lt0-clause-only : goal.returns-then-lsn-lt0-clause-only
+returns-then-lsn-lt0-clause-only g c = λ _. log_still g.D.Device.trace g.C.Checksum.sum_of c.args.self.now
 
 -- The place is one.
 
@@ -200,6 +206,14 @@ returns-in_err-settle_at-clause-buffers g c =
       around_err (place_read c.args.lsn c.args.ptr) old mid sum c.in_err-settle_at.field-0.0 (subst (λ z. WritesAround {T = Unit {0}} sum (Err c.in_err-settle_at.field-0.0) z old mid) at c.in_err-settle_at.ensures.buffers.0),
       subst (λ z. CameAround g.D.Device.trace sum z old mid) at c.in_err-settle_at.ensures.buffers.1,
     )
+
+pub returns-in_err-settle_at-clause-only : goal.returns-in_err-settle_at-clause-only
+returns-in_err-settle_at-clause-only g c = λ below.
+    let trace = g.D.Device.trace in
+    let sum = g.C.Checksum.sum_of in
+    let old = c.args.self.now in
+    let low = subst (λ z. z <ℤ pos (synced_end old)) (sym (at_err g c)) below in
+    subst (λ (l : Log g.row.D.Denot g.row.C.Denot). KeepsLog trace sum old l) (sym (c.settle_at.ensures.still low)) (log_still trace sum old)
 
 pub returns-in_err-settle_at-clause-answers : goal.returns-in_err-settle_at-clause-answers
 returns-in_err-settle_at-clause-answers g c =
@@ -313,6 +327,15 @@ returns-clause-keeps g c =
     writing_further g.D.Device.trace g.C.Checksum.sum_of c.args.self.now mid new c.settle_at.ensures.keeps
     (log_writing g.D.Device.trace g.C.Checksum.sum_of mid new c.read_settled.ensures.keeps
     (spared_same mid new (ap (λ (l : Ledger). l.machine) c.read_settled.ensures.ledger) c.read_settled.ensures.keeps.position.pins))
+
+-- where the place is stable nothing was written before the device was read
+pub returns-clause-only : goal.returns-clause-only
+returns-clause-only g c = λ below.
+    let trace = g.D.Device.trace in
+    let sum = g.C.Checksum.sum_of in
+    let old = c.args.self.now in
+    let low = subst (λ z. z <ℤ pos (synced_end old)) (sym (at_ok g c)) below in
+    subst (λ (l : Log g.row.D.Denot g.row.C.Denot). KeepsLog trace sum l c.read_settled.new.self) (c.settle_at.ensures.still low) c.read_settled.ensures.keeps
 
 -- the answer of the settling
 ok_at : (g : given.Over) (c : goal.After-read_settled g) → SettleAnswers {T = Unit {0}} (Ok tt) (place_read c.args.lsn c.args.ptr) (synced_end c.args.self.now) (reserved_end c.args.self.now) (held_at g.C.Checksum.sum_of c.args.self.now (place_read c.args.lsn c.args.ptr))

@@ -215,7 +215,7 @@ returns-clause-seals g c =
     let first = seals g c in
     let then = c.write_around.ensures in
     let lower = first.lower in
-    let begin : current_begin c.write_around.new.self ≡ current_begin c.if-place-current_begin.self = ap (λ (s : BufferStart). s.place) then.start in
+    let begin : current_begin c.write_around.new.self ≡ current_begin c.if-place-current_begin.self = ap (λ (s : BufferStart). s.place) then.start.0 in
     record {
       still = λ below. absurd (omega (arith, ints, below, c.if-place-synced_end.false, c.synced_end.ensures.is));
       apart = λ below. begin ∙ first.apart (omega (arith, ints, below));
@@ -228,9 +228,9 @@ pub returns-clause-buffers : goal.returns-clause-buffers
 returns-clause-buffers g c =
     let did = c.write_around.ensures in
     let r = c.write_around.result in (
-      writes_around g.D.Device.trace g.C.Checksum.sum_of c.args.place c.args.self.now c.if-place-current_begin.self (seals g c) c.write_around.new.self did.start did.position r
+      writes_around g.D.Device.trace g.C.Checksum.sum_of c.args.place c.args.self.now c.if-place-current_begin.self (seals g c) c.write_around.new.self did.start.0 did.start.1 r
           (omega (arith, c.if-place-synced_end.false, c.synced_end.ensures.is)) (on_ok_both r _ _ _ (λ left ledger. (left, ledger)) did.without did.ledger) did.same (held_sound r _ _ _ _ _ did.answers) did.segment,
-      on_err r _ _ (came_sealed g.D.Device.trace g.C.Checksum.sum_of c.args.place c.args.self.now c.if-place-current_begin.self (seals g c) c.write_around.new.self did.start did.position) did.same,
+      on_err r _ _ (came_sealed g.D.Device.trace g.C.Checksum.sum_of c.args.place c.args.self.now c.if-place-current_begin.self (seals g c) c.write_around.new.self did.start.0 did.start.1) did.same,
     )
 
 -- The mark that joins isn't above what was synced.

@@ -200,11 +200,13 @@ pub returns-clause-start : goal.returns-clause-start
 returns-clause-start g c =
     let old = c.args.self.now in
     let new = c.write_buffer.new.self in
-    let looked = looked g c.before in
-    elim (left_line g c) [
-      | inl same ↦ (same_buffers old new same).1
-      | inr wrote ↦ written_starts old new (segment_size_of old) c.segment_of-n.result looked.segment c.around-k.result.0 looked.among wrote
-    ]
+    let looked = looked g c.before in (
+      elim (left_line g c) [
+        | inl same ↦ (same_buffers old new same).1
+        | inr wrote ↦ written_starts old new (segment_size_of old) c.segment_of-n.result looked.segment c.around-k.result.0 looked.among wrote
+      ],
+      c.write_buffer.ensures.position,
+    )
 
 pub returns-clause-without : goal.returns-clause-without
 returns-clause-without g c =
