@@ -60,15 +60,14 @@ pub record WroteFront {D C : Type 0} (trace : D → Trace) (sum : List ℕ → �
   pub left : waiting_of new ≡ drop count (sealed_for sum to old)
   pub start : start_of new ≡ start_for to old
   pub position : (m : Machine) → position_with new m ≡ position_for to old m
-  -- the marks of all that were written count, and slots are as behind these: or the step behind the last one failed, that began with those behind the others
+  -- the marks of all that were written count; and slots are as behind these, and not all is written that begins below the place: or the step behind the last
+  -- one failed, that began with those behind the others
   pub ledger : (account_of new ≡ (ledger_behind (segment_size_of old) (take count (sealed_for sum to old)) (ledger_for to old)).account)
-      × ((machine_at new ≡ (ledger_behind (segment_size_of old) (take count (sealed_for sum to old)) (ledger_for to old)).machine)
+      × (((machine_at new ≡ (ledger_behind (segment_size_of old) (take count (sealed_for sum to old)) (ledger_for to old)).machine) × (synced_end new < to))
       ⊎ (FailedStep old new × (0 < count)
       × IsOnTheWay trace new (ledger_behind (segment_size_of old) (take (count - 1) (sealed_for sum to old)) (ledger_for to old)).machine))
   pub written : synced_writes (trace (device_of new)) ≡ count + synced_writes (trace (device_of old))
   pub whole : fault_of new ≡ None → trace (device_of new) ≡ after_all (writing_some count sum old to) (trace (device_of old))
-  -- not all is written that begins below the place, or it failed behind one that was written
-  pub short : (FailedStep old new × (0 < count)) ⊎ (synced_end new < to)
 
 -- One of these buffers was written, and the accountant's step behind it failed.
 pub record WroteThenFailed {D C : Type 0} (trace : D → Trace) (bs left : List BufferAt) (old new : Log D C) : Type 0 where

@@ -5,29 +5,32 @@ use Rattle.sled_codec.specs.declared.result.Error.{Error}
 use Rattle.sled_codec.specs.declared.result.Error.TheVariants.{OutOfMemory}
 use Rattle.sled_codec.specs.declared.serialization.message.LogKind.TheVariants as does
 use Rattle.sled_codec.specs.History.{Message}
-use Rattle.sled_store.specs.Device.{Event}
-use Rattle.sled_core.specs.Account.{account_behind}
+use Rattle.sled_store.specs.SegmentStates.{Machine}
+use Rattle.sled_core.specs.Account.{Account, account_behind}
+use Rattle.sled_core.specs.Ledger.{ledger_behind}
 use Rattle.sled_core.specs.ReadPointer.{place_read}
-use Rattle.sled_core.specs.Waiting.{BufferAt, Span, one_around, write_around}
+use Rattle.sled_core.specs.Waiting.{BufferAt, Span, free_around, one_around}
 use Rattle.sled_log.specs.declared.session.command.Reply.{Reply}
 use Rattle.sled_log.specs.declared.session.command.Reply.TheVariants as reply
 use Rattle.sled_log.specs.RunStates.{DeviceView, EndsInReach, LogView, RunState, held, is_present, opens, sealed_around, spans_place, spans_without}
 use Rattle.sled_log.specs.RunStates.{start_around, with_log}
-use Rattle.sled_log.specs.WriteSteps.{Fails, IfHeld, KeepsFailing, LeavesLog, Writes, WritesSome, view_flushed}
+use Rattle.sled_log.specs.RunSlots.{ledger_around, ledger_in, position_around, position_over}
+use Rattle.sled_log.specs.WriteSteps.{Fails, IfHeld, KeepsFailing, LeavesLog, StepFailed, Writes, WritesSome, view_flushed}
 
 -- the place that a read of a message brings to the device: its own, or that of its blob
 abbrev pub read_at : Message → ℕ
 read_at m = unsigned_abs (place_read (pos m.place) m.pointer)
 
--- the log once the buffer of a place, which is one of these, is on the device, where the place wasn't stable; the calls that bring it there; and what holds
--- that buffer up
-abbrev pub read_around : LogView → ℕ → List BufferAt → LogView
-read_around l at bs =
+-- the log once the buffer of a place, which is one of these, is on the device, where the place wasn't stable; the one that is written for that; and what
+-- holds that buffer up
+abbrev pub read_around : ℕ → LogView → ℕ → List BufferAt → LogView
+read_around size l at bs =
     if nat_lt at l.synced then l
-    else view_flushed l (spans_without at (sealed_around at l)) (start_around at l) l.fault (account_behind (one_around at bs) l.account)
+    else view_flushed l (spans_without at (sealed_around at l)) (start_around at l) l.fault (ledger_behind size (one_around at bs) (ledger_around at l))
+    (position_around size at l)
 
-abbrev pub reading_around : LogView → ℕ → List BufferAt → List Event
-reading_around l at bs = if nat_lt at l.synced then [] else write_around at bs
+abbrev pub chosen_around : LogView → ℕ → List BufferAt → List BufferAt
+chosen_around l at bs = if nat_lt at l.synced then [] else free_around at bs
 
 abbrev pub held_around_place : List ℕ → ℕ → List Span → Option ℕ
 held_around_place places at [] = None
@@ -39,25 +42,32 @@ holding_read l at = if nat_lt at l.synced then None else held_around_place (open
 -- The buffer with a place is on the device: it was written, where the place wasn't stable.
 pub record ReadsAt (sum : List ℕ → ℕ) (size : ℕ) (l : LogView) (at : ℕ) (old new : DeviceView) : Type 0 where
   pub free : holding_read l at ≡ None
-  pub writes : Writes sum size l (sealed_around at l) (reading_around l at) old new
+  pub writes : Writes sum size l (sealed_around at l) (chosen_around l at) (ledger_around at l) old new
   pub failures : new.failures ≡ old.failures
 
 -- These messages were read, one behind another, and lead from one log to another.
 abbrev pub ReadsAll : (List ℕ → ℕ) → ℕ → LogView → List Message → DeviceView → DeviceView → LogView → Type 0
 ReadsAll sum size l [] old new end = (new.trace ≡ old.trace) × (new.failures ≡ old.failures) × (end ≡ l)
 ReadsAll sum size l (m ∷ ms) old new end =
-    (mid : DeviceView) × (reads : ReadsAt sum size l (read_at m) old mid) × ReadsAll sum size (read_around l (read_at m) reads.writes.buffers) ms mid new end
+    (mid : DeviceView) × (reads : ReadsAt sum size l (read_at m) old mid) × ReadsAll sum size (read_around size l (read_at m) reads.writes.buffers) ms mid new end
 
 -- A read of a place failed: the buffer that has it is sealed, or isn't and the read wasn't held up, and it isn't written: where it is the current one that
--- isn't sealed, the device didn't fail. Or nothing held it up and it is written, and what it has wasn't read.
+-- isn't sealed, the device didn't fail. Or nothing held it up and it is written: what it has wasn't read, or the accountant's step behind the write failed.
 abbrev pub FailsAt : (List ℕ → ℕ) → ℕ → RunState → LogView → ℕ → Error → DeviceView → DeviceView → RunState → Type 0
 FailsAt sum size a l at e old new b =
     Fails l e (holding_read l at) ((l.start.place ≤ at) × (EndsInReach size l.position → ⊥)) old new (λ fault.
-    (WritesSome sum size l (sealed_around at l) (reading_around l at) 0 e fault old new
-    × ((IfHeld e ⊥ × LeavesLog a l new b l.waiting l.start fault l.account × (l.start.place ≤ at → fault ≡ None))
-    ⊎ LeavesLog a l new b (sealed_around at l) (start_around at l) fault l.account))
-    ⊎ ((holding_read l at ≡ None) × (writes : Writes sum size l (sealed_around at l) (reading_around l at) old new)
-    × LeavesLog a l new b (spans_without at (sealed_around at l)) (start_around at l) fault (account_behind (one_around at writes.buffers) l.account)))
+    (WritesSome sum size l (sealed_around at l) (chosen_around l at) (ledger_around at l) 0 e fault old new
+    × ((IfHeld e ⊥ × LeavesLog a l new b l.waiting l.start fault (ledger_in l) (position_over size l) × (l.start.place ≤ at → fault ≡ None))
+    ⊎ LeavesLog a l new b (sealed_around at l) (start_around at l) fault (ledger_around at l) (position_around size at l)))
+    ⊎ ((holding_read l at ≡ None) × (writes : Writes sum size l (sealed_around at l) (chosen_around l at) (ledger_around at l) old new)
+    × LeavesLog a l new b (spans_without at (sealed_around at l)) (start_around at l) fault
+    (ledger_behind size (one_around at writes.buffers) (ledger_around at l)) (position_around size at l))
+    ⊎ ((holding_read l at ≡ None)
+    × (some : WritesSome sum size l (sealed_around at l) (chosen_around l at) (ledger_around at l) 1 e fault old new)
+    × (account : Account) × (account ≡ account_behind (one_around at some.buffers) l.account)
+    × (left : Machine) × StepFailed size l account.mark (ledger_around at l).machine left fault new.trace
+    × LeavesLog a l new b (spans_without at (sealed_around at l)) (start_around at l) fault (record { machine = left; account = account })
+    (position_around size at l)))
 
 -- Some messages of a page were read, and the next one was not.
 pub record ReadStops (sum : List ℕ → ℕ) (size : ℕ) (a : RunState) (l : LogView) (ms : List Message) (e : Error) (new : DeviceView) (b : RunState) : Type 0 where

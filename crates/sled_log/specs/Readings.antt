@@ -48,7 +48,7 @@ abbrev pub IsItem : {D C : Type 0} → (D → DeviceView) → (List ℕ → ℕ)
     → Result (Vec ℕ Global) Error → Type 0
 IsItem view sum old l m new l' (Ok item) =
     (item.items ≡ m.bytes) × (l.fault ≡ None) × (reads : ReadsAt sum (segment_size_of old) l (read_at m) (view (device_of old)) (view (device_of new)))
-    × (l' ≡ read_around l (read_at m) reads.writes.buffers)
+    × (l' ≡ read_around size l (read_at m) reads.writes.buffers)
 IsItem view sum old l m new l' (Err e) =
     l.fault ≡ None → (a : RunState)
     → FailsAt sum (segment_size_of old) a l (read_at m) e (view (device_of old)) (view (device_of new)) (with_log a (view (device_of new)) (Some l'))

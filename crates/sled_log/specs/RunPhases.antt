@@ -11,7 +11,7 @@ use Rattle.sled_store.specs.declared.config.RunningConfig.{RunningConfig}
 use Rattle.sled_log.specs.WriteSteps.{filled_by, headed}
 use Rattle.sled_core.specs.Account.{account_of}
 use Rattle.sled_core.specs.declared.logger.Log.{Log}
-use Rattle.sled_core.specs.Fits.{Awaits, config_of, fault_of, fillings_of, given_up_of, heads_of, noted_in, open_places, pins_of, position_of, reserved_end}
+use Rattle.sled_core.specs.Fits.{Awaits, config_of, fault_of, fillings_of, given_up_of, heads_of, machine_at, noted_in, open_places, pins_of, position_of, reserved_end}
 use Rattle.sled_core.specs.Fits.{start_of, synced_end, waiting_of}
 use Rattle.sled_core.specs.Among.{AreAmong}
 use Rattle.sled_core.specs.Manifests.{manifest_page}
@@ -63,6 +63,7 @@ seen_log log begun tickets given_up heads =
       given_up = given_up;
       heads = heads;
       pins = pins_of log;
+      machine = machine_at log;
       account = account_of log;
     }
 

@@ -10,9 +10,11 @@ use Rattle.sled_codec.specs.declared.serialization.message.LogKind.TheVariants.{
 use Rattle.sled_codec.specs.Snapshots.{SnapshotModel, stable_place}
 use Rattle.sled_codec.specs.History.{Batch, Message, History, no_history, below, is_replace, table}
 use Rattle.sled_store.specs.Device.{Trace, state_of}
+use Rattle.sled_store.specs.SegmentStates.{Machine}
 use Rattle.sled_core.specs.Account.{Account}
 use Rattle.sled_core.specs.Buffers.{pointer_as}
 use Rattle.sled_core.specs.Fits.{blob_at, in_blob}
+use Rattle.sled_core.specs.FreeSlots.{begun_machine}
 use Rattle.sled_core.specs.Manifests.{manifest_page}
 use Rattle.sled_core.specs.OpenBatches.{stable_below}
 use Rattle.sled_core.specs.Positions.{Position, lid_at, placed_at, size_at}
@@ -68,6 +70,8 @@ pub record LogView : Type 0 where
   pub heads : List MarkAt
   -- how many pins are out
   pub pins : ℕ
+  -- its slots, as they are now
+  pub machine : Machine
   -- which marks of its segments count
   pub account : Account
 
@@ -124,6 +128,7 @@ started_on size len s = record {
   given_up = [];
   heads = heads_on size len s;
   pins = 1;
+  machine = begun_machine size len s;
   account = record { mark = pos (stable_place s.stable); durable = pos (stable_place s.stable); pinned = true };
 }
 
@@ -182,11 +187,22 @@ waiting_with l q = if is_behind l q then l.waiting ++ current_span l q ∷ [] el
 abbrev pub start_with : LogView → Position → BufferStart
 start_with l q = if is_behind l q then next_start l q else l.start
 
+-- the slots then: a further segment has its own
+abbrev pub machine_with : LogView → Position → Machine
+machine_with l q = if is_behind l q then q.machine else l.machine
+
 -- The log ready for a record that begins at a position, which it has none of, with the failure that it keeps: behind what fills the current segment, where
 -- the record begins a further one. What was reserved ends where it did.
 abbrev pub made_ready : LogView → Position → Option IoError → LogView
 made_ready l q fault =
-    record l { position = q; waiting = waiting_with l q; start = start_with l q; fault = fault; heads = heads_at l (start_with l q) }
+    record l {
+      position = q;
+      waiting = waiting_with l q;
+      start = start_with l q;
+      fault = fault;
+      heads = heads_at l (start_with l q);
+      machine = machine_with l q;
+    }
 
 -- The sealed buffers, once those that begin below a place are sealed; and where the current one begins then.
 abbrev pub sealed_below : ℕ → LogView → List Span

@@ -23,7 +23,7 @@ use Rattle.sled_core.specs.Reserves.{MadeAnswers}
 use Rattle.sled_log.specs.declared.session.command.Reply.{Reply}
 use Rattle.sled_log.specs.declared.session.command.Reply.TheVariants as reply
 use Rattle.sled_log.specs.RunStates.{DeviceView, EndsInReach, LogView, RunState, body_in, is_behind, made_ready, message_at, one_blob, opens, page_now}
-use Rattle.sled_log.specs.RunStates.{heads_at}
+use Rattle.sled_log.specs.RunStates.{heads_at, machine_with}
 use Rattle.sled_log.specs.RunStates.{places_without, rewriting_at, start_with, target_in, waiting_with, with_log}
 
 -- the place and the pointer that are answered are those of a message
@@ -40,6 +40,7 @@ reserving size l q m = record l {
   outstanding = opens l ++ m.place ∷ [];
   tickets = l.tickets ++ Some m ∷ [];
   heads = heads_at l (start_with l q);
+  machine = machine_with l q;
 }
 
 -- the places of the open reservations of the buffer that a record would be of that begins at this position

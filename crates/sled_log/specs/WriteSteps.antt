@@ -1,11 +1,13 @@
 -- What the commands come to that write: a flush, a write up to a place, and that of one buffer; and why a log fails.
-use Rattle.std.specs.Prelude.{◌≡◌, ◌⊎◌, ◌+◌, ◌≤◌, ◌≤ℤ◌, ◌<ℤ◌, ◌<◌, ◌%◌, ◌^◌, ◌∷◌, ℕ, ℤ, pos, max, IsTrue, List, [], drop, map, take, Option, None, Some}
+use Rattle.std.specs.Prelude.{◌≡◌, ◌⊎◌, ◌+◌, ◌≤◌, ◌≤ℤ◌, ◌<ℤ◌, ◌<◌, ◌-◌, ◌%◌, ◌^◌, ◌∷◌, ℕ, ℤ, pos, max, IsTrue, List, [], drop, map, take, Option, None, Some, Err}
 use Rattle.std.specs.List.{All}
 use Rattle.std.specs.declared.io.Error.{Error as IoError}
 use Rattle.sled_codec.specs.declared.result.Error.{Error}
 use Rattle.sled_codec.specs.declared.result.Error.TheVariants.{Held, Io, NotReserved, OutOfMemory, PlacesUsedUp}
-use Rattle.sled_store.specs.Device.{Event, state_of}
+use Rattle.sled_store.specs.Device.{Trace, state_of}
 use Rattle.sled_store.specs.Answers.{is_fault}
+use Rattle.sled_store.specs.SegmentStates.{Machine}
+use Rattle.sled_store.specs.Stabilizing.{MovesSlots}
 use Rattle.sled_store.specs.Script.{Performs, after_all}
 use Rattle.sled_codec.specs.Record.{short_header}
 use Rattle.sled_core.specs.Account.{Account, account_behind}
@@ -13,18 +15,21 @@ use Rattle.sled_core.specs.Fillings.{FillingAt}
 use Rattle.sled_core.specs.Heads.{HeadAt}
 use Rattle.sled_core.specs.declared.iobuf.SegmentPosition.{SegmentPosition}
 use Rattle.sled_core.specs.Fits.{IsKept}
-use Rattle.sled_core.specs.Fronts.{WritesWhole, syncs}
+use Rattle.sled_core.specs.Freeing.{Ledger}
+use Rattle.sled_core.specs.Fronts.{synced_writes}
+use Rattle.sled_core.specs.Ledger.{ledger_behind, writings}
 use Rattle.sled_core.specs.Logged.{logged}
 use Rattle.sled_core.specs.OpenBatches.{behind_batch, not_whole, stable_below}
-use Rattle.sled_core.specs.SealedBuffers.{writing}
+use Rattle.sled_core.specs.Positions.{Position}
 use Rattle.sled_core.specs.Stable.{behind_place}
-use Rattle.sled_core.specs.Waiting.{BufferAt, BufferStart, HasLength, Span, one_pending, spans, unless_held, write_pending}
+use Rattle.sled_core.specs.Waiting.{BufferAt, BufferStart, HasLength, Span, one_pending, spans, unless_held}
 use Rattle.sled_core.specs.WholeBuffers.{IsWholeBuffer}
 use Rattle.sled_core.specs.Running.{end_below}
 use Rattle.sled_log.specs.declared.session.command.Reply.{Reply}
 use Rattle.sled_log.specs.declared.session.command.Reply.TheVariants as reply
 use Rattle.sled_log.specs.RunStates.{DeviceView, EndsInReach, LogView, MarkAt, RunState, current_span, first_waiting, heads_at, held, held_among, opens}
 use Rattle.sled_log.specs.RunStates.{sealed_below, spans_below, spans_from, stable_of, start_below, with_log, without_unheld}
+use Rattle.sled_log.specs.RunSlots.{ledger_below, ledger_in, position_below, position_over}
 
 -- Failures.
 
@@ -79,44 +84,58 @@ pub record ShowsBuffers (sum : List ℕ → ℕ) (size : ℕ) (l : LogView) (ss 
   pub held : All (λ b. b.held ≡ held (opens l) (record { place = b.place; end = b.end; lid = b.lid })) bs
   pub whole : All (λ b. b.held ≡ None → IsWholeBuffer sum size l.given_up (map (headed sum) l.heads) (fillings_seen l) b) bs
 
--- All of these calls were made, on buffers that are seen so.
-pub record Writes (sum : List ℕ → ℕ) (size : ℕ) (l : LogView) (ss : List Span) (calls : List BufferAt → List Event) (old new : DeviceView) : Type 0 where
+-- Buffers that are seen so were written, those that are chosen of them: with a write and a sync for each, and behind it what the accountant's step comes to,
+-- from these slots and marks on.
+pub record Writes (sum : List ℕ → ℕ) (size : ℕ) (l : LogView) (ss : List Span) (chosen : List BufferAt → List BufferAt) (from : Ledger)
+    (old new : DeviceView) : Type 0 where
   pub buffers : List BufferAt
   pub shown : ShowsBuffers sum size l ss buffers
-  pub made : new.trace ≡ after_all (calls buffers) old.trace
+  pub made : new.trace ≡ after_all (writings size (chosen buffers) from) old.trace
 
--- They were made up to one that failed: so many buffers were written, as many as were synced. Unless the device failed each of these is whole, and no other
--- call was made; and where they were held up, all were made that are in front of that.
-pub record WritesSome (sum : List ℕ → ℕ) (size : ℕ) (l : LogView) (ss : List Span) (calls : List BufferAt → List Event) (count : ℕ) (e : Error)
-    (fault : Option IoError) (old new : DeviceView) : Type 0 where
+-- The calls were made up to one that failed: so many buffers were written, as many as were synced at once. Unless the device failed each of these is whole, and
+-- no other call was made; and where they were held up, all were made that are in front of that.
+pub record WritesSome (sum : List ℕ → ℕ) (size : ℕ) (l : LogView) (ss : List Span) (chosen : List BufferAt → List BufferAt) (from : Ledger) (count : ℕ)
+    (e : Error) (fault : Option IoError) (old new : DeviceView) : Type 0 where
   pub buffers : List BufferAt
   pub shown : ShowsBuffers sum size l ss buffers
-  pub made : Performs (calls buffers) old.trace new.trace
-  pub synced : syncs new.trace ≡ count + syncs old.trace
-  pub whole : fault ≡ None → WritesWhole count (calls buffers) old.trace new.trace
-  pub held : IfHeld e (new.trace ≡ after_all (calls buffers) old.trace)
+  pub made : Performs (writings size (chosen buffers) from) old.trace new.trace
+  pub written : synced_writes new.trace ≡ count + synced_writes old.trace
+  pub whole : fault ≡ None → new.trace ≡ after_all (writings size (take count (chosen buffers)) from) old.trace
+  pub held : IfHeld e (new.trace ≡ after_all (writings size (chosen buffers) from) old.trace)
 
--- the log with these buffers left, the current one from there on, this failure kept, and these marks: all before the first of them is on the device
-abbrev pub view_flushed : LogView → List Span → BufferStart → Option IoError → Account → LogView
-view_flushed l waiting start fault account =
+-- The accountant's step failed, behind the write of a buffer: no pin is out, and the device failed in a call that was due from these slots for the mark that
+-- joined. Some moves of the step were made, or its calls in part, and these slots are left.
+pub record StepFailed (size : ℕ) (l : LogView) (mark : ℤ) (from left : Machine) (fault : Option IoError) (after : Trace) : Type 0 where
+  pub unpinned : l.pins ≡ 0
+  pub failure : IoError
+  pub kept : fault ≡ Some failure
+  pub before : Trace
+  pub moved : MovesSlots {T = Unit {0}} size mark (Err (Io failure)) from left before after
+
+-- the log with these buffers left, the current one from there on, this failure kept, these slots and marks, and the next record where it may begin with such
+-- slots: all before the first of the buffers is on the device
+abbrev pub view_flushed : LogView → List Span → BufferStart → Option IoError → Ledger → (Machine → Position) → LogView
+view_flushed l waiting start fault ledger position =
     record l {
+      position = position ledger.machine;
       synced = first_waiting waiting start;
       noted = not_whole (first_waiting waiting start) l.noted;
       waiting = waiting;
       start = start;
       fault = fault;
       heads = heads_at l start;
-      account = account;
+      machine = ledger.machine;
+      account = ledger.account;
     }
 
 -- the run goes on with that log
-abbrev pub LeavesLog : RunState → LogView → DeviceView → RunState → List Span → BufferStart → Option IoError → Account → Type 0
-LeavesLog a l new b waiting start fault account = b ≡ with_log a new (Some (view_flushed l waiting start fault account))
+abbrev pub LeavesLog : RunState → LogView → DeviceView → RunState → List Span → BufferStart → Option IoError → Ledger → (Machine → Position) → Type 0
+LeavesLog a l new b waiting start fault ledger position = b ≡ with_log a new (Some (view_flushed l waiting start fault ledger position))
 
--- the calls that write buffers, one write and one sync for each, up to the first that is held up
-abbrev pub writes_free : List BufferAt → List Event
-writes_free [] = []
-writes_free (b ∷ bs) = unless_held b.held (writing b.lid b.bytes (writes_free bs))
+-- of buffers one behind another those in front of the first that is held up
+abbrev pub free_front : List BufferAt → List BufferAt
+free_front [] = []
+free_front (b ∷ bs) = unless_held b.held (b ∷ free_front bs)
 
 -- the buffers that begin below a place, those that are left behind them, and the least place of an open reservation that holds the first ones up
 abbrev pub written_below : ℕ → LogView → List Span
@@ -141,7 +160,7 @@ pub record HasWrittenTo (sum : List ℕ → ℕ) (size : ℕ) (a : RunState) (l 
   pub sound : l.fault ≡ None
   pub in_reach : l.start.place < to → EndsInReach size l.position
   pub free : holding to l ≡ None
-  pub writes : Writes sum size l (written_below to l) writes_free a.device new
+  pub writes : Writes sum size l (written_below to l) free_front (ledger_below to l) a.device new
   pub failures : new.failures ≡ a.device.failures
   pub growth : stable_of l + n ≡ stable_from to l
   pub reaches : to ≤ synced_from to l
@@ -149,18 +168,26 @@ pub record HasWrittenTo (sum : List ℕ → ℕ) (size : ℕ) (a : RunState) (l 
   pub leads : b ≡ record a {
     device = new;
     acknowledged = max a.acknowledged (end_below (stable_from to l) a.history);
-    log = Some (view_flushed l (left_from to l) (start_below to l) None (account_behind writes.buffers l.account));
+    log = Some (view_flushed l (left_from to l) (start_below to l) None (ledger_behind size writes.buffers (ledger_below to l)) (position_below size to l));
   }
 
--- That failed: those that begin below the place are sealed, and so many at the front are written, but not all; or it wasn't held up, and none was sealed, nor
--- written, though the current one begins below the place: the device was asked for nothing then, and didn't fail.
+-- slots and marks behind the writes of the first of these buffers
+abbrev pub ledger_after : ℕ → ℕ → LogView → List BufferAt → ℕ → Ledger
+ledger_after size to l bs count = ledger_behind size (take count bs) (ledger_below to l)
+
+-- That failed: those that begin below the place are sealed, and so many at the front are written, but not all; or all the same so many, and the accountant's step
+-- behind the last of them failed; or it wasn't held up, and none was sealed, nor written, though the current one begins below the place: the device was asked
+-- for nothing then, and didn't fail.
 abbrev pub FailsTo : (List ℕ → ℕ) → ℕ → RunState → LogView → ℕ → Error → DeviceView → RunState → Type 0
 FailsTo sum size a l to e new b =
     Fails l e (holding to l) ((l.start.place < to) × (EndsInReach size l.position → ⊥)) a.device new (λ fault.
-    (count : ℕ) × (some : WritesSome sum size l (written_below to l) writes_free count e fault a.device new)
-    × ((LeavesLog a l new b (drop count (sealed_below to l)) (start_below to l) fault (account_behind (take count some.buffers) l.account)
+    (count : ℕ) × (some : WritesSome sum size l (written_below to l) free_front (ledger_below to l) count e fault a.device new)
+    × ((LeavesLog a l new b (drop count (sealed_below to l)) (start_below to l) fault (ledger_after size to l some.buffers count) (position_below size to l)
     × (first_waiting (drop count (sealed_below to l)) (start_below to l) < to))
-    ⊎ ((count ≡ 0) × (l.start.place < to) × IfHeld e ⊥ × LeavesLog a l new b l.waiting l.start fault l.account × (fault ≡ None))))
+    ⊎ ((0 < count) × (account : Account) × (account ≡ (ledger_after size to l some.buffers count).account)
+    × (left : Machine) × StepFailed size l account.mark (ledger_after size to l some.buffers (count - 1)).machine left fault new.trace
+    × LeavesLog a l new b (drop count (sealed_below to l)) (start_below to l) fault (record { machine = left; account = account }) (position_below size to l))
+    ⊎ ((count ≡ 0) × (l.start.place < to) × IfHeld e ⊥ × (b ≡ with_log a new (Some l)) × (fault ≡ None))))
 
 -- All that was reserved is written, so all completed messages are on the device: their records are, as the log has them, without the items that blobs have.
 pub record HasFlushed (sum : List ℕ → ℕ) (size : ℕ) (a : RunState) (l : LogView) (n : ℕ) (new : DeviceView) (b : RunState) : Type 0 where
@@ -198,13 +225,19 @@ StableStep sum size a l place (reply.Failed e) new b =
     KeepsFailing a l e new b ⊎ ((pos (stable_of l) ≤ℤ place) × (place <ℤ pos l.end) × FailsTo sum size a l (target_by l place) e new b)
 StableStep sum size a l place _ new b = ⊥
 
--- One sealed buffer is written, the i-th of those that nothing holds up.
+-- One sealed buffer is written, the i-th of those that nothing holds up. That failed: it isn't, or it is, and the accountant's step behind it failed.
 abbrev pub WriteStep : (List ℕ → ℕ) → ℕ → RunState → LogView → ℕ → Reply → DeviceView → RunState → Type 0
 WriteStep sum size a l i reply.Written new b =
-    (l.fault ≡ None) × (writes : Writes sum size l l.waiting (write_pending i) a.device new) × (new.failures ≡ a.device.failures)
-    × LeavesLog a l new b (without_unheld (opens l) i l.waiting) l.start None (account_behind (one_pending i writes.buffers) l.account)
+    (l.fault ≡ None) × (writes : Writes sum size l l.waiting (one_pending i) (ledger_in l) a.device new) × (new.failures ≡ a.device.failures)
+    × LeavesLog a l new b (without_unheld (opens l) i l.waiting) l.start None (ledger_behind size (one_pending i writes.buffers) (ledger_in l))
+    (position_over size l)
 WriteStep sum size a l i (reply.Failed e) new b =
     KeepsFailing a l e new b
-    ⊎ Fails l e None ⊥ a.device new (λ fault. WritesSome sum size l l.waiting (write_pending i) 0 e fault a.device new
-    × LeavesLog a l new b l.waiting l.start fault l.account)
+    ⊎ Fails l e None ⊥ a.device new (λ fault.
+    (WritesSome sum size l l.waiting (one_pending i) (ledger_in l) 0 e fault a.device new
+    × LeavesLog a l new b l.waiting l.start fault (ledger_in l) (position_over size l))
+    ⊎ ((some : WritesSome sum size l l.waiting (one_pending i) (ledger_in l) 1 e fault a.device new)
+    × (account : Account) × (account ≡ account_behind (one_pending i some.buffers) l.account)
+    × (left : Machine) × StepFailed size l account.mark l.machine left fault new.trace
+    × LeavesLog a l new b (without_unheld (opens l) i l.waiting) l.start fault (record { machine = left; account = account }) (position_over size l)))
 WriteStep sum size a l i _ new b = ⊥

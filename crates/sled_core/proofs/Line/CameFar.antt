@@ -101,12 +101,11 @@ module _ {D C : Type 0} (trace : D → Trace) (sum : List ℕ → ℕ) (faults :
           left = waiting ∙ so_far.gone ∙ left_for so_far.count;
           start = start ∙ so_far.start ∙ start_is;
           position = λ m. with_slots m ∙ so_far.with_slots m ∙ position_is m;
-          ledger = (ap (λ (l : Ledger). l.account) all, inl (ap (λ (l : Ledger). l.machine) all));
+          ledger = (ap (λ (l : Ledger). l.account) all, inl (ap (λ (l : Ledger). l.machine) all, short));
           written = none.written ∙ so_far.written;
           whole = λ sound. none.still sound ∙ so_far.came
               ∙ (λ i. after_all (writings (segment_size_of old) (sym done_is i) (if sym not_current i then ledger_sealed old else ledger_of old))
               (trace (device_of old)));
-          short = inr short;
         }
 
     -- or it was, and the step behind it failed.
@@ -135,7 +134,6 @@ module _ {D C : Type 0} (trace : D → Trace) (sum : List ℕ → ℕ) (faults :
           );
           written = (let last = one.written in let before = so_far.written in omega (arith, last, before));
           whole = λ sound. absurd (let bad : None ≡ Some failed.fault = sym sound ∙ failed.kept in cc);
-          short = inl (failed, omega arith);
         }
 
 -- What is left is so many of them.

@@ -101,7 +101,7 @@ module _ {D C : Type 0} (sum : List ℕ → ℕ) (to : ℕ) (old mid : Log D C) 
         ledger = (
           front.ledger.0 ∙ ap (λ (l : Ledger). l.account) (all front.count same from),
           elim front.ledger.1 [
-            | inl machine ↦ inl (machine ∙ ap (λ (l : Ledger). l.machine) (all front.count same from))
+            | inl whole ↦ inl (whole.0 ∙ ap (λ (l : Ledger). l.machine) (all front.count same from), whole.1)
             | inr failed ↦ inr (
               failed_over old mid new sound pins failed.0,
               failed.1,
@@ -111,7 +111,6 @@ module _ {D C : Type 0} (sum : List ℕ → ℕ) (to : ℕ) (old mid : Log D C) 
         );
         written = front.written ∙ ap (λ d. front.count + synced_writes (trace d)) device;
         whole = λ none. front.whole none ∙ (λ i. after_all (some_more adds size from front.count i) (trace (device i)));
-        short = elim front.short [ inl failed ↦ inl (failed_over old mid new sound pins failed.0, failed.1) | inr less ↦ inr less ];
       }
     where
       all : (n : ℕ) → sealed_for sum to mid ≡ sealed_for sum to old → ledger_for to mid ≡ ledger_for to old

@@ -94,9 +94,9 @@ closes_part trace sum r old new sound never io (inr front) = inr (record {
   count = front.count;
   written = front.written;
   whole = sound _ front.whole;
-  short = elim front.short [
-    | inl failed ↦ inl (io failed.0.fault failed.0.kept, failed.0.sound, failed.0.unpinned, failed.1)
-    | inr short ↦ inr (subst (λ n. n < reserved_end old) (sym ((λ i. first_begin (sym front.left i) (sym front.start i)) ∙ sym (first_left new))) short)
+  short = elim front.ledger.1 [
+    | inl whole ↦ inr (subst (λ n. n < reserved_end old) (sym ((λ i. first_begin (sym front.left i) (sym front.start i)) ∙ sym (first_left new))) whole.1)
+    | inr failed ↦ inl (io failed.0.fault failed.0.kept, failed.0.sound, failed.0.unpinned, failed.1)
   ];
 })
 
