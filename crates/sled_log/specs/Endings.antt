@@ -55,6 +55,8 @@ pub record KeepsPages {D C : Type 0} (old new : Opened D C) : Type 0 where
   pub tickets : new.tickets ≡ old.tickets
   pub busy : new.busy ≡ old.busy
   pub batch : new.batch ≡ old.batch
+  pub origin : new.origin ≡ old.origin
+  pub due : new.due ≡ old.due
 
 -- there is room for the entry of the message of a ticket
 abbrev pub HasRoomFor : {D C : Type 0} → Opened D C → ℕ → Type 0
@@ -68,6 +70,8 @@ batch_left page batch = if page == manifest_page then None else batch
 pub record TakesTicket {D C : Type 0} (old : Opened D C) (number : ℕ) (new : Opened D C) (result : Option Ticket) : Type 0 where
   pub log : new.log ≡ old.log
   pub pages : new.pages ≡ old.pages
+  pub origin : new.origin ≡ old.origin
+  pub due : new.due ≡ old.due
   pub tickets : new.tickets.items ≡ set old.tickets.items number None
   pub there : IfSome result (λ ticket. slice_get old.tickets.items number ≡ Some (Some ticket))
   pub is_open : IfSome result (λ ticket. IsOpen new.log ticket.reservation)

@@ -24,29 +24,29 @@ use Rattle.sled_log.specs.TicketSteps.{blank_manifest}
 -- Nothing is completed, acknowledged or forgotten. Tickets may be spent, one or all.
 abbrev pub Stays : RunState → RunState → Type 0
 Stays p q = ((tickets_of q ≡ tickets_of p) ⊎ (tickets_of q ≡ []) ⊎ ((t : ℕ) × (tickets_of q ≡ set (tickets_of p) t None)))
-    × (q ≡ record p { device = q.device; log = q.log })
+    × (q ≡ record p { device = q.device; log = q.log; due = q.due })
 
 -- A ticket is given, under the next number, for a message of this kind, page and item, at the place and with the pointer that are told; or none is.
 abbrev pub Reserves : RunState → LogKind → ℕ → List ℕ → Reply → RunState → Type 0
 Reserves p kind page bytes (reply.Reserved number place pointer) q =
     (m : Message) × (m.kind ≡ kind) × (m.page ≡ page) × (m.bytes ≡ bytes) × (pos m.place ≡ place) × (m.pointer ≡ pointer) × (number ≡ length (tickets_of p))
-    × (tickets_of q ≡ tickets_of p ++ Some m ∷ []) × (q ≡ record p { device = q.device; log = q.log })
+    × (tickets_of q ≡ tickets_of p ++ Some m ∷ []) × (q ≡ record p { device = q.device; log = q.log; due = q.due })
 Reserves p kind page bytes _ q = Stays p q
 
 -- This comes to the history, for the message of a ticket, which is spent.
 abbrev pub Comes : RunState → ℕ → Message → HistoryEvent → RunState → Type 0
 Comes p t m event q = (slice_get (tickets_of p) t ≡ Some (Some m)) × Step p.history event q.history × (tickets_of q ≡ set (tickets_of p) t None)
-    × (q ≡ record p { device = q.device; history = q.history; log = q.log })
+    × (q ≡ record p { device = q.device; history = q.history; log = q.log; due = q.due })
 
 -- The completed messages that are meant are acknowledged.
 abbrev pub Acknowledges : RunState → (Message → Type 0) → RunState → Type 0
 Acknowledges p Meant q = (p.acknowledged ≤ q.acknowledged) × ((m : Message) → Contains p.history.messages m → Meant m → m.place + m.size ≤ q.acknowledged)
-    × (tickets_of q ≡ tickets_of p) × (q ≡ record p { device = q.device; acknowledged = q.acknowledged; log = q.log })
+    × (tickets_of q ≡ tickets_of p) × (q ≡ record p { device = q.device; acknowledged = q.acknowledged; log = q.log; due = q.due })
 
 -- A recovery gave this snapshot: the table of what was completed below its cut, as `IsGood` says. What lies past the cut is forgotten.
 abbrev pub Restores : (List ℕ → ℕ) → ℕ → RunState → SnapshotModel → RunState → Type 0
 Restores sum size p s q = IsGood sum size (content_of (state_of q.device.trace)) p.history p.acknowledged p.floor s × (tickets_of q ≡ [])
-    × (q ≡ record p { device = q.device; history = below p.history (stable_place s.stable); floor = stable_place s.stable; log = q.log })
+    × (q ≡ record p { device = q.device; history = below p.history (stable_place s.stable); floor = stable_place s.stable; log = q.log; due = q.due })
 
 -- What a command that is answered so comes to. An opening that fails has a cause, and may have recovered before.
 abbrev pub Moves : (List ℕ → ℕ) → ℕ → RunState → Command → Reply → RunState → Type 0

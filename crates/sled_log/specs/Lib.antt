@@ -21,6 +21,7 @@ pub mod RunPhases
 pub mod RunSlots
 pub mod RunStates
 pub mod Runs
+pub mod SessionMarks
 pub mod TicketActs
 pub mod TicketSteps
 pub mod WriteSteps

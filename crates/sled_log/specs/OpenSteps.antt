@@ -16,7 +16,7 @@ use Rattle.sled_log.specs.declared.session.command.Reply.{Reply}
 use Rattle.sled_log.specs.declared.session.command.Reply.TheVariants as reply
 use Rattle.sled_log.specs.Recovery.{RecoveryResult, Damaged, Recovered, Recovers}
 use Rattle.sled_log.specs.Restores.{RecoveryCalls}
-use Rattle.sled_log.specs.RunStates.{DeviceView, LogView, RunState, ShowsActive, length_of, recovered, started_on, with_log}
+use Rattle.sled_log.specs.RunStates.{DeviceView, LogView, RunState, ShowsActive, length_of, recovered, started_on, closed}
 use Rattle.sled_log.specs.WritesBack.{HasWrittenBack}
 
 -- why a recovery of what the log itself wrote fails: a failure of the device is counted, and nothing else is
@@ -105,7 +105,7 @@ module _ (sum : List ℕ → ℕ) (size : ℕ) where
   pub record FailsToRecover (a : RunState) (e : Error) (new : DeviceView) (b : RunState) : Type 0 where
     pub fails : RecoveryFails sum size e a.device new
     pub cause : ReadsOnlyOwn sum size (state_of a.device.trace) → IsCause e a.device.failures new.failures
-    pub leads : b ≡ with_log a new None
+    pub leads : b ≡ closed a new
 
   abbrev pub OpenStep : RunState → Reply → DeviceView → RunState → Type 0
   OpenStep a (reply.Failed e) new b = FailsToRecover a e new b ⊎ HasOpened a (reply.Failed e) new b

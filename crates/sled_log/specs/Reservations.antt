@@ -4,6 +4,7 @@ use Rattle.sled_codec.specs.declared.serialization.message.LogKind.{LogKind}
 use Rattle.sled_codec.specs.declared.serialization.message.LogKind.TheVariants.{Link, Replace}
 use Rattle.sled_codec.specs.History.{History}
 use Rattle.sled_codec.specs.Snapshots.{Page, Present}
+use Rattle.sled_core.specs.declared.reservation.Guard.{Guard}
 use Rattle.sled_core.specs.declared.reservation.Reservation.{Reservation}
 use Rattle.sled_core.specs.Fits.{segment_size_of}
 use Rattle.sled_core.specs.Manifests.{manifest_page}
@@ -37,14 +38,19 @@ pub record MakesRoom {D C : Type 0} (old new : Opened D C) : Type 0 where
   pub tickets : new.tickets.items ≡ old.tickets.items
   pub busy : (page : ℕ) → get_or new.busy.items page false ≡ get_or old.busy.items page false
   pub batch : new.batch ≡ old.batch
+  pub origin : new.origin ≡ old.origin
+  pub due : new.due ≡ old.due
 
 -- A ticket came under the next number; its page is noted, or that it begins a batch.
-pub record HoldsTicket {D C : Type 0} (old new : Opened D C) (kind : LogKind) (page : ℕ) (reservation : Reservation) (result : Reply) : Type 0 where
+pub record HoldsTicket {D C : Type 0} (old new : Opened D C) (kind : LogKind) (page : ℕ) (reservation : Reservation) (guard : Guard)
+    (result : Reply) : Type 0 where
   pub log : new.log ≡ old.log
   pub pages : new.pages ≡ old.pages
-  pub tickets : new.tickets.items ≡ old.tickets.items ++ Some (record { kind = kind; page = page; reservation = reservation }) ∷ []
+  pub tickets : new.tickets.items ≡ old.tickets.items ++ Some (record { kind = kind; page = page; reservation = reservation; guard = guard }) ∷ []
   pub busy : new.busy.items ≡ (if page == manifest_page then old.busy.items else set old.busy.items page true)
   pub batch : new.batch ≡ (if page == manifest_page then Some (length old.tickets.items) else old.batch)
+  pub origin : new.origin ≡ old.origin
+  pub due : new.due ≡ old.due
   pub told : result ≡ reply.Reserved (length old.tickets.items) (place_of reservation) (pointer_of reservation)
 
 -- What a reservation comes to.

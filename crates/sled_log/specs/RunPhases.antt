@@ -1,22 +1,25 @@
 -- What stands in each phase of a session.
-use Rattle.std.specs.Prelude.{◌≡◌, ◌≢◌, ◌+◌, ◌≤◌, ◌<◌, ℕ, pos, Bool, false, List, [], ◌∷◌, length, map, get_or, slice_get, Option, None, Some}
+use Rattle.std.specs.Prelude.{◌≡◌, ◌≢◌, ◌+◌, ◌≤◌, ◌<◌, ℕ, pos, Bool, true, false, List, [], ◌∷◌, length, map, get_or, slice_get, Option, None, Some}
 use Rattle.std.specs.List.{All, Contains}
-use Rattle.sled_codec.specs.declared.serialization.message.LogKind.TheVariants.{Skip}
-use Rattle.sled_codec.specs.History.{Batch, Message, History}
+use Rattle.sled_codec.specs.declared.serialization.message.LogKind.TheVariants.{Link, Skip}
+use Rattle.sled_codec.specs.History.{Batch, Message, History, begins_page}
 use Rattle.sled_codec.specs.PageTables.{IsTable}
 use Rattle.sled_codec.specs.Snapshots.{SnapshotModel, page_of, stable_place}
 use Rattle.sled_store.specs.Device.{Trace, state_of}
+use Rattle.sled_store.specs.Marks.{IsFormerList}
 use Rattle.sled_store.specs.Moments.{IsLater}
 use Rattle.sled_store.specs.declared.config.RunningConfig.{RunningConfig}
 use Rattle.sled_log.specs.WriteSteps.{filled_by, headed}
 use Rattle.sled_core.specs.Account.{account_of}
 use Rattle.sled_core.specs.declared.logger.Log.{Log}
 use Rattle.sled_core.specs.Fits.{Awaits, config_of, fault_of, fillings_of, given_up_of, heads_of, machine_at, noted_in, open_places, pins_of, position_of, reserved_end}
-use Rattle.sled_core.specs.Fits.{start_of, synced_end, waiting_of}
+use Rattle.sled_core.specs.Fits.{segment_size_of, start_of, synced_end, waiting_of}
 use Rattle.sled_core.specs.Among.{AreAmong}
 use Rattle.sled_core.specs.Manifests.{manifest_page}
 use Rattle.sled_core.specs.Waiting.{spans}
 use Rattle.sled_core.specs.Keeps.{ConfigKept}
+use Rattle.sled_core.specs.Marking.{IsOfMessage}
+use Rattle.sled_core.specs.Unmarked.{without}
 use Rattle.sled_core.specs.Reading.{IsInline}
 use Rattle.sled_core.specs.Recoverable.{LeavesRecoverable, NoHeaderOfZeros}
 use Rattle.sled_core.specs.invariants.Running.{Fits, Ready}
@@ -27,13 +30,14 @@ use Rattle.sled_log.specs.declared.session.Phase.{Phase}
 use Rattle.sled_log.specs.declared.session.Phase.TheVariants.{Closed, Open}
 use Rattle.sled_log.specs.declared.session.opened.Opened.{Opened}
 use Rattle.sled_log.specs.declared.session.opened.Ticket.{Ticket}
+use Rattle.sled_log.specs.declared.session.marking.Due.{Due}
 use Rattle.sled_log.specs.declared.session.command.Command.{Command}
 use Rattle.sled_log.specs.declared.session.command.Reply.{Reply}
 use Rattle.sled_log.specs.Made.{IsMade, MayJoin}
 use Rattle.sled_log.specs.Refusals.{reason_of, refusal_for}
-use Rattle.sled_log.specs.RunStates.{DeviceView, LogView, RunState, ShowsActive, has_page, in_batch, open_messages, top, MarkAt}
+use Rattle.sled_log.specs.RunStates.{DeviceView, DueMark, LogView, RunState, ShowsActive, has_page, in_batch, open_messages, top, MarkAt}
 use Rattle.sled_log.specs.TicketSteps.{own_of}
-use Rattle.sled_log.specs.Runs.{Carries, IsOwn, IsStep, StaysWithin}
+use Rattle.sled_log.specs.Runs.{Carries, IsOwn, IsStep, StaysWithin, StepBy}
 
 -- What is seen of what code has.
 
@@ -85,6 +89,15 @@ abbrev pub log_in : {D C : Type 0} → Phase D C → List (Option Message) → L
 log_in (Closed config) tickets given_up heads = None
 log_in (Open opened) tickets given_up heads = Some (seen opened tickets given_up heads)
 
+-- the mark that is due, as code has it, and in a phase
+abbrev pub shown_due : Option Due → Option DueMark
+shown_due None = None
+shown_due (Some d) = Some (record { kind = d.kind; page = d.page; old = d.old.items; new = d.new })
+
+abbrev pub due_in : {D C : Type 0} → Phase D C → Option DueMark
+due_in (Closed config) = None
+due_in (Open opened) = shown_due opened.due
+
 -- what a phase runs on
 abbrev pub running : {D C : Type 0} → Phase D C → RunningConfig D C
 running (Closed config) = config
@@ -103,6 +116,7 @@ stands view phase k =
       acknowledged = k.acknowledged;
       floor = k.floor;
       log = log_in phase k.tickets k.given_up k.heads;
+      due = due_in phase;
     }
 
 -- the size of its segments
@@ -169,16 +183,32 @@ pub record HasHeads {D C : Type 0} (sum : List ℕ → ℕ) (log : Log D C) (hea
   pub marked : AreAmong (heads_of log) (map (headed sum) heads)
   pub filled : AreAmong (fillings_of log) (map filled_by heads)
 
--- A log is open that fits the history, with the session's pin out and no other, so that no mark joined since it was opened, and with the table of it; what it
--- counts as given up was, and its headers and fillings that aren't on the device are those that were begun. Zeros pass as no header, as where its recovery read
--- nothing foreign.
+-- The one message that isn't marked yet is that of the mark that is due. It is the newest of its page, and the mark takes the place of all that the page was; and
+-- the log keeps no failure.
+pub record IsUnmarked {D C : Type 0} (log : Log D C) (H : History) (d : Due) (m : Message) : Type 0 where
+  pub there : Contains H.messages m
+  pub is : IsOfMessage m d.page d.new
+  pub kind : d.kind ≡ m.kind
+  pub newest : (x : Message) → Contains (without (m ∷ []) H).messages x → x.page ≡ m.page → x.place < m.place
+  pub beside : m.kind ≡ Link → d.old.items ≡ []
+  pub former : begins_page m.kind ≡ true → IsFormerList (without (m ∷ []) H) m.page d.old.items
+  pub sound : fault_of log ≡ None
+
+-- the messages that aren't marked yet, by the mark that is due
+abbrev pub AreUnmarked : {D C : Type 0} → Log D C → History → Option Due → List Message → Type 0
+AreUnmarked log H None U = U ≡ []
+AreUnmarked log H (Some d) U = (m : Message) × (U ≡ m ∷ []) × IsUnmarked log H d m
+
+-- A log is open that fits the history, with the table of it, and with a pin for each open ticket, and for the mark that is due; what it counts as given up was,
+-- and its headers and fillings that aren't on the device are those that were begun. Zeros pass as no header, as where its recovery read nothing foreign.
 pub record IsOpenAt {D C : Type 0} (trace : D → Trace) (sum : List ℕ → ℕ) (opened : Opened D C) (k : Unstored) : Type 0 where
   pub made : IsMade k.history
   pub unmarked : List Message
+  pub due : AreUnmarked opened.log k.history opened.due unmarked
   pub fits : Fits trace sum opened.log k.history k.acknowledged k.floor unmarked
   pub zeros : NoHeaderOfZeros sum
-  pub pinned : pins_of opened.log ≡ 1
-  pub joined : (account_of opened.log).mark ≡ pos k.floor
+  pub pinned : pins_of opened.log ≡ length (open_messages k.tickets) + length unmarked
+  pub origin : opened.origin ≡ record { size = segment_size_of opened.log; floor = k.floor }
   pub table : IsTable (map page_of opened.pages.items) k.history top
   pub tickets : HasTickets trace sum opened k.history k.tickets
   pub given_up : AreAmong (given_up_of opened.log) k.given_up
@@ -190,20 +220,32 @@ abbrev pub IsAt : {D C : Type 0} → (D → Trace) → (List ℕ → ℕ) → Ph
 IsAt trace sum (Closed config) k = IsClosedAt sum config.config.segment_size (trace config.device) k
 IsAt trace sum (Open opened) k = IsOpenAt trace sum opened k
 
--- A command that isn't refused leads from a phase to the next one: what holds there holds again, unless what is foreign was read or left, and at each moment
--- on the way a crash leaves what can be recovered.
-pub record Does {D C : Type 0} (view : D → DeviceView) (sum : List ℕ → ℕ) (phase : Phase D C) (command : Command) (result : Phase D C × Reply)
-    (k : Unstored) : Type 0 where
+-- A command that isn't refused leads from a phase to the next one by such a step: what holds there holds again, unless what is foreign was read or left, and at
+-- each moment on the way a crash leaves what can be recovered.
+pub record DoesBy {D C : Type 0} (Step : RunState → Command → Reply → DeviceView → RunState → Type 0) (view : D → DeviceView) (sum : List ℕ → ℕ)
+    (phase : Phase D C) (command : Command) (result : Phase D C × Reply) (k : Unstored) : Type 0 where
   pub not_refused : reason_of result.1 ≡ None
   pub next : Unstored
-  pub step : IsStep sum (size_of phase) (stands view phase k) command result.1 (device_in view result.0) (stands view result.0 next)
+  pub step : Step (stands view phase k) command result.1 (device_in view result.0) (stands view result.0 next)
   pub at : IsOwn sum (size_of phase) (state_of (device_in view phase).trace) command result.1 → IsAt (traces view) sum result.0 next
   pub crash : IsOwn sum (size_of phase) (state_of (device_in view phase).trace) command result.1
       → StaysWithin sum (size_of phase) (stands view phase k) command (device_in view result.0) (stands view result.0 next)
 
+-- So it does by what it comes to, with the mark first that is due,
+abbrev pub Does : {D C : Type 0} → (D → DeviceView) → (List ℕ → ℕ) → Phase D C → Command → Phase D C × Reply → Unstored → Type 0
+Does view sum phase command result k = DoesBy (IsStep sum (size_of phase)) view sum phase command result k
+
 abbrev pub CarriesOut : {D C : Type 0} → (D → DeviceView) → (List ℕ → ℕ) → Phase D C → Command → Phase D C × Reply → Type 0
 CarriesOut view sum phase command result =
     (k : Unstored) → IsAt (traces view) sum phase k → refusal_for (stands view phase k) command ≡ None → Does view sum phase command result k
+
+-- and without that, where none is due, or as if none were.
+abbrev pub DoesHere : {D C : Type 0} → (D → DeviceView) → (List ℕ → ℕ) → Phase D C → Command → Phase D C × Reply → Unstored → Type 0
+DoesHere view sum phase command result k = DoesBy (λ a c r new b. StepBy sum (size_of phase) a a.log c r new b) view sum phase command result k
+
+abbrev pub CarriesHere : {D C : Type 0} → (D → DeviceView) → (List ℕ → ℕ) → Phase D C → Command → Phase D C × Reply → Type 0
+CarriesHere view sum phase command result =
+    (k : Unstored) → IsAt (traces view) sum phase k → refusal_for (stands view phase k) command ≡ None → DoesHere view sum phase command result k
 
 -- Where a run stands in a phase, with what holds there.
 abbrev pub StandsIn : {D C : Type 0} → (D → DeviceView) → (List ℕ → ℕ) → Phase D C → RunState → Type 0

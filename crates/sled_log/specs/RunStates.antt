@@ -11,6 +11,7 @@ use Rattle.sled_codec.specs.Snapshots.{SnapshotModel, stable_place}
 use Rattle.sled_codec.specs.History.{Batch, Message, History, no_history, below, is_replace, table}
 use Rattle.sled_store.specs.Device.{Trace, state_of}
 use Rattle.sled_store.specs.SegmentStates.{Machine}
+use Rattle.sled_store.specs.declared.segment.slot.CacheInfo.{CacheInfo}
 use Rattle.sled_core.specs.Account.{Account}
 use Rattle.sled_core.specs.Buffers.{pointer_as}
 use Rattle.sled_core.specs.Fits.{blob_at, in_blob}
@@ -85,25 +86,38 @@ abbrev pub heads_at : LogView → BufferStart → List MarkAt
 heads_at l start =
     if nat_lt l.start.place start.place then record { place = start.place; mark = pos (stable_of l) -ℤ pos 1; end = l.end } ∷ l.heads else l.heads
 
--- Where a run stands: its device, the completed messages, the end of what was acknowledged, the cut of the last recovery, and the log, where one is open.
+-- A mark of a completed message, of this page and known to the log by this, in place of these, which is all that the page was.
+pub record DueMark : Type 0 where
+  pub kind : LogKind
+  pub page : ℕ
+  pub old : List CacheInfo
+  pub new : CacheInfo
+
+-- Where a run stands: its device, the completed messages, the end of what was acknowledged, the cut of the last recovery, the log, where one is open, and the
+-- mark that is due of it, where memory for that was refused.
 pub record RunState : Type 0 where
   pub device : DeviceView
   pub history : History
   pub acknowledged : ℕ
   pub floor : ℕ
   pub log : Option LogView
+  pub due : Option DueMark
 
 -- a run that begins on a device
 abbrev pub begins_on : DeviceView → RunState
-begins_on device = record { device = device; history = no_history; acknowledged = 0; floor = 0; log = None }
+begins_on device = record { device = device; history = no_history; acknowledged = 0; floor = 0; log = None; due = None }
 
--- the same run, with a device as it is now and with this log or none
+-- the same run, with a device as it is now and with this log
 abbrev pub with_log : RunState → DeviceView → Option LogView → RunState
 with_log a now log = record a { device = now; log = log }
 
+-- the same with no log open, and so no mark due
+abbrev pub closed : RunState → DeviceView → RunState
+closed a now = record a { device = now; log = None; due = None }
+
 -- the run behind a recovery: what lies past the cut is forgotten, and the cut is the floor
 abbrev pub recovered : RunState → DeviceView → SnapshotModel → Option LogView → RunState
-recovered a now s log = record a { device = now; history = below a.history (stable_place s.stable); floor = stable_place s.stable; log = log }
+recovered a now s log = record a { device = now; history = below a.history (stable_place s.stable); floor = stable_place s.stable; log = log; due = None }
 
 -- The log.
 
@@ -112,7 +126,7 @@ abbrev pub heads_on : ℕ → ℕ → SnapshotModel → List MarkAt
 heads_on size len s =
     record { place = (start_from size len s).place; mark = pos (stable_place s.stable) -ℤ pos 1; end = stable_place s.stable } ∷ []
 
--- a log that was started on a snapshot, where its log file had this length, with the one pin that a session takes: its marks begin as the snapshot's place
+-- a log that was started on a snapshot, where its log file had this length: no pin is out, and its marks begin as the snapshot's place
 abbrev pub started_on : ℕ → ℕ → SnapshotModel → LogView
 started_on size len s = record {
   position = position_from size len s;
@@ -127,9 +141,9 @@ started_on size len s = record {
   tickets = [];
   given_up = [];
   heads = heads_on size len s;
-  pins = 1;
+  pins = 0;
   machine = begun_machine size len s;
-  account = record { mark = pos (stable_place s.stable); durable = pos (stable_place s.stable); pinned = true };
+  account = record { mark = pos (stable_place s.stable); durable = pos (stable_place s.stable); pinned = false };
 }
 
 -- how long the body of the record of an item of n bytes is: it is the item, or the place of its blob

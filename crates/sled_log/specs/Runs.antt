@@ -7,7 +7,7 @@
 -- batch; and what lies past the cut is forgotten. At each moment within a command, whether or not the list has a stop or a crash there, a crash leaves what
 -- can be recovered. What is told of this and of a recovery's table, and all that comes behind it, holds as long as only what the log itself wrote passes as
 -- its own, in what a recovery reads and in what a crash leaves.
-use Rattle.std.specs.Prelude.{◌≡◌, ◌↔◌, ◌∷◌, ℕ, if◌then◌else◌, Bool, true, false, IsTrue, List, [], Option, None, Some}
+use Rattle.std.specs.Prelude.{◌≡◌, ◌⊎◌, ◌↔◌, ◌≤ℤ◌, ◌∷◌, ℕ, pos, if◌then◌else◌, Bool, true, false, IsTrue, List, [], Option, None, Some}
 use Rattle.sled_codec.specs.declared.result.Error.TheVariants.{Io, OutOfMemory}
 use Rattle.sled_codec.specs.declared.serialization.message.LogKind.TheVariants as does
 use Rattle.sled_codec.specs.Spelling.{short_bytes}
@@ -26,7 +26,8 @@ use Rattle.sled_log.specs.declared.session.command.Reply.TheVariants as reply
 use Rattle.sled_log.specs.OpenSteps.{OpenStep}
 use Rattle.sled_log.specs.ReadSteps.{ReadStep}
 use Rattle.sled_log.specs.Refusals.{reason_of, refusal_for}
-use Rattle.sled_log.specs.RunStates.{DeviceView, LogView, RunState, page_now, with_log}
+use Rattle.sled_log.specs.RunStates.{DeviceView, DueMark, LogView, RunState, closed, page_now, with_log}
+use Rattle.sled_log.specs.SessionMarks.{with_mark}
 use Rattle.sled_log.specs.TicketActs.{AbortActs, ReserveActs}
 use Rattle.sled_log.specs.TicketSteps.{AbortStep, CompleteStep, EndStep, ReserveStep, RewriteStep, blank_manifest}
 use Rattle.sled_log.specs.WriteSteps.{FlushStep, StableStep, WriteStep}
@@ -46,7 +47,7 @@ CrashActs choice old _ new = ⊥
 
 -- A crash closes the log.
 abbrev pub CrashStep : RunState → Choice → Reply → DeviceView → RunState → Type 0
-CrashStep a choice (reply.Crashed taken) new b = CrashActs choice a.device (reply.Crashed taken) new × (b ≡ with_log a new None)
+CrashStep a choice (reply.Crashed taken) new b = CrashActs choice a.device (reply.Crashed taken) new × (b ≡ closed a new)
 CrashStep a choice r new b = CrashActs choice a.device r new × (b ≡ a)
 
 -- The device is to be stopped within a call.
@@ -55,7 +56,7 @@ StopStep a n reply.Armed new b = (new ≡ record a.device { trace = StopAsked n 
 StopStep a n _ new b = ⊥
 
 abbrev pub HaltStep : RunState → Reply → DeviceView → RunState → Type 0
-HaltStep a reply.Halted new b = (new ≡ a.device) × (b ≡ with_log a new None)
+HaltStep a reply.Halted new b = (new ≡ a.device) × (b ≡ closed a new)
 HaltStep a _ new b = ⊥
 
 -- what is told of what came of a command: a failure of a device that is stopped then is that
@@ -63,15 +64,29 @@ abbrev pub told : Bool → Reply → Reply
 told true (reply.Failed (Io e)) = reply.Stopped
 told stopped r = r
 
--- where a log is open that keeps no failure
-abbrev pub WhileSound : Option LogView → Type 0 → Type 0
-WhileSound None P = Unit {0}
-WhileSound (Some l) P = l.fault ≡ None → P
+-- where a log is open that keeps no failure, and no mark joined that is above this place
+abbrev pub WhileClean : ℕ → Option LogView → Type 0 → Type 0
+WhileClean floor None P = Unit {0}
+WhileClean floor (Some l) P = l.fault ≡ None → l.account.mark ≤ℤ pos floor → P
+
+-- a command calls the log that is open, and could make use of what it frees
+abbrev pub calls_log : Command → Bool
+calls_log command.Open = false
+calls_log command.Halt = false
+calls_log (command.Stop n) = false
+calls_log (command.Crash choice) = false
+calls_log c = true
+
+-- Memory for a mark that is due is refused again, and nothing else is done.
+abbrev pub Postpones : RunState → Reply → DeviceView → RunState → Type 0
+Postpones a (reply.Failed OutOfMemory) new b = (new ≡ a.device) × (b ≡ a)
+Postpones a r new b = ⊥
 
 module _ (sum : List ℕ → ℕ) (size : ℕ) where
-  -- While a log is open that keeps no failure, what is read is the log's own: so it is when that log is closed, and another is opened.
+  -- While a log is open that keeps no failure, and no mark joined above the last recovery's cut, so that no segment came free, what is read is the log's own: so it
+  -- is when that log is closed, and another is opened.
   abbrev pub KeepsOwn : RunState → Type 0
-  KeepsOwn a = WhileSound a.log (ReadsOnlyOwn sum size (state_of a.device.trace))
+  KeepsOwn a = WhileClean a.floor a.log (ReadsOnlyOwn sum size (state_of a.device.trace))
 
   -- Only what the log itself wrote passes as its own, in what a recovery reads and in what a crash leaves. An opening that is refused reads nothing,
   -- and so nothing is asked of it: a stopped device may have any bytes where a write failed, and the crash that comes decides which of them are left.
@@ -81,7 +96,8 @@ module _ (sum : List ℕ → ℕ) (size : ℕ) where
   IsOwn s (command.Crash choice) (reply.Crashed taken) = NoForeign sum size s (content_left (left_after choice taken) s)
   IsOwn s _ r = Unit {0}
 
-  -- What a command comes to that isn't refused, where this log is open or none is: what it makes of the device, and where the run stands then.
+  -- What a command comes to that isn't refused, where this log is open or none is, once no mark is due: what it makes of the device, and where the run stands
+  -- then.
   abbrev pub StepBy : RunState → Option LogView → Command → Reply → DeviceView → RunState → Type 0
   StepBy a log (command.Crash choice) r new b = CrashStep a choice r new b
   StepBy a log (command.Stop n) r new b = StopStep a n r new b
@@ -94,7 +110,7 @@ module _ (sum : List ℕ → ℕ) (size : ℕ) where
   StepBy a (Some l) (command.Rewrite page) r new b = (new ≡ a.device) × RewriteStep size a l page r new b
   StepBy a (Some l) command.BeginBatch r new b = (new ≡ a.device) × ReserveStep size a l does.Skip manifest_page blank_manifest r new b
   StepBy a (Some l) command.EndBatch r new b = (new ≡ a.device) × EndStep a l r new b
-  StepBy a (Some l) (command.Complete t) r new b = (new ≡ a.device) × CompleteStep a l t r new b
+  StepBy a (Some l) (command.Complete t) r new b = (new ≡ a.device) × CompleteStep size a l t r new b
   StepBy a (Some l) (command.Abort t) r new b = AbortActs t l a.device r new × AbortStep a l t r new b
   StepBy a (Some l) (command.Write i) r new b = WriteStep sum size a l i r new b
   StepBy a (Some l) command.Flush r new b = FlushStep sum size a l r new b
@@ -103,10 +119,15 @@ module _ (sum : List ℕ → ℕ) (size : ℕ) where
   StepBy a (Some l) command.Halt r new b = HaltStep a r new b
   StepBy a log _ r new b = ⊥
 
+  -- One that calls the log makes the mark first that is due.
+  abbrev pub StepFrom : RunState → Bool → Option DueMark → Command → Reply → DeviceView → RunState → Type 0
+  StepFrom a true (Some d) c r new b = Postpones a r new b ⊎ StepBy (with_mark size a d) (with_mark size a d).log c r new b
+  StepFrom a _ due c r new b = StepBy a a.log c r new b
+
   -- One that is refused does nothing.
   abbrev pub IsStep : RunState → Command → Reply → DeviceView → RunState → Type 0
   IsStep a c (reply.Refused w) new b = (new ≡ a.device) × (b ≡ a)
-  IsStep a c r new b = StepBy a a.log c r new b
+  IsStep a c r new b = StepFrom a (calls_log c) a.due c r new b
 
   -- At each moment from one trace to another, what a crash leaves can be recovered, for where a run stands.
   abbrev pub StaysRecoverable : RunState → Trace → Trace → Type 0

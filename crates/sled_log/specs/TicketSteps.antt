@@ -25,14 +25,15 @@ use Rattle.sled_log.specs.declared.session.command.Reply.TheVariants as reply
 use Rattle.sled_log.specs.RunStates.{DeviceView, EndsInReach, LogView, RunState, body_in, is_behind, made_ready, message_at, one_blob, opens, page_now}
 use Rattle.sled_log.specs.RunStates.{heads_at, machine_with}
 use Rattle.sled_log.specs.RunStates.{places_without, rewriting_at, start_with, target_in, waiting_with, with_log}
+use Rattle.sled_log.specs.SessionMarks.{mark_for, marking, with_pin, without_pin}
 
 -- the place and the pointer that are answered are those of a message
 abbrev pub IsAnswerFor : Message → ℤ → DiskPtr → Type 0
 IsAnswerFor m place pointer = (place ≡ pos m.place) × (pointer ≡ m.pointer)
 
--- the log with a reservation for a message that begins at this position
+-- the log with a reservation for a message that begins at this position, which has a pin
 abbrev pub reserving : ℕ → LogView → Position → Message → LogView
-reserving size l q m = record l {
+reserving size l q m = record (with_pin l) {
   position = behind_record size q m.size;
   end = m.place + m.size;
   waiting = waiting_with l q;
@@ -118,26 +119,27 @@ spent l t places begun = record l { begun = begun; outstanding = places; tickets
 abbrev pub keeping : IoError → LogView → LogView
 keeping e l = record l { fault = Some e }
 
--- The message of an open reservation comes to the history. Where it is the first of its page, that is begun.
-pub record HasCompleted (a : RunState) (l : LogView) (t : ℕ) (place : ℤ) (pointer : DiskPtr) (new : DeviceView) (b : RunState) : Type 0 where
+-- The message of an open reservation comes to the history. Where it is the first of its page, that is begun. It is marked at once, and its pin goes back; or
+-- memory for the mark is refused, and it is due, and the pin stays out.
+pub record HasCompleted (size : ℕ) (a : RunState) (l : LogView) (t : ℕ) (place : ℤ) (pointer : DiskPtr) (new : DeviceView) (b : RunState) : Type 0 where
   pub message : Message
   pub reserved : slice_get l.tickets t ≡ Some (Some message)
   pub fault : l.fault ≡ None
   pub answer : IsAnswerFor message place pointer
   pub history : History
   pub step : Step a.history (Completed message) history
-  pub leads : b ≡ record a {
-    device = new;
-    history = history;
-    log = Some (spent l t (places_without message.place (opens l)) (if message.page == l.begun then l.begun + 1 else l.begun));
-  }
+  -- the log, but for the mark
+  pub log : LogView
+  pub is : log ≡ spent l t (places_without message.place (opens l)) (if message.page == l.begun then l.begun + 1 else l.begun)
+  pub leads : (b ≡ record a { device = new; history = history; log = Some (marking size (mark_for size a.floor a.history message) log) })
+      ⊎ (b ≡ record a { device = new; history = history; log = Some log; due = Some (mark_for size a.floor a.history message) })
 
--- Without memory for it nothing is done. Where the log keeps a failure the ticket is spent, and the reservation stays open.
-abbrev pub CompleteStep : RunState → LogView → ℕ → Reply → DeviceView → RunState → Type 0
-CompleteStep a l t (reply.Done place pointer) new b = HasCompleted a l t place pointer new b
-CompleteStep a l t (reply.Failed (Io e)) new b = (l.fault ≡ Some e) × (b ≡ with_log a new (Some (spent l t (opens l) l.begun)))
-CompleteStep a l t (reply.Failed OutOfMemory) new b = (l.fault ≡ None) × (b ≡ a)
-CompleteStep a l t _ new b = ⊥
+-- Without memory for it nothing is done. Where the log keeps a failure the ticket is spent, with its pin, and the reservation stays open.
+abbrev pub CompleteStep : ℕ → RunState → LogView → ℕ → Reply → DeviceView → RunState → Type 0
+CompleteStep size a l t (reply.Done place pointer) new b = HasCompleted size a l t place pointer new b
+CompleteStep size a l t (reply.Failed (Io e)) new b = (l.fault ≡ Some e) × (b ≡ with_log a new (Some (without_pin (spent l t (opens l) l.begun))))
+CompleteStep size a l t (reply.Failed OutOfMemory) new b = (l.fault ≡ None) × (b ≡ a)
+CompleteStep size a l t _ new b = ⊥
 
 -- the log once this message was given up
 abbrev pub giving_up : Message → LogView → LogView
@@ -149,7 +151,7 @@ pub record HasAborted (a : RunState) (l : LogView) (t : ℕ) (place : ℤ) (poin
   pub reserved : slice_get l.tickets t ≡ Some (Some message)
   pub fault : l.fault ≡ None
   pub answer : IsAnswerFor message place pointer
-  pub leads : b ≡ with_log a new (Some (giving_up message (spent l t (places_without message.place (opens l)) l.begun)))
+  pub leads : b ≡ with_log a new (Some (giving_up message (without_pin (spent l t (places_without message.place (opens l)) l.begun))))
 
 -- the blob that the reservation of a session's message made, which lies at a place: its name is that place, while the item of a rewritten one stays in the
 -- blob of an earlier message
@@ -160,12 +162,12 @@ own_in place (Blob lid blob) = if int_eq blob place then Some blob else None
 abbrev pub own_of : Message → Option ℤ
 own_of m = own_in (pos m.place) m.pointer
 
--- Its ticket is spent, and the reservation stays open: the log kept a failure, or the device failed to remove the message's own blob, and the log keeps that.
+-- Its ticket is spent, with its pin, and the reservation stays open: the log kept a failure, or the device failed to remove the message's own blob, and the log keeps that.
 pub record AbortFails (a : RunState) (l : LogView) (t : ℕ) (e : IoError) (new : DeviceView) (b : RunState) : Type 0 where
   pub message : Message
   pub reserved : slice_get l.tickets t ≡ Some (Some message)
   pub cause : RemovedAnswers {T = Unit {0}} (Err (Io e)) (own_of message) l.fault (Some e) a.device.failures new.failures
-  pub leads : b ≡ with_log a new (Some (keeping e (spent l t (opens l) l.begun)))
+  pub leads : b ≡ with_log a new (Some (keeping e (without_pin (spent l t (opens l) l.begun))))
 
 abbrev pub AbortStep : RunState → LogView → ℕ → Reply → DeviceView → RunState → Type 0
 AbortStep a l t (reply.Done place pointer) new b = HasAborted a l t place pointer new b
@@ -201,11 +203,11 @@ pub record HasEnded (a : RunState) (l : LogView) (place : ℤ) (pointer : DiskPt
   pub leads : b ≡ record a {
     device = new;
     history = history;
-    log = Some (noting (batch_of l begun.message) (spent l begun.ticket (places_without begun.message.place (opens l)) l.begun));
+    log = Some (noting (batch_of l begun.message) (without_pin (spent l begun.ticket (places_without begun.message.place (opens l)) l.begun)));
   }
 
--- Where the log keeps a failure its ticket is spent, and the reservation stays open.
+-- Where the log keeps a failure its ticket is spent, with its pin, and the reservation stays open.
 abbrev pub EndStep : RunState → LogView → Reply → DeviceView → RunState → Type 0
 EndStep a l (reply.Done place pointer) new b = HasEnded a l place pointer new b
-EndStep a l (reply.Failed (Io e)) new b = (l.fault ≡ Some e) × ((begun : HasBegun l) × (b ≡ with_log a new (Some (spent l begun.ticket (opens l) l.begun))))
+EndStep a l (reply.Failed (Io e)) new b = (l.fault ≡ Some e) × ((begun : HasBegun l) × (b ≡ with_log a new (Some (without_pin (spent l begun.ticket (opens l) l.begun)))))
 EndStep a l _ new b = ⊥

@@ -22,7 +22,7 @@ use Rattle.sled_core.specs.Logged.{logged}
 use Rattle.sled_core.specs.OpenBatches.{behind_batch, not_whole, stable_below}
 use Rattle.sled_core.specs.Positions.{Position}
 use Rattle.sled_core.specs.Stable.{behind_place}
-use Rattle.sled_core.specs.Waiting.{BufferAt, BufferStart, HasLength, Span, one_pending, spans, unless_held}
+use Rattle.sled_core.specs.Waiting.{BufferAt, BufferStart, HasLength, Span, free_below, front_below, one_pending, spans}
 use Rattle.sled_core.specs.WholeBuffers.{IsWholeBuffer}
 use Rattle.sled_core.specs.Running.{end_below}
 use Rattle.sled_log.specs.declared.session.command.Reply.{Reply}
@@ -132,11 +132,6 @@ view_flushed l waiting start fault ledger position =
 abbrev pub LeavesLog : RunState → LogView → DeviceView → RunState → List Span → BufferStart → Option IoError → Ledger → (Machine → Position) → Type 0
 LeavesLog a l new b waiting start fault ledger position = b ≡ with_log a new (Some (view_flushed l waiting start fault ledger position))
 
--- of buffers one behind another those in front of the first that is held up
-abbrev pub free_front : List BufferAt → List BufferAt
-free_front [] = []
-free_front (b ∷ bs) = unless_held b.held (b ∷ free_front bs)
-
 -- the buffers that begin below a place, those that are left behind them, and the least place of an open reservation that holds the first ones up
 abbrev pub written_below : ℕ → LogView → List Span
 written_below to l = spans_below to (sealed_below to l)
@@ -160,7 +155,7 @@ pub record HasWrittenTo (sum : List ℕ → ℕ) (size : ℕ) (a : RunState) (l 
   pub sound : l.fault ≡ None
   pub in_reach : l.start.place < to → EndsInReach size l.position
   pub free : holding to l ≡ None
-  pub writes : Writes sum size l (written_below to l) free_front (ledger_below to l) a.device new
+  pub writes : Writes sum size l (sealed_below to l) (free_below to) (ledger_below to l) a.device new
   pub failures : new.failures ≡ a.device.failures
   pub growth : stable_of l + n ≡ stable_from to l
   pub reaches : to ≤ synced_from to l
@@ -168,7 +163,8 @@ pub record HasWrittenTo (sum : List ℕ → ℕ) (size : ℕ) (a : RunState) (l 
   pub leads : b ≡ record a {
     device = new;
     acknowledged = max a.acknowledged (end_below (stable_from to l) a.history);
-    log = Some (view_flushed l (left_from to l) (start_below to l) None (ledger_behind size writes.buffers (ledger_below to l)) (position_below size to l));
+    log = Some (view_flushed l (left_from to l) (start_below to l) None (ledger_behind size (front_below to writes.buffers) (ledger_below to l))
+        (position_below size to l));
   }
 
 -- slots and marks behind the writes of the first of these buffers
@@ -181,7 +177,7 @@ ledger_after size to l bs count = ledger_behind size (take count bs) (ledger_bel
 abbrev pub FailsTo : (List ℕ → ℕ) → ℕ → RunState → LogView → ℕ → Error → DeviceView → RunState → Type 0
 FailsTo sum size a l to e new b =
     Fails l e (holding to l) ((l.start.place < to) × (EndsInReach size l.position → ⊥)) a.device new (λ fault.
-    (count : ℕ) × (some : WritesSome sum size l (written_below to l) free_front (ledger_below to l) count e fault a.device new)
+    (count : ℕ) × (some : WritesSome sum size l (sealed_below to l) (free_below to) (ledger_below to l) count e fault a.device new)
     × ((LeavesLog a l new b (drop count (sealed_below to l)) (start_below to l) fault (ledger_after size to l some.buffers count) (position_below size to l)
     × (first_waiting (drop count (sealed_below to l)) (start_below to l) < to))
     ⊎ ((0 < count) × (account : Account) × (account ≡ (ledger_after size to l some.buffers count).account)

@@ -7,6 +7,7 @@ ghost use Rattle.std.specs.Prelude.{IsSome};
 pub mod command;
 mod ending;
 mod known;
+mod marking;
 mod opened;
 mod opening;
 mod reading;

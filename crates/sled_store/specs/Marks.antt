@@ -37,6 +37,16 @@ pub record IsFormerState (H : History) (page : ℕ) (old : List CacheInfo) : Typ
   pub past : IsPast H cut
   pub is : old ≡ map info_of (table H cut page)
 
+-- what a segment is told of a message but for its length
+abbrev pub unsized : CacheInfo → CacheInfo
+unsized i = record i { log_size = 0 }
+
+-- The same, whatever lengths are told of them: by those no one tells which messages are needed. A recovery has none of a Free.
+pub record IsFormerList (H : History) (page : ℕ) (old : List CacheInfo) : Type 0 where
+  pub cut : ℕ
+  pub past : IsPast H cut
+  pub is : map unsized old ≡ map (λ m. unsized (info_of m)) (table H cut page)
+
 -- the greatest mark so far, where one more is given
 abbrev pub greatest_mark : ℕ → ℤ → ℕ
 greatest_mark mark (pos next) = max mark next

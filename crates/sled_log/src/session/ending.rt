@@ -3,34 +3,41 @@ ghost use Rattle.std.specs.Prelude.{◌≡◌, None, OnErr, OnOk};
 ghost use Rattle.sled_core.specs.Fits.{config_of, fault_of};
 ghost use Rattle.sled_log.specs.declared.session.command.Command.TheVariants as told;
 ghost use Rattle.sled_log.specs.Endings.{HasRoomFor, KeepsPages, TakesTicket, batch_left};
-ghost use Rattle.sled_log.specs.RunPhases.{CarriesOut, RunsOn, view_by};
+ghost use Rattle.sled_log.specs.RunPhases.{CarriesHere, RunsOn, view_by};
 
 use crate::session::Phase;
 use crate::session::command::{Refusal, Reply};
 use crate::session::known::{apply, room_to_apply};
+use crate::session::marking::{Due, mark, postpone, replaced_by, unpin};
 use crate::session::opened::{Opened, Ticket};
 use sled_codec::result::{Error, PageId, Result};
 use sled_codec::serialization::Checksum;
 use sled_codec::serialization::message::BATCH_MANIFEST_PID;
 use sled_store::CrashDevice;
+use sled_store::segment::accountant::CacheInfo;
 
-/// Completes the message of a ticket. The room for its entry in the table is made first.
+/// Completes the message of a ticket, and marks it, and gives the pin back. The room for its entry in the table is made first, and the list of what it
+/// takes the place of; where memory for the mark is refused that is due.
 pub(crate) fn complete<D: CrashDevice, C: Checksum>(
     opened: &mut Opened<D, C>,
     number: usize,
 ) -> Reply
-    ensures step { CarriesOut (view_by D.trace D.faults D.is_stopped) C.sum_of
+    ensures step { opened.old.due ≡ None → CarriesHere (view_by D.trace D.faults D.is_stopped) C.sum_of
         (Phase.Open opened.old) (told.Complete number) (Phase.Open opened.new, result) }
     ensures on { RunsOn D.trace (config_of opened.old.log) (config_of opened.new.log) }
 {
     if room_for(opened, number).is_err() {
         return Reply::Failed(Error::OutOfMemory);
     }
+    let Ok(old) = former_for(opened, number) else {
+        return Reply::Failed(Error::OutOfMemory);
+    };
     let Some(
         Ticket {
             kind,
             page,
             reservation,
+            guard,
         },
     ) = take_open(opened, number)
     else {
@@ -38,16 +45,52 @@ pub(crate) fn complete<D: CrashDevice, C: Checksum>(
     };
     if reservation.is_manifest() {
         reservation.abandon();
+        guard.abandon();
         return Reply::Refused(Refusal::Ticket);
     }
     let size = reservation.reservation_len() as u64;
     match opened.log.complete(reservation) {
         Ok((place, pointer)) => {
-            let entry = (place, pointer, size);
-            apply(opened.alloc, &mut opened.pages, kind, page, entry);
+            apply(opened.alloc, &mut opened.pages, kind, page, (place, pointer, size));
+            let new = CacheInfo {
+                lsn: place,
+                pointer,
+                log_size: size,
+            };
+            let due = Due {
+                kind,
+                page,
+                old,
+                new,
+                guard,
+            };
+            if let Some(due) = mark(&mut opened.log, due) {
+                postpone(opened, due);
+            }
             Reply::Done(place, pointer)
         }
-        Err(e) => Reply::Failed(e),
+        Err(e) => {
+            unpin(&mut opened.log, guard);
+            Reply::Failed(e)
+        }
+    }
+}
+
+/// Returns what a ticket's message takes the place of, unless the log keeps a failure.
+fn former_for<D: CrashDevice, C: Checksum>(
+    opened: &Opened<D, C>,
+    number: usize,
+) -> Result<Vec<CacheInfo>>
+{
+    if opened.log.failure().is_some() {
+        return Ok(Vec::new(opened.alloc));
+    }
+    match opened.tickets.get(number) {
+        Some(Some(ticket)) => {
+            let state = opened.pages.get(ticket.page as usize);
+            replaced_by(opened.alloc, ticket.kind, ticket.page, state, opened.origin)
+        }
+        Some(None) | None => Ok(Vec::new(opened.alloc)),
     }
 }
 
@@ -68,7 +111,7 @@ fn room_for<D: CrashDevice, C: Checksum>(opened: &mut Opened<D, C>, number: usiz
 
 /// Gives the message of a ticket up.
 pub(crate) fn abort<D: CrashDevice, C: Checksum>(opened: &mut Opened<D, C>, number: usize) -> Reply
-    ensures step { CarriesOut (view_by D.trace D.faults D.is_stopped) C.sum_of
+    ensures step { CarriesHere (view_by D.trace D.faults D.is_stopped) C.sum_of
         (Phase.Open opened.old) (told.Abort number) (Phase.Open opened.new, result) }
     ensures on { RunsOn D.trace (config_of opened.old.log) (config_of opened.new.log) }
 {
@@ -77,12 +120,15 @@ pub(crate) fn abort<D: CrashDevice, C: Checksum>(opened: &mut Opened<D, C>, numb
             kind: _,
             page: _,
             reservation,
+            guard,
         },
     ) = take_open(opened, number)
     else {
         return Reply::Refused(Refusal::Ticket);
     };
-    match opened.log.abort(reservation) {
+    let aborted = opened.log.abort(reservation);
+    unpin(&mut opened.log, guard);
+    match aborted {
         Ok((place, pointer)) => Reply::Done(place, pointer),
         Err(e) => Reply::Failed(e),
     }
@@ -90,7 +136,7 @@ pub(crate) fn abort<D: CrashDevice, C: Checksum>(opened: &mut Opened<D, C>, numb
 
 /// Ends the batch that is begun with the greatest place that was reserved.
 pub(crate) fn end<D: CrashDevice, C: Checksum>(opened: &mut Opened<D, C>) -> Reply
-    ensures step { CarriesOut (view_by D.trace D.faults D.is_stopped) C.sum_of
+    ensures step { CarriesHere (view_by D.trace D.faults D.is_stopped) C.sum_of
         (Phase.Open opened.old) told.EndBatch (Phase.Open opened.new, result) }
     ensures on { RunsOn D.trace (config_of opened.old.log) (config_of opened.new.log) }
 {
@@ -102,6 +148,7 @@ pub(crate) fn end<D: CrashDevice, C: Checksum>(opened: &mut Opened<D, C>) -> Rep
             kind: _,
             page: _,
             reservation,
+            guard,
         },
     ) = take_open(opened, number)
     else {
@@ -110,9 +157,12 @@ pub(crate) fn end<D: CrashDevice, C: Checksum>(opened: &mut Opened<D, C>) -> Rep
     let peg = opened.log.reserved_offset();
     if !(reservation.is_manifest() && opened.log.may_end_at(&reservation, peg)) {
         reservation.abandon();
+        guard.abandon();
         return Reply::Refused(Refusal::Batch);
     }
-    match opened.log.mark_writebatch(reservation, peg) {
+    let ended = opened.log.mark_writebatch(reservation, peg);
+    unpin(&mut opened.log, guard);
+    match ended {
         Ok((low, pointer)) => Reply::Done(low, pointer),
         Err(e) => Reply::Failed(e),
     }

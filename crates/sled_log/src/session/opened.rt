@@ -11,6 +11,7 @@ ghost use Rattle.sled_log.specs.RunStates.{is_present, one_blob, page_now};
 ghost use Rattle.sled_log.specs.RunPhases.{IsOpenAt, Unstored, seen};
 
 use crate::session::command::{Command, Refusal};
+use crate::session::marking::Due;
 use sled_codec::result::{BlobPointer, DiskPtr, PageId};
 use sled_codec::serialization::message::BATCH_MANIFEST_PID;
 use sled_codec::serialization::snapshot::PageState;
@@ -20,11 +21,11 @@ use sled_core::reservation::{Guard, Reservation};
 use sled_store::{CrashDevice, RunningConfig};
 use std::alloc::Global;
 
-/// A log that is open. A pin is out, since a session marks no message.
+/// A log that is open. A pin is out for each open ticket, and for the mark that is due.
 pub(crate) struct Opened<D, C> {
     pub(crate) alloc: Global,
     pub(crate) log: Log<D, C>,
-    pub(crate) guard: Guard,
+    pub(crate) origin: Origin,
     /// The table of what is completed.
     pub(crate) pages: Vec<PageState>,
     /// Which pages have an open ticket, by number. Pages behind its end have none.
@@ -33,13 +34,23 @@ pub(crate) struct Opened<D, C> {
     pub(crate) batch: Option<usize>,
     /// By number. One that was spent is gone.
     pub(crate) tickets: Vec<Option<Ticket>>,
+    /// The mark of the last completed message, where memory for it was refused.
+    pub(crate) due: Option<Due>,
 }
 
-/// A reservation that is open.
+/// What a log was opened on: how large its segments are, and the cut of the recovery.
+#[derive(Clone, Copy)]
+pub(crate) struct Origin {
+    pub(crate) size: u64,
+    pub(crate) floor: u64,
+}
+
+/// A reservation that is open, with its pin.
 pub(crate) struct Ticket {
     pub(crate) kind: LogKind,
     pub(crate) page: PageId,
     pub(crate) reservation: Reservation,
+    pub(crate) guard: Guard,
 }
 
 /// How many entries a page may have: its Replace, and 254 fragments.
@@ -227,18 +238,19 @@ impl<D: CrashDevice, C: Checksum> Opened<D, C> {
         }
     }
 
-    /// Gives all tickets up, and then the log with its pin, and returns what that ran on.
+    /// Gives all tickets up, the mark that is due, and then the log, and returns what that ran on.
     pub(crate) fn halt(self) -> RunningConfig<D, C>
         ensures { result ≡ config_of self.log }
     {
         let Opened {
             alloc: _,
             log,
-            guard,
+            origin: _,
             pages: _,
             busy: _,
             batch: _,
             mut tickets,
+            due,
         } = self;
         while let Some(ticket) = tickets.pop() {
             if let Some(ticket) = ticket {
@@ -246,7 +258,9 @@ impl<D: CrashDevice, C: Checksum> Opened<D, C> {
             }
         }
         tickets.destroy_empty();
-        guard.abandon();
+        if let Some(due) = due {
+            due.abandon();
+        }
         log.halt()
     }
 }
@@ -258,8 +272,10 @@ impl Ticket {
             kind: _,
             page: _,
             reservation,
+            guard,
         } = self;
         reservation.abandon();
+        guard.abandon();
     }
 }
 

@@ -9,7 +9,7 @@ ghost use Rattle.sled_log.specs.Openings.{Starts};
 
 use crate::session::Phase;
 use crate::session::command::Reply;
-use crate::session::opened::Opened;
+use crate::session::opened::{Opened, Origin};
 use crate::snapshot::{Snapshot, read_snapshot_or_default};
 use sled_codec::serialization::Checksum;
 use sled_core::logger::Log;
@@ -40,10 +40,12 @@ fn start<D: CrashDevice, C: Checksum>(
     ensures on { RunsOn D.trace config (running result.0) }
 {
     let alloc = config.alloc();
+    let origin = Origin {
+        size: config.config.segment_size,
+        floor: snapshot.stable_place(),
+    };
     match Log::start(config, &snapshot) {
         Ok(log) => {
-            let mut log = log;
-            let guard = log.pin();
             let pages = snapshot.pt.len();
             let reply = Reply::Opened {
                 stable: snapshot.stable_lsn,
@@ -53,11 +55,12 @@ fn start<D: CrashDevice, C: Checksum>(
             let opened = Opened {
                 alloc,
                 log,
-                guard,
+                origin,
                 pages: snapshot.pt,
                 busy: Vec::new(alloc),
                 batch: None,
                 tickets: Vec::new(alloc),
+                due: None,
             };
             (Phase::Open(opened), reply)
         }

@@ -1,24 +1,29 @@
 //! Keeping places for messages, and beginning batches.
-ghost use Rattle.std.specs.Prelude.{[], ◌≡◌, ◌≢◌, ◌<◌, ◌≤◌, false, get_or, length, vec_capacity, vec_len, None, OnErr, OnOk};
+ghost use Rattle.std.specs.Prelude.{[], ◌≡◌, ◌≢◌, ◌<◌, ◌≤◌, ◌-◌, ◌^◌, false, get_or, length, vec_capacity, vec_len, None, OnErr, OnOk};
 ghost use Rattle.sled_codec.specs.History.{ChangesPage};
 ghost use Rattle.sled_codec.specs.declared.serialization.message.LogKind.TheVariants.{Free, Skip};
 ghost use Rattle.sled_core.specs.Manifests.{manifest_page};
 ghost use Rattle.sled_core.specs.Tickets.{place_of, pointer_of};
 ghost use Rattle.sled_log.specs.declared.session.command.Command.TheVariants as told;
 ghost use Rattle.sled_log.specs.Reservations.{HoldsTicket, MakesRoom, Reserves};
-ghost use Rattle.sled_log.specs.RunPhases.{CarriesOut, RunsOn, view_by};
-ghost use Rattle.sled_core.specs.Fits.{config_of, fault_of};
+ghost use Rattle.sled_log.specs.RunPhases.{CarriesHere, RunsOn, view_by};
+ghost use Rattle.sled_core.specs.Causes.{FaultOrMemory};
+ghost use Rattle.sled_core.specs.Fits.{config_of, fault_of, pins_of};
 
 use crate::session::Phase;
 use crate::session::command::{Refusal, Reply};
+use crate::session::marking::unpin;
 use crate::session::opened::{Opened, Ticket};
 use sled_codec::result::{Error, PageId, Result};
 use sled_codec::serialization::message::BATCH_MANIFEST_PID;
 use sled_codec::serialization::{BatchManifest, Checksum, LogKind, Serialize};
-use sled_core::reservation::Reservation;
+use sled_core::reservation::{Guard, Reservation};
 use sled_store::CrashDevice;
 
-/// Keeps a place for a message of a page, and numbers its ticket. The room for both is made first.
+/// How many tickets may be open: each has a pin.
+const MOST_PINS: u64 = 4_294_967_295;
+
+/// Keeps a place for a message of a page, with a pin, and numbers its ticket. The room for both is made first.
 pub(crate) fn reserve<D: CrashDevice, C: Checksum, T: Serialize>(
     opened: &mut Opened<D, C>,
     kind: LogKind,
@@ -31,75 +36,96 @@ pub(crate) fn reserve<D: CrashDevice, C: Checksum, T: Serialize>(
     ensures step { Reserves (view_by D.trace D.faults D.is_stopped) C.sum_of opened.old kind page (T.short (T.meaning item.now)) opened.new result }
     ensures on { RunsOn D.trace (config_of opened.old.log) (config_of opened.new.log) }
 {
-    if room_for(opened, page).is_err() {
-        return Reply::Failed(Error::OutOfMemory);
+    if let Err(e) = room_for(opened, page) {
+        return Reply::Failed(e);
     }
-    match opened.log.reserve(kind, page, item, &opened.guard) {
-        Ok(reservation) => hold(opened, kind, page, reservation),
-        Err(e) => Reply::Failed(e),
+    let guard = opened.log.pin();
+    match opened.log.reserve(kind, page, item, &guard) {
+        Ok(reservation) => hold(opened, kind, page, reservation, guard),
+        Err(e) => give_back(opened, guard, e),
     }
 }
 
 /// Keeps a place for a Replace of a page that is one item in a blob, which stays there, and numbers its ticket. The room for it
 /// is made first.
 pub(crate) fn rewrite<D: CrashDevice, C: Checksum>(opened: &mut Opened<D, C>, page: PageId) -> Reply
-    ensures step { CarriesOut (view_by D.trace D.faults D.is_stopped) C.sum_of
+    ensures step { CarriesHere (view_by D.trace D.faults D.is_stopped) C.sum_of
         (Phase.Open opened.old) (told.Rewrite page) (Phase.Open opened.new, result) }
     ensures on { RunsOn D.trace (config_of opened.old.log) (config_of opened.new.log) }
 {
     let Some(blob) = opened.blob_of(page) else {
         return Reply::Refused(Refusal::Page);
     };
-    if room_for(opened, page).is_err() {
-        return Reply::Failed(Error::OutOfMemory);
+    if let Err(e) = room_for(opened, page) {
+        return Reply::Failed(e);
     }
-    let log = &mut opened.log;
-    match log.rewrite_blob_pointer(page, blob, &opened.guard) {
-        Ok(reservation) => hold(opened, LogKind::Replace, page, reservation),
-        Err(e) => Reply::Failed(e),
+    let guard = opened.log.pin();
+    match opened.log.rewrite_blob_pointer(page, blob, &guard) {
+        Ok(reservation) => hold(opened, LogKind::Replace, page, reservation, guard),
+        Err(e) => give_back(opened, guard, e),
     }
 }
 
 /// Begins a batch: keeps a place for its manifest, and numbers the ticket of that. The room for it is made first.
 pub(crate) fn begin<D: CrashDevice, C: Checksum>(opened: &mut Opened<D, C>) -> Reply
-    ensures step { CarriesOut (view_by D.trace D.faults D.is_stopped) C.sum_of
+    ensures step { CarriesHere (view_by D.trace D.faults D.is_stopped) C.sum_of
         (Phase.Open opened.old) told.BeginBatch (Phase.Open opened.new, result) }
     ensures on { RunsOn D.trace (config_of opened.old.log) (config_of opened.new.log) }
 {
-    if room_for_ticket(opened).is_err() {
-        return Reply::Failed(Error::OutOfMemory);
+    if let Err(e) = room_for_ticket(opened) {
+        return Reply::Failed(e);
     }
     let manifest = BatchManifest(0);
+    let guard = opened.log.pin();
     let log = &mut opened.log;
-    match log.reserve(LogKind::Skip, BATCH_MANIFEST_PID, &manifest, &opened.guard) {
-        Ok(reservation) => hold_manifest(opened, reservation),
-        Err(e) => Reply::Failed(e),
+    match log.reserve(LogKind::Skip, BATCH_MANIFEST_PID, &manifest, &guard) {
+        Ok(reservation) => hold_manifest(opened, reservation, guard),
+        Err(e) => give_back(opened, guard, e),
     }
 }
 
-/// Makes room for one more ticket, unless the log keeps a failure.
+/// Gives a pin back where no place was kept.
+fn give_back<D: CrashDevice, C: Checksum>(
+    opened: &mut Opened<D, C>,
+    guard: Guard,
+    why: Error,
+) -> Reply
+{
+    unpin(&mut opened.log, guard);
+    Reply::Failed(why)
+}
+
+/// Makes room for one more ticket.
+///
+/// # Errors
+///
+/// `Io` where the log keeps a failure, and `OutOfMemory`, also where as many pins are out as can be.
 fn room_for_ticket<D: CrashDevice, C: Checksum>(opened: &mut Opened<D, C>) -> Result<()>
     ensures room { MakesRoom opened.old opened.new }
-    ensures enough { OnOk result (fault_of opened.old.log ≡ None → vec_len opened.new.tickets < vec_capacity opened.new.tickets) }
-    ensures whole { OnErr result (fault_of opened.old.log ≡ None) }
+    ensures enough { OnOk result ((pins_of opened.old.log < 2 ^ 32 - 1) × (vec_len opened.new.tickets < vec_capacity opened.new.tickets)) }
+    ensures whole { FaultOrMemory result ⊥ (fault_of opened.old.log) }
 {
-    if opened.log.failure().is_some() {
-        return Ok(());
+    if let Some(e) = opened.log.failure() {
+        return Err(Error::Io(e));
+    }
+    if opened.log.pins() >= MOST_PINS {
+        return Err(Error::OutOfMemory);
     }
     Ok(opened.tickets.reserve(1)?)
 }
 
-/// Makes room for one more ticket, and for the note that its page has one, unless the log keeps a failure.
+/// Makes room for one more ticket, and for the note that its page has one.
+///
+/// # Errors
+///
+/// As of `room_for_ticket`.
 fn room_for<D: CrashDevice, C: Checksum>(opened: &mut Opened<D, C>, page: PageId) -> Result<()>
     ensures room { MakesRoom opened.old opened.new }
-    ensures enough { OnOk result (fault_of opened.old.log ≡ None
-        → (vec_len opened.new.tickets < vec_capacity opened.new.tickets) × (page < length opened.new.busy.items)) }
-    ensures whole { OnErr result (fault_of opened.old.log ≡ None) }
+    ensures enough { OnOk result ((pins_of opened.old.log < 2 ^ 32 - 1) × (vec_len opened.new.tickets < vec_capacity opened.new.tickets)
+        × (page < length opened.new.busy.items)) }
+    ensures whole { FaultOrMemory result ⊥ (fault_of opened.old.log) }
 {
-    if opened.log.failure().is_some() {
-        return Ok(());
-    }
-    opened.tickets.reserve(1)?;
+    room_for_ticket(opened)?;
     while opened.busy.len() as u64 <= page {
         opened.busy.push(false)?;
     }
@@ -112,11 +138,12 @@ fn hold<D: CrashDevice, C: Checksum>(
     kind: LogKind,
     page: PageId,
     reservation: Reservation,
+    guard: Guard,
 ) -> Reply
     requires room { vec_len opened.old.tickets < vec_capacity opened.old.tickets }
     requires page { page < length opened.old.busy.items }
     requires message { page ≢ manifest_page }
-    ensures held { HoldsTicket opened.old opened.new kind page reservation result }
+    ensures held { HoldsTicket opened.old opened.new kind page reservation guard result }
 {
     let number = opened.tickets.len();
     let reply = Reply::Reserved(number, reservation.lsn(), reservation.pointer());
@@ -125,6 +152,7 @@ fn hold<D: CrashDevice, C: Checksum>(
         kind,
         page,
         reservation,
+        guard,
     }));
     reply
 }
@@ -133,9 +161,10 @@ fn hold<D: CrashDevice, C: Checksum>(
 fn hold_manifest<D: CrashDevice, C: Checksum>(
     opened: &mut Opened<D, C>,
     reservation: Reservation,
+    guard: Guard,
 ) -> Reply
     requires { vec_len opened.old.tickets < vec_capacity opened.old.tickets }
-    ensures { HoldsTicket opened.old opened.new Skip manifest_page reservation result }
+    ensures { HoldsTicket opened.old opened.new Skip manifest_page reservation guard result }
 {
     let number = opened.tickets.len();
     let reply = Reply::Reserved(number, reservation.lsn(), reservation.pointer());
@@ -144,6 +173,7 @@ fn hold_manifest<D: CrashDevice, C: Checksum>(
         kind: LogKind::Skip,
         page: BATCH_MANIFEST_PID,
         reservation,
+        guard,
     }));
     reply
 }

@@ -1,16 +1,17 @@
 //! One command of a session, carried out in its phase (`specs/RunPhases.antt`).
-ghost use Rattle.std.specs.Prelude.{Bool, ◌≡◌};
+ghost use Rattle.std.specs.Prelude.{Bool, ◌≡◌, true, None};
 ghost use Rattle.sled_store.specs.Stops.{KeepsToStop};
 ghost use Rattle.sled_core.specs.Fits.{config_of};
 ghost use Rattle.sled_log.specs.declared.session.command.Command.TheVariants as command;
 ghost use Rattle.sled_log.specs.Devices.{RefusedBy, ToldIn, TouchesIn, is_barred, is_open};
 ghost use Rattle.sled_log.specs.Refusals.{is_crash, refusal_for, refused_closed};
-ghost use Rattle.sled_log.specs.Runs.{told};
-ghost use Rattle.sled_log.specs.RunPhases.{AnswersIn, CarriesOut, IsAt, RunsOn, Unstored, device_in, running, stands, view_by};
+ghost use Rattle.sled_log.specs.Runs.{calls_log, told};
+ghost use Rattle.sled_log.specs.RunPhases.{AnswersIn, CarriesHere, CarriesOut, IsAt, RunsOn, Unstored, device_in, running, stands, view_by};
 
 use crate::session::Phase;
 use crate::session::command::{Command, Refusal, Reply};
 use crate::session::ending::{abort, complete, end};
+use crate::session::marking::make_due;
 use crate::session::opened::Opened;
 use crate::session::opening::open;
 use crate::session::reading::read;
@@ -147,12 +148,41 @@ fn carry_out_closed<D: CrashDevice, C: Checksum>(
     }
 }
 
-/// Does that while a log is open.
+/// Does that while a log is open. What calls the log makes the mark first that is due.
 fn carry_out_open<D: CrashDevice, C: Checksum>(
     opened: Opened<D, C>,
     command: &Command,
 ) -> (Phase<D, C>, Reply)
     ensures step { CarriesOut (view_by D.trace D.faults D.is_stopped) C.sum_of (Phase.Open opened) command.now result }
+    ensures device { TouchesIn (view_by D.trace D.faults D.is_stopped) C.sum_of (Phase.Open opened) command.now result.0 result.1 }
+    ensures on { RunsOn D.trace (config_of opened.log) (running result.0) }
+{
+    let mut opened = opened;
+    if calls_log(command) {
+        if let Err(e) = make_due(&mut opened) {
+            return (Phase::Open(opened), Reply::Failed(e));
+        }
+    }
+    carry_out_marked(opened, command)
+}
+
+/// Whether a command calls the log that is open.
+fn calls_log(command: &Command) -> bool
+    ensures { result ≡ calls_log command.now }
+{
+    !matches!(
+        command,
+        Command::Open | Command::Halt | Command::Stop(_) | Command::Crash(_)
+    )
+}
+
+/// Does that once no mark is due, where it calls the log.
+fn carry_out_marked<D: CrashDevice, C: Checksum>(
+    opened: Opened<D, C>,
+    command: &Command,
+) -> (Phase<D, C>, Reply)
+    ensures step { (calls_log command.now ≡ true → opened.due ≡ None)
+        → CarriesHere (view_by D.trace D.faults D.is_stopped) C.sum_of (Phase.Open opened) command.now result }
     ensures device { TouchesIn (view_by D.trace D.faults D.is_stopped) C.sum_of (Phase.Open opened) command.now result.0 result.1 }
     ensures on { RunsOn D.trace (config_of opened.log) (running result.0) }
 {
