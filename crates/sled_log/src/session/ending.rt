@@ -111,7 +111,7 @@ fn room_for<D: CrashDevice, C: Checksum>(opened: &mut Opened<D, C>, number: usiz
 
 /// Gives the message of a ticket up.
 pub(crate) fn abort<D: CrashDevice, C: Checksum>(opened: &mut Opened<D, C>, number: usize) -> Reply
-    ensures step { CarriesHere (view_by D.trace D.faults D.is_stopped) C.sum_of
+    ensures step { opened.old.due ≡ None → CarriesHere (view_by D.trace D.faults D.is_stopped) C.sum_of
         (Phase.Open opened.old) (told.Abort number) (Phase.Open opened.new, result) }
     ensures on { RunsOn D.trace (config_of opened.old.log) (config_of opened.new.log) }
 {
@@ -136,7 +136,7 @@ pub(crate) fn abort<D: CrashDevice, C: Checksum>(opened: &mut Opened<D, C>, numb
 
 /// Ends the batch that is begun with the greatest place that was reserved.
 pub(crate) fn end<D: CrashDevice, C: Checksum>(opened: &mut Opened<D, C>) -> Reply
-    ensures step { CarriesHere (view_by D.trace D.faults D.is_stopped) C.sum_of
+    ensures step { opened.old.due ≡ None → CarriesHere (view_by D.trace D.faults D.is_stopped) C.sum_of
         (Phase.Open opened.old) told.EndBatch (Phase.Open opened.new, result) }
     ensures on { RunsOn D.trace (config_of opened.old.log) (config_of opened.new.log) }
 {

@@ -1,5 +1,5 @@
 //! Reading pages.
-ghost use Rattle.std.specs.Prelude.{◌≡◌, ◌∷◌, length, map};
+ghost use Rattle.std.specs.Prelude.{◌≡◌, ◌∷◌, length, map, None};
 ghost use Rattle.sled_core.specs.Fits.{config_of};
 ghost use Rattle.sled_log.specs.declared.session.command.Command.TheVariants as told;
 ghost use Rattle.sled_log.specs.Readings.{ReadsEntries, ReadsItem};
@@ -18,7 +18,7 @@ use std::alloc::Global;
 
 /// Reads what a page is.
 pub(crate) fn read<D: CrashDevice, C: Checksum>(opened: &mut Opened<D, C>, page: PageId) -> Reply
-    ensures step { CarriesHere (view_by D.trace D.faults D.is_stopped) C.sum_of
+    ensures step { opened.old.due ≡ None → CarriesHere (view_by D.trace D.faults D.is_stopped) C.sum_of
         (Phase.Open opened.old) (told.Read page) (Phase.Open opened.new, result) }
     ensures on { RunsOn D.trace (config_of opened.old.log) (config_of opened.new.log) }
 {

@@ -33,7 +33,7 @@ pub(crate) fn reserve<D: CrashDevice, C: Checksum, T: Serialize>(
     requires fits { T.fits (T.meaning item.now) }
     requires kind { ChangesPage kind }
     requires plain { kind ≡ Free → T.short (T.meaning item.now) ≡ [] }
-    ensures step { Reserves (view_by D.trace D.faults D.is_stopped) C.sum_of opened.old kind page (T.short (T.meaning item.now)) opened.new result }
+    ensures step { opened.old.due ≡ None → Reserves (view_by D.trace D.faults D.is_stopped) C.sum_of opened.old kind page (T.short (T.meaning item.now)) opened.new result }
     ensures on { RunsOn D.trace (config_of opened.old.log) (config_of opened.new.log) }
 {
     if let Err(e) = room_for(opened, page) {
@@ -49,7 +49,7 @@ pub(crate) fn reserve<D: CrashDevice, C: Checksum, T: Serialize>(
 /// Keeps a place for a Replace of a page that is one item in a blob, which stays there, and numbers its ticket. The room for it
 /// is made first.
 pub(crate) fn rewrite<D: CrashDevice, C: Checksum>(opened: &mut Opened<D, C>, page: PageId) -> Reply
-    ensures step { CarriesHere (view_by D.trace D.faults D.is_stopped) C.sum_of
+    ensures step { opened.old.due ≡ None → CarriesHere (view_by D.trace D.faults D.is_stopped) C.sum_of
         (Phase.Open opened.old) (told.Rewrite page) (Phase.Open opened.new, result) }
     ensures on { RunsOn D.trace (config_of opened.old.log) (config_of opened.new.log) }
 {
@@ -68,7 +68,7 @@ pub(crate) fn rewrite<D: CrashDevice, C: Checksum>(opened: &mut Opened<D, C>, pa
 
 /// Begins a batch: keeps a place for its manifest, and numbers the ticket of that. The room for it is made first.
 pub(crate) fn begin<D: CrashDevice, C: Checksum>(opened: &mut Opened<D, C>) -> Reply
-    ensures step { CarriesHere (view_by D.trace D.faults D.is_stopped) C.sum_of
+    ensures step { opened.old.due ≡ None → CarriesHere (view_by D.trace D.faults D.is_stopped) C.sum_of
         (Phase.Open opened.old) told.BeginBatch (Phase.Open opened.new, result) }
     ensures on { RunsOn D.trace (config_of opened.old.log) (config_of opened.new.log) }
 {
