@@ -267,7 +267,7 @@ impl<D: Device, C: Checksum> Log<D, C> {
     ///
     /// Who took a pin goes on reading what was in the table then, until the pin goes back, also once it is replaced: the log keeps its
     /// record (law `what_was_in_a_table_keeps_its_record`), and its blob, which no crash takes (law `what_is_in_the_table_is_stored`), and which
-    /// no call removes while a pin is out (`items` of `GoesOn` and of `KeepsWriting`).
+    /// no call removes while a pin is out (`items` of what each keeps; an `abort` removes its own ticket's alone).
     ///
     /// The page isn't compared with what is read. Of an inline pointer the answer is what the record at its offset has, if it is one of
     /// the segment of this place: where place and pointer may be those of another page's message, the caller compares
