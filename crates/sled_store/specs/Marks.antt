@@ -13,6 +13,10 @@ use Rattle.sled_store.specs.declared.segment.slot.CacheInfo.{CacheInfo}
 abbrev pub info_of : Message → CacheInfo
 info_of m = record { lsn = pos m.place; pointer = m.pointer; log_size = m.size }
 
+-- what it is told of it but for its length
+abbrev pub unsized : CacheInfo → CacheInfo
+unsized i = record i { log_size = 0 }
+
 -- the slot that a message lies in
 abbrev pub slot_with : ℕ → Message → ℕ
 slot_with size m = lid_of m.pointer / size
@@ -36,6 +40,12 @@ pub record IsFormerState (H : History) (page : ℕ) (old : List CacheInfo) : Typ
   pub cut : ℕ
   pub past : IsPast H cut
   pub is : old ≡ map info_of (table H cut page)
+
+-- the same, whatever lengths are told of them
+pub record IsFormerList (H : History) (page : ℕ) (old : List CacheInfo) : Type 0 where
+  pub cut : ℕ
+  pub past : IsPast H cut
+  pub is : map unsized old ≡ map (λ m. unsized (info_of m)) (table H cut page)
 
 -- the greatest mark so far, where one more is given
 abbrev pub greatest_mark : ℕ → ℤ → ℕ
