@@ -5,6 +5,7 @@ use Rattle.std.specs.List.{list_any, sum_by}
 use Rattle.sled_codec.specs.declared.serialization.message.LogKind.TheVariants.{Link}
 use Rattle.sled_codec.specs.History.{Message, Batch, History, no_history, begins_page, table, AddsMessage, AddsBatch}
 use Rattle.sled_codec.specs.Pointers.{lid_of}
+use Rattle.sled_codec.specs.Snapshots.{Entry}
 use Rattle.sled_store.specs.SegmentStates.{SlotState, Machine, unused_machine, is_free, slot_at, handed_out, LiesIn, MayMark, linked, replaced, stabilized}
 use Rattle.sled_store.specs.SegmentStates.{popped}
 use Rattle.sled_store.specs.declared.segment.slot.CacheInfo.{CacheInfo}
@@ -16,6 +17,10 @@ info_of m = record { lsn = pos m.place; pointer = m.pointer; log_size = m.size }
 -- what it is told of it but for its length
 abbrev pub unsized : CacheInfo → CacheInfo
 unsized i = record i { log_size = 0 }
+
+-- what it is told of an entry of a page table
+abbrev pub told_of : Entry → CacheInfo
+told_of e = record { lsn = e.0; pointer = e.1; log_size = e.2 }
 
 -- the slot that a message lies in
 abbrev pub slot_with : ℕ → Message → ℕ

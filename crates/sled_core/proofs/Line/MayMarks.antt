@@ -1,5 +1,5 @@
 -- A message of a history that isn't marked yet may be marked, in place of what its page is made of: its segment is active, and each of those lies in a segment.
-use Rattle.std.proofs.Common.{◌≡◌, ◌/◌, ℕ, max, true, false, not, List, [], sym, subst, arith, refl}
+use Rattle.std.proofs.Common.{◌≡◌, ℕ, max, true, false, not, List, [], sym, subst, arith, refl}
 use Rattle.std.specs.List.{All, Contains}
 use Rattle.std.proofs.lemmas.Bool.{false≢true}
 use Rattle.std.proofs.lemmas.List.Elements.{All-nil}

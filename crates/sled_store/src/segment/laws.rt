@@ -2,11 +2,14 @@
 //! messages of a history (`specs/Marks.antt`) make of the segments (`specs/SegmentStates.antt`). A segment whose pages
 //! are all replaced holds no entry of the page table, and no slot that is free, or handed out next, holds an entry of a
 //! table below a cut that the mark's segment doesn't pass.
-ghost use Rattle.std.specs.Prelude.{◌≡◌, ◌≢◌, ◌⊎◌, ◌+◌, ◌*◌, ◌/◌, ◌%◌, ◌^◌, ◌<◌, ◌≤◌, ℕ, ℤ, pos, true, false, List, [], Some, Contains};
+ghost use Rattle.std.specs.Prelude.{◌≡◌, ◌≢◌, ◌⊎◌, ◌+◌, ◌*◌, ◌/◌, ◌%◌, ◌^◌, ◌<◌, ◌≤◌, ℕ, ℤ, pos, true, false, List, [], Some, Contains, get_or, map};
 ghost use Rattle.std.specs.List.{sum_by};
 ghost use Rattle.sled_codec.specs.History.{AddsMessage, Message, History, begins_page, no_history, table};
+ghost use Rattle.sled_codec.specs.PageTables.{IsTable};
+ghost use Rattle.sled_codec.specs.Snapshots.{Page, Uninitialized};
 ghost use Rattle.sled_codec.specs.WellFormed.{LieApart};
-ghost use Rattle.sled_store.specs.Marks.{Completes, HasReplacement, IsCounted, IsFormerList, IsFormerState, IsIn, IsLinked, IsNeeded, IsNewPlace, IsPast, IsSuperseded, Marked, greatest_mark, info_of, slot_with, standing_size};
+ghost use Rattle.sled_store.specs.Begin.{entries_in};
+ghost use Rattle.sled_store.specs.Marks.{Completes, HasReplacement, IsCounted, IsFormerList, IsFormerState, IsIn, IsLinked, IsNeeded, IsNewPlace, IsPast, IsSuperseded, Marked, greatest_mark, info_of, slot_with, standing_size, told_of};
 ghost use Rattle.sled_store.specs.Outdated.{AreOutdated, MayName, NamesBlob, NoneShares};
 ghost use Rattle.sled_store.specs.SegmentStates.{Machine, MayMark, handed_out, is_active, is_due, is_free, linked, next_slot, popped, replaced, segment_in, slot_at, stabilized, unused_machine};
 ghost use Rattle.sled_store.specs.Tracked.{IsAccountOf, IsHeld};
@@ -57,6 +60,13 @@ pub fn free_slots_are_not_needed()
 /// The former state of a page, with its lengths, is a former list, for which any lengths may be told.
 pub fn former_states_are_former_lists()
     ensures { (H : History) (page : ℕ) (old : List CacheInfo) → IsFormerState H page old → IsFormerList H page old }
+{}
+
+/// A client that has no more than the page table may mark: what a start counts of a page (`entries_in`, with 32 for one
+/// that was given back) is a former list of it.
+pub fn a_tables_entries_are_former_lists()
+    ensures { (H : History) (cut page : ℕ) (pages : List Page) → IsTable pages H cut → IsPast H cut
+        → IsFormerList H page (map told_of (entries_in (get_or pages page Uninitialized))) }
 {}
 
 /// A message in an active segment may be marked in place of its page's former state: that lies in segments, whatever
