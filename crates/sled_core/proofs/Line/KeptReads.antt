@@ -15,7 +15,7 @@ use Rattle.sled_codec.specs.Snapshots.{SnapshotModel}
 use Rattle.sled_store.specs.Device.{State, Trace}
 use Rattle.sled_store.proofs.Histories.Ascending.{Ascends}
 use Rattle.sled_store.proofs.Histories.EarlierEntries.{entry_earlier}
-use Rattle.sled_store.proofs.Segments.Elements.{in_first, in_nothing, in_rest}
+use Rattle.sled_store.proofs.Segments.Elements.{in_first, in_map, in_nothing, in_rest}
 use Rattle.sled_store.proofs.Segments.TableEntries.{from_table}
 use Rattle.sled_core.specs.inside.Shown.{shown_of}
 use Rattle.sled_core.specs.declared.logger.Log.{Log}
@@ -39,7 +39,7 @@ use Rattle.sled_core.proofs.Line.Reads.{fault_missed}
 use Rattle.sled_core.proofs.Line.Rewritten.{ordered, synced_before}
 use Rattle.sled_core.proofs.Line.Segments.{line_segments}
 use Rattle.sled_core.proofs.Line.Spared.{entry_spared, entry_stored}
-use Rattle.sled_core.proofs.Logged.Messages.{in_map, logged_ascends, logged_there}
+use Rattle.sled_core.proofs.Logged.Messages.{logged_ascends, logged_there}
 use Rattle.sled_core.proofs.Reached.MetWritten.{reached_begins, written_begins}
 use Rattle.sled_core.proofs.Sealed.Ended.{ends_up}
 use Rattle.sled_core.specs.inside.LogSegments.{held_since}
