@@ -13,7 +13,7 @@ use Rattle.sled_codec.specs.History.{Batch, History, Message}
 use Rattle.sled_codec.specs.Record.{short_record}
 use Rattle.sled_store.specs.Accounts.{machine_of}
 use Rattle.sled_store.specs.Blobs.{UnlessFault}
-use Rattle.sled_store.specs.Device.{Event, Trace}
+use Rattle.sled_store.specs.Device.{Event, Synced, Trace}
 use Rattle.sled_store.specs.Script.{Performs, after_all}
 use Rattle.sled_store.specs.SegmentStates.{Machine}
 use Rattle.sled_core.specs.Account.{account_of}
@@ -24,7 +24,7 @@ use Rattle.sled_core.specs.declared.logger.Log.{Log}
 use Rattle.sled_core.specs.Fillings.{FillingAt}
 use Rattle.sled_core.specs.Fits.{FirstWaits, IsUsedUp, IsUsedUpBelow, KeepsTickets, buffers_of, current_begin, current_of, fault_of, fillings_of, given_up_of, heads_of, held_len, holding_below, ledger_for, ledger_of, machine_at, noted_in, open_places, pending_of, pins_of, position_of, position_with, reserved_end, sealing_end, segment_size_of, stable_end, start_of, synced_end, waiting_of, writing_below, writing_some, device_of}
 use Rattle.sled_core.specs.Freeing.{Ledger}
-use Rattle.sled_core.specs.Fronts.{CameTo, synced_writes}
+use Rattle.sled_core.specs.Fronts.{CameTo, synced_writes, syncs}
 use Rattle.sled_core.specs.Heads.{HeadAt}
 use Rattle.sled_core.specs.Keeps.{KeepsWriting, LeavesAbove, Preserves, SamePosition, position_for, sealed_for, start_for, start_sealed}
 use Rattle.sled_core.specs.Ledger.{ledger_behind, writings}
@@ -578,6 +578,17 @@ spared T (error.Io x) old new before after t now none sound (inl kept) still = a
 spared T (error.Io x) old new before after t now none sound (inr failed) still = absurd (let bad : None ≡ Some x = sym sound ∙ failed.1 in cc)
 spared T error.OutOfMemory old new before after t now none sound answers still = still
 spared T _ old new before after t now none sound answers still = absurd answers
+
+-- Where nothing was synced no write was.
+syncs_more : (es : List Event) (t : Trace) → syncs t ≤ syncs (es ++ t)
+syncs_more [] t = omega arith
+syncs_more (Synced ∷ es) t = let more = syncs_more es t in omega (arith, more)
+syncs_more (_ ∷ es) t = syncs_more es t
+
+pub unsynced : (es : List Event) (t : Trace) → syncs (es ++ t) ≡ syncs t → synced_writes (es ++ t) ≡ synced_writes t
+unsynced [] t same = refl
+unsynced (Synced ∷ es) t same = absurd (let more = syncs_more es t in omega (arith, same, more))
+unsynced (_ ∷ es) t same = unsynced es t same
 
 -- A log that keeps a failure is as it was.
 pub keeps_failing : {D C : Type 0} (log new : Log D C) (begun : ℕ) (tickets : List (Option Message)) (given_up : List Message) (heads : List MarkAt) (device now : DeviceView) (H : History) (A f : ℕ) (due : Option DueMark) (e : Error) (x : IoError) → e ≡ error.Io x → fault_of log ≡ Some x → new ≡ log → now ≡ device
