@@ -392,8 +392,8 @@ module _ {D C : Type 0} (log : Log D C) (sum : List ℕ → ℕ) (begun : ℕ) (
     some_seen count = λ i. writings size (take count (free_seen i)) (ledger_below_seen log begun tickets given_up heads to i)
 
     -- where the next record may begin then
-    pub lies_below : {new : Log D C} → ((m : Machine) → position_with new m ≡ position_for to log m) → (m : Machine) → position_with new m ≡ position_below size to l m
-    lies_below position m = position m ∙ below_seen log begun tickets given_up heads to m
+    pub lies_below : (new : Log D C) → ((m : Machine) → position_with new m ≡ position_for to log m) → (m : Machine) → position_with new m ≡ position_below size to l m
+    lies_below new position m = position m ∙ below_seen log begun tickets given_up heads to m
 
     module _ (some : current_begin log < to → 0 < held_len log) where
       -- The sealed buffers and where the current one begins, once it is sealed.
@@ -466,7 +466,7 @@ module _ {D C : Type 0} (log : Log D C) (sum : List ℕ → ℕ) (begun : ℕ) (
                 reaches = omega (arith, whole, ends);
                 more = omega (arith, past, answer, stable);
                 leads =
-                    leaves trace new device now H A f due put (max A (end_below (stable_end new) H)) (left_from to l) (start_below to l) None _ (position_below size to l) (left_seen above) (above.start ∙ start_seen) still ledger (lies_below above.position)
+                    leaves trace new device now H A f due put (max A (end_below (stable_end new) H)) (left_from to l) (start_below to l) None _ (position_below size to l) (left_seen above) (above.start ∙ start_seen) still ledger (lies_below new above.position)
                     ∙ ap (λ reached. record { device = now; history = H; acknowledged = max A (end_below reached H); floor = f; log = Some (view_flushed l (left_from to l) (start_below to l) None (ledger_behind size (front_below to its_buffers) (ledger_below to l)) (position_below size to l)); due = due }) stable;
               }
 
@@ -504,7 +504,7 @@ module _ {D C : Type 0} (log : Log D C) (sum : List ℕ → ℕ) (begun : ℕ) (
               | inr front ↦ (
                 let left : spans (waiting_of new) ≡ drop front.count (sealed_below to l) = ap spans front.left ∙ drop_seen front.count (sealed_for sum to log) ∙ ap (λ (ss : List Span). drop front.count ss) sealed_seen in
                 let start : start_of new ≡ start_below to l = front.start ∙ start_seen in
-                let lies = lies_below front.position in
+                let lies = lies_below new front.position in
                 let seen = ledger_below_seen log begun tickets given_up heads to in
                 (
                   front.count,

@@ -64,6 +64,7 @@ returns-in-Err-clause-step g c = λ none k at free.
     let new = c.write_to_log.new.self in
     let keeps = c.write_to_log.ensures.keeps in
     let put = put_writing trace sum old new keeps in
+    let later = keeps.preserves.goes_on.later in
     let begun = length opened.pages.items in
     let l : LogView = seen opened k.tickets k.given_up k.heads in
     let due = shown_due opened.due in
@@ -90,7 +91,7 @@ returns-in-Err-clause-step g c = λ none k at free.
                     buffers = waiting_of old;
                     shown = shown;
                     made = c.write_to_log.ensures.at_most;
-                    written = ap synced_writes keeps.preserves.goes_on.later.1 ∙ unsynced keeps.preserves.goes_on.later.0 (trace (device_of old)) (sym (ap syncs keeps.preserves.goes_on.later.1) ∙ not.2);
+                    written = (let same : synced_writes now.trace ≡ synced_writes device.trace = ap synced_writes later.1 ∙ unsynced later.0 device.trace (sym (ap syncs later.1) ∙ not.2) in omega (arith, same));
                     whole = λ fine. spared (Unit {0}) c.in-Err.e (fault_of old) (fault_of new) device.failures now.failures device.trace now.trace sound fine c.in-Err.ensures.answers c.in-Err.ensures.refused;
                     held = never_held (Unit {0}) c.in-Err.e (fault_of old) (fault_of new) device.failures now.failures _ c.in-Err.ensures.answers;
                   },
@@ -101,7 +102,7 @@ returns-in-Err-clause-step g c = λ none k at free.
                     buffers = waiting_of old;
                     shown = shown;
                     made = c.write_to_log.ensures.at_most;
-                    written = wrote.written;
+                    written = (let one = wrote.written in omega (arith, one));
                     whole = λ fine. absurd (let both : None ≡ Some wrote.failed.fault = sym fine ∙ wrote.failed.kept in cc);
                     held = never_held (Unit {0}) c.in-Err.e (fault_of old) (fault_of new) device.failures now.failures _ c.in-Err.ensures.answers;
                   },
