@@ -15,7 +15,7 @@ use Rattle.sled_core.specs.Fits.{FirstWaits, IsUsedUpBelow, buffers_of, current_
 use Rattle.sled_core.specs.Fronts.{CameTo}
 use Rattle.sled_core.specs.Ledger.{writings}
 use Rattle.sled_core.specs.Stable.{IsNotReserved, StableAnswers, held_for, stabilizing, target_for}
-use Rattle.sled_core.specs.Waiting.{BufferAt, Span, free_below, spans, unless_held}
+use Rattle.sled_core.specs.Waiting.{BufferAt, free_below, spans, unless_held}
 use Rattle.sled_core.proofs.Line.Places.{behind_stable}
 use Rattle.sled_core.proofs.Line.Settles.{stable_up}
 use Rattle.sled_core.proofs.PublicLaws.{first_waits}

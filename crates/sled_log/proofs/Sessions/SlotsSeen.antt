@@ -10,8 +10,7 @@ use Rattle.sled_store.specs.Stabilizing.{MovesSlots}
 use Rattle.sled_core.specs.Account.{account_of}
 use Rattle.sled_core.specs.Begun.{SegmentView, begin_of, segment_view}
 use Rattle.sled_core.specs.declared.logger.Log.{Log}
-use Rattle.sled_core.specs.Fits.{current_begin, current_of, device_of, fault_of, ledger_for, ledger_of, ledger_sealed, machine_at, position_of, position_sealed, position_with, reserved_end, segment_size_of}
-use Rattle.sled_core.specs.Freeing.{Ledger}
+use Rattle.sled_core.specs.Fits.{current_begin, current_of, device_of, fault_of, ledger_for, ledger_of, ledger_sealed, machine_at, position_sealed, position_with, reserved_end, segment_size_of}
 use Rattle.sled_core.specs.Fronts.{IsOnTheWay}
 use Rattle.sled_core.specs.Keeps.{FailedStep, position_for}
 use Rattle.sled_core.specs.Positions.{Position, is_short, next_segment_at, position_in}

@@ -1,5 +1,5 @@
 -- What writing buffers comes to in a session: what is seen of those that are written and of those that are left, what holds them up, and where the run stands then.
-use Rattle.std.proofs.Common.{◌≡◌, ◌∙◌, ◌≤◌, ◌<◌, ◌+◌, ◌-◌, ◌*◌, ◌/◌, ◌^◌, ◌==◌, ◌⊎◌, inl, inr, nat_lt, if◌then◌else◌, max, ℕ, pos, zero, suc, Bool, true, false, List, [], ◌∷◌, ◌++◌, length, map, take, drop, Option, None, Some, ap, sym, subst, refl, arith}
+use Rattle.std.proofs.Common.{◌≡◌, ◌∙◌, ◌≤◌, ◌<◌, ◌+◌, ◌-◌, ◌/◌, ◌^◌, ◌==◌, ◌⊎◌, inl, inr, nat_lt, if◌then◌else◌, max, ℕ, pos, zero, suc, Bool, true, false, List, [], ◌∷◌, ◌++◌, length, map, take, drop, Option, None, Some, ap, sym, subst, refl, arith}
 use Rattle.std.specs.Prelude.{Err}
 use Rattle.std.specs.List.{All, Contains, slice_get}
 use Rattle.std.specs.declared.io.Error.{Error as IoError}
@@ -387,6 +387,9 @@ module _ {D C : Type 0} (log : Log D C) (sum : List ℕ → ℕ) (begun : ℕ) (
     pub writes_seen : writing_below sum log to ≡ its_writings
     writes_seen = λ i. writings size (free_seen i) (ledger_below_seen log begun tickets given_up heads to i)
 
+    pub made_seen : (old new : Trace) → new ≡ after_all (writing_below sum log to) old → new ≡ after_all its_writings old
+    made_seen old new made = subst (λ (es : List Event). new ≡ after_all es old) writes_seen made
+
     -- so many of them at the front
     pub some_seen : (count : ℕ) → writing_some count sum log to ≡ writings size (take count (free_below to its_buffers)) (ledger_below to l)
     some_seen count = λ i. writings size (take count (free_seen i)) (ledger_below_seen log begun tickets given_up heads to i)
@@ -540,21 +543,21 @@ module _ {D C : Type 0} (log : Log D C) (sum : List ℕ → ℕ) (begun : ℕ) (
 -- Why a call failed: the log kept a failure, or it kept none.
 pub kept_or_none : (T : Type 0) (e : Error) (held : Option ℕ) (used : Type 0) (old new : Option IoError) (before after : ℕ) → HeldAnswers {T = T} (Err e) held used old new before after
     → ((x : IoError) × (e ≡ error.Io x) × (old ≡ Some x)) ⊎ (old ≡ None)
-kept_or_none T (error.Io x) held used old new before after (inl kept) = inl (x, refl, kept.0)
-kept_or_none T (error.Io x) held used old new before after (inr failed) = inr failed.0
-kept_or_none T error.OutOfMemory held used old new before after answers = inr answers.1
-kept_or_none T error.PlacesUsedUp held used old new before after answers = inr answers.1
-kept_or_none T (error.Held at) held used old new before after answers = inr answers.2
-kept_or_none T _ held used old new before after answers = absurd answers
+kept_or_none T (error.Io x) held used old new _ _ (inl kept) = inl (x, refl, kept.0)
+kept_or_none T (error.Io x) held used old new _ _ (inr failed) = inr failed.0
+kept_or_none T error.OutOfMemory held used old new _ _ answers = inr answers.1
+kept_or_none T error.PlacesUsedUp held used old new _ _ answers = inr answers.1
+kept_or_none T (error.Held at) held used old new _ _ answers = inr answers.2
+kept_or_none T _ held used old new _ _ answers = absurd answers
 
 -- Where it kept none, this is why.
 pub why_of : (T : Type 0) (e : Error) (held up : Option ℕ) (used needs : Type 0) (old new : Option IoError) (before after : ℕ) → old ≡ None → held ≡ up → (used → needs) → ((used → ⊥) → needs → ⊥) → HeldAnswers {T = T} (Err e) held used old new before after → IsWhy e up needs new before after
-why_of T (error.Io x) held up used needs old new before after none same out back (inl kept) = absurd (let bad : None ≡ Some x = sym none ∙ kept.0 in cc)
-why_of T (error.Io x) held up used needs old new before after none same out back (inr failed) = (failed.1, failed.3, failed.2)
-why_of T error.OutOfMemory held up used needs old new before after none same out back answers = (back answers.0, answers.2, answers.3)
-why_of T error.PlacesUsedUp held up used needs old new before after none same out back answers = (out answers.0, answers.2, answers.3)
-why_of T (error.Held at) held up used needs old new before after none same out back answers = ((answers.0.0, sym same ∙ answers.0.1, answers.0.2), back answers.1, answers.3, answers.4)
-why_of T _ held up used needs old new before after none same out back answers = absurd answers
+why_of T (error.Io x) held up used needs old new _ _ none same out back (inl kept) = absurd (let bad : None ≡ Some x = sym none ∙ kept.0 in cc)
+why_of T (error.Io x) held up used needs old new _ _ none same out back (inr failed) = (failed.1, failed.3, failed.2)
+why_of T error.OutOfMemory held up used needs old new _ _ none same out back answers = (back answers.0, answers.2, answers.3)
+why_of T error.PlacesUsedUp held up used needs old new _ _ none same out back answers = (out answers.0, answers.2, answers.3)
+why_of T (error.Held at) held up used needs old new _ _ none same out back answers = ((answers.0.0, sym same ∙ answers.0.1, answers.0.2), back answers.1, answers.3, answers.4)
+why_of T _ held up used needs old new _ _ none same out back answers = absurd answers
 
 -- Where it was held up all was made that was to be.
 pub if_held : (T : Type 0) (e : Error) (P Q : Type 0) → (P → Q) → OnDone {T = T} (Err e) P → IfHeld e Q
@@ -563,21 +566,21 @@ if_held T _ P Q more done = tt
 
 -- A call that nothing holds up, and that needs no further segment.
 pub held_none : (T : Type 0) (e : Error) (old new : Option IoError) (before after : ℕ) → Answers {T = T} (Err e) old new before after → HeldAnswers {T = T} (Err e) None ⊥ old new before after
-held_none T (error.Io x) old new before after answers = answers
-held_none T error.OutOfMemory old new before after answers = (λ never. never, answers.0, answers.1, answers.2)
-held_none T _ old new before after answers = absurd answers
+held_none T (error.Io x) old new _ _ answers = answers
+held_none T error.OutOfMemory old new _ _ answers = (λ never. never, answers.0, answers.1, answers.2)
+held_none T _ old new _ _ answers = absurd answers
 
 -- it isn't held up
 pub never_held : (T : Type 0) (e : Error) (old new : Option IoError) (before after : ℕ) (P : Type 0) → Answers {T = T} (Err e) old new before after → IfHeld e P
-never_held T (error.Held at) old new before after P answers = absurd answers
-never_held T _ old new before after P answers = tt
+never_held T (error.Held at) old new _ _ P answers = absurd answers
+never_held T _ old new _ _ P answers = tt
 
 -- A write that was refused, and not for a failure of the device, asked nothing of it.
 pub spared : (T : Type 0) (e : Error) (old new : Option IoError) (before after : ℕ) (t now : Trace) → old ≡ None → new ≡ None → Answers {T = T} (Err e) old new before after → UnlessFault {T = T} (Err e) t now → now ≡ t
-spared T (error.Io x) old new before after t now none sound (inl kept) still = absurd (let bad : None ≡ Some x = sym none ∙ kept.0 in cc)
-spared T (error.Io x) old new before after t now none sound (inr failed) still = absurd (let bad : None ≡ Some x = sym sound ∙ failed.1 in cc)
-spared T error.OutOfMemory old new before after t now none sound answers still = still
-spared T _ old new before after t now none sound answers still = absurd answers
+spared T (error.Io x) old new _ _ t now none sound (inl kept) still = absurd (let bad : None ≡ Some x = sym none ∙ kept.0 in cc)
+spared T (error.Io x) old new _ _ t now none sound (inr failed) still = absurd (let bad : None ≡ Some x = sym sound ∙ failed.1 in cc)
+spared T error.OutOfMemory old new _ _ t now none sound answers still = still
+spared T _ old new _ _ t now none sound answers still = absurd answers
 
 -- Where nothing was synced no write was.
 syncs_more : (es : List Event) (t : Trace) → syncs t ≤ syncs (es ++ t)

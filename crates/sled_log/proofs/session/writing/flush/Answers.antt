@@ -2,7 +2,7 @@
 use Rattle.std.proofs.Common.{◌≡◌, ◌<◌, ◌∙◌, inl, inr, max, ℕ, List, length, arith, subst, sym, refl, ap}
 use Rattle.std.proofs.lemmas.Option.{same_Some}
 use Rattle.sled_store.specs.Device.{Event, state_of}
-use Rattle.sled_store.specs.Script.{Performs, after_all}
+use Rattle.sled_store.specs.Script.{Performs}
 use Rattle.sled_core.specs.Account.{account_of}
 use Rattle.sled_core.specs.Fits.{IsKept, IsUsedUpBelow, current_begin, device_of, fault_of, held_len, holding_below, reserved_end, segment_size_of, stable_end, synced_end}
 use Rattle.sled_core.specs.Keeps.{HoldsFast}
@@ -14,7 +14,7 @@ use Rattle.sled_core.proofs.PublicLaws.{written_past}
 use Rattle.sled_log.specs.RunPhases.{seen, shown_due, view_by}
 use Rattle.sled_log.specs.RunStates.{LogView}
 use Rattle.sled_log.specs.WriteSteps.{stable_from}
-use Rattle.sled_log.proofs.Sessions.Writing.{fails_to, flush_in, flush_out, has_written, holding_seen, if_held, keeps_failing, kept, kept_or_none, put_writing, some_reserved, stable_seen, still_open, whole_of, why_of, writes_seen}
+use Rattle.sled_log.proofs.Sessions.Writing.{fails_to, flush_in, flush_out, has_written, holding_seen, if_held, keeps_failing, kept, kept_or_none, made_seen, put_writing, some_reserved, stable_seen, still_open, whole_of, why_of, writes_seen}
 use Rattle.sled_log.proofs.session.writing.flush.Goals as goal
 use Rattle.sled_log.proofs.Sessions.BegunHeads.{only_begun}
 
@@ -41,12 +41,13 @@ returns-in-Ok-clause-step g c = λ none k at free.
     let settled : IsKept sum (account_of new).mark (account_of new).durable (segment_size_of old) new.segments.first.site new.segments.first.buffer.written_len (state_of (trace (device_of new))) (logged H) =
     subst (λ n. IsKept sum (account_of new).mark (account_of new).durable n new.segments.first.site new.segments.first.buffer.written_len (state_of (trace (device_of new))) (logged H)) put.size (c.in-Ok.ensures.records H fast) in
     let reached : ℕ = max k.acknowledged (end_below (stable_end new) H) in
+    let made = made_seen old sum begun k.tickets k.given_up k.heads to (trace (device_of old)) (trace (device_of new)) c.in-Ok.ensures.calls in
     record {
       not_refused = refl;
       next = kept trace sum opened new k reached;
       step = record {
         written = has_written old sum begun k.tickets k.given_up k.heads to some new trace (view old.config.device) (view new.config.device) H k.acknowledged k.floor due put (whole_of trace sum old k.given_up k.heads H k.acknowledged k.floor at.unmarked at.given_up at.heads at.fits answers.2) c.in-Ok.grown answers.2 answers.3 answers.1 answers.0
-            (c.in-Ok.ensures.calls ∙ ap (λ (es : List Event). after_all es (trace (device_of old))) (writes_seen old sum begun k.tickets k.given_up k.heads to)) answers.4 c.in-Ok.ensures.answer c.in-Ok.ensures.synced.whole past above;
+            made answers.4 c.in-Ok.ensures.answer c.in-Ok.ensures.synced.whole past above;
         all = λ i d lt. let low = written_past trace sum new H (c.in-Ok.ensures.records H fast) i d lt in omega (arith, low, ends);
         site = new.segments.first.site;
         from = new.segments.first.buffer.written_len;
@@ -93,7 +94,7 @@ returns-in-Err-clause-step g c = λ none k at free.
         | inr sound ↦ inr (fails_to old sum begun k.tickets k.given_up k.heads to some new trace device now H k.acknowledged k.floor due put (whole_of trace sum old k.given_up k.heads H k.acknowledged k.floor at.unmarked at.given_up at.heads at.fits sound) c.in-Err.e refl refl sound
             (why_of ℕ c.in-Err.e held _ used _ (fault_of old) (fault_of new) device.failures now.failures sound (holding_seen old sum begun k.tickets k.given_up k.heads to some) (λ used. (used.0, flush_out old sum begun k.tickets k.given_up k.heads used.1)) (λ free needs. needs.1 (flush_in old sum begun k.tickets k.given_up k.heads (λ used. free (needs.0, used)))) c.in-Err.ensures.answers)
             (subst (λ (es : List Event). Performs es (trace (device_of old)) (trace (device_of new))) (writes_seen old sum begun k.tickets k.given_up k.heads to) c.flush.ensures.at_most)
-            (if_held ℕ c.in-Err.e _ _ (λ done. done ∙ ap (λ (es : List Event). after_all es (trace (device_of old))) (writes_seen old sum begun k.tickets k.given_up k.heads to)) c.in-Err.ensures.calls) c.in-Err.ensures.buffers.0.seals.held c.in-Err.ensures.buffers.1)
+            (if_held ℕ c.in-Err.e _ _ (made_seen old sum begun k.tickets k.given_up k.heads to (trace (device_of old)) (trace (device_of new))) c.in-Err.ensures.calls) c.in-Err.ensures.buffers.0.seals.held c.in-Err.ensures.buffers.1)
       ];
       at = λ own. still_open trace sum opened new k k.acknowledged at (only_begun sum opened.log new c.flush.ensures.buffers.0.marked) put none (c.flush.ensures.keeps.preserves.fits H k.acknowledged k.floor at.unmarked at.fits);
       crash = λ own. c.flush.ensures.keeps.preserves.goes_on.crash H k.acknowledged k.floor at.unmarked at.fits;

@@ -1,5 +1,5 @@
 -- All up to a place is written and synced, unless a reservation of it is open, it wasn't reserved, memory or a further segment is wanting, the device fails, or the log keeps a failure.
-use Rattle.std.proofs.Common.{◌<◌, ◌<ℤ◌, ◌∙◌, pos, max, ℕ, ℤ, to_z, of_z, List, length, subst, sym, ap, refl}
+use Rattle.std.proofs.Common.{◌≡◌, ◌<◌, ◌<ℤ◌, ◌∙◌, pos, max, ℕ, ℤ, to_z, of_z, List, length, subst, sym, refl}
 use Rattle.std.specs.Int.{w64}
 use Rattle.std.proofs.lemmas.Int.{to_z-of_z}
 use Rattle.sled_store.specs.Device.{Event}
@@ -38,6 +38,7 @@ returns-in-Ok-clause-step g c = λ none k at free.
     let some : current_begin old < to → 0 < held_len old = some_known old sum begun k.tickets k.given_up k.heads place answers.0 in
     let past = fits_stable trace sum old H k.acknowledged k.floor at.unmarked at.fits in
     let reached : ℕ = max k.acknowledged (end_below (stable_end new) H) in
+    let made = subst (λ (es : List Event). trace (device_of new) ≡ after_all es (trace (device_of old))) (stabilizing_seen old sum begun k.tickets k.given_up k.heads place) c.in-Ok.ensures.made in
     let unheld = holding_seen old sum begun k.tickets k.given_up k.heads to some ∙ sym (held_seen old sum begun k.tickets k.given_up k.heads place answers.0) ∙ answers.1.0 in
     let done : DoesHere view sum (phase.Open opened) (told.Stable place) (phase.Open (over opened new), reply.Flushed c.in-Ok.more) k =
     record {
@@ -46,7 +47,7 @@ returns-in-Ok-clause-step g c = λ none k at free.
       step = (
         answers.0,
         has_written old sum begun k.tickets k.given_up k.heads to some new trace (view old.config.device) (view new.config.device) H k.acknowledged k.floor due put (whole_of trace sum old k.given_up k.heads H k.acknowledged k.floor at.unmarked at.given_up at.heads at.fits answers.1.2) c.in-Ok.more answers.1.2 answers.1.3 answers.1.1 unheld
-            (c.in-Ok.ensures.made ∙ ap (λ (es : List Event). after_all es (trace (device_of old))) (stabilizing_seen old sum begun k.tickets k.given_up k.heads place)) answers.1.4 c.in-Ok.ensures.answer
+            made answers.1.4 c.in-Ok.ensures.answer
             (target_written old new place put.noted c.in-Ok.ensures.target) past above,
         subst (λ n. place <ℤ pos n) (stable_seen old sum begun k.tickets k.given_up k.heads to some new trace (view old.config.device) (view new.config.device) H k.acknowledged k.floor due put above) c.in-Ok.ensures.target,
       );

@@ -1,11 +1,11 @@
 -- A buffer that nothing holds up is written, unless memory is wanting, the device fails, or the log keeps a failure.
-use Rattle.std.proofs.Common.{◌≡◌, ◌∙◌, ◌≤◌, ◌&&◌, inl, inr, nat_le, true, false, None, Some, List, ap, sym, refl, arith, length}
-use Rattle.std.specs.declared.io.Error.{Error as IoError}
+use Rattle.std.proofs.Common.{◌≡◌, ◌∙◌, ◌≤◌, ◌&&◌, inl, inr, nat_le, true, false, None, Some, ap, sym, refl, arith, length}
 use Rattle.std.proofs.lemmas.Bool.Decides.{nat_tests}
 use Rattle.sled_store.specs.SegmentStates.{Machine}
 use Rattle.sled_core.specs.Account.{account_of}
-use Rattle.sled_core.specs.Fits.{device_of, fault_of, machine_at, position_with, segment_size_of, waiting_of}
+use Rattle.sled_core.specs.Fits.{fault_of, ledger_of, machine_at, position_with, segment_size_of, waiting_of}
 use Rattle.sled_core.specs.Fronts.{synced_writes, syncs}
+use Rattle.sled_core.specs.Ledger.{ledger_behind}
 use Rattle.sled_core.specs.Waiting.{one_pending, spans}
 use Rattle.sled_log.specs.RunPhases.{seen, shown_due, view_by}
 use Rattle.sled_log.specs.RunSlots.{position_over}
@@ -47,7 +47,7 @@ returns-in-Ok-clause-step g c = λ none k at free.
         answers.0,
         record { buffers = waiting_of old; shown = shows_waiting old sum begun k.tickets k.given_up k.heads (whole_of trace sum old k.given_up k.heads k.history k.acknowledged k.floor at.unmarked at.given_up at.heads at.fits answers.0); made = c.in-Ok.ensures.calls },
         answers.2,
-        leaves old sum begun k.tickets k.given_up k.heads trace new (view old.config.device) (view new.config.device) k.history k.acknowledged k.floor (shown_due opened.due) put k.acknowledged _ _ _ _ (position_over (segment_size_of old) l) left c.write_to_log.ensures.start.0 answers.1 c.in-Ok.ensures.ledger lies,
+        leaves old sum begun k.tickets k.given_up k.heads trace new (view old.config.device) (view new.config.device) k.history k.acknowledged k.floor (shown_due opened.due) put k.acknowledged (without_unheld (opens l) c.args.i l.waiting) l.start None (ledger_behind (segment_size_of old) (one_pending c.args.i (waiting_of old)) (ledger_of old)) (position_over (segment_size_of old) l) left c.write_to_log.ensures.start.0 answers.1 c.in-Ok.ensures.ledger lies,
       );
       at = λ own. still_open trace sum opened new k k.acknowledged at (begun_none sum old new (record { heads = c.write_to_log.ensures.heads; fillings = c.write_to_log.ensures.fillings })) put none (c.write_to_log.ensures.keeps.preserves.fits k.history k.acknowledged k.floor at.unmarked at.fits);
       crash = λ own. c.write_to_log.ensures.keeps.preserves.goes_on.crash k.history k.acknowledged k.floor at.unmarked at.fits;
@@ -95,7 +95,7 @@ returns-in-Err-clause-step g c = λ none k at free.
                     whole = λ fine. spared (Unit {0}) c.in-Err.e (fault_of old) (fault_of new) device.failures now.failures device.trace now.trace sound fine c.in-Err.ensures.answers c.in-Err.ensures.refused;
                     held = never_held (Unit {0}) c.in-Err.e (fault_of old) (fault_of new) device.failures now.failures _ c.in-Err.ensures.answers;
                   },
-                  leaves old sum begun k.tickets k.given_up k.heads trace new device now k.history k.acknowledged k.floor due put k.acknowledged _ _ _ _ (position_over (segment_size_of old) l) (ap spans not.1) c.write_to_log.ensures.start.0 refl not.3 lies,
+                  leaves old sum begun k.tickets k.given_up k.heads trace new device now k.history k.acknowledged k.floor due put k.acknowledged l.waiting l.start (fault_of new) (ledger_of old) (position_over (segment_size_of old) l) (ap spans not.1) c.write_to_log.ensures.start.0 refl not.3 lies,
                 )
                 | inr wrote ↦ inr (
                   record {
@@ -110,7 +110,7 @@ returns-in-Err-clause-step g c = λ none k at free.
                   wrote.account,
                   machine_at new,
                   step_failed old begun k.tickets k.given_up k.heads trace new (machine_at old) (machine_at old) now.trace refl put.size refl wrote.failed wrote.way,
-                  leaves old sum begun k.tickets k.given_up k.heads trace new device now k.history k.acknowledged k.floor due put k.acknowledged _ _ _ (record { machine = machine_at new; account = account_of new }) (position_over (segment_size_of old) l)
+                  leaves old sum begun k.tickets k.given_up k.heads trace new device now k.history k.acknowledged k.floor due put k.acknowledged (without_unheld (opens l) c.args.i l.waiting) l.start (fault_of new) (record { machine = machine_at new; account = account_of new }) (position_over (segment_size_of old) l)
                       (ap spans wrote.waiting ∙ without_seen (opens l) c.args.i (waiting_of old) (waiting_held old sum begun k.tickets k.given_up k.heads)) c.write_to_log.ensures.start.0 refl refl lies,
                 )
               ];
