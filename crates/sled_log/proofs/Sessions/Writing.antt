@@ -631,6 +631,13 @@ pub due_none : {D C : Type 0} (old new : Log D C) (H : History) (due : Option Du
 due_none old new H None U none are = are
 due_none old new H (Some d) U none are = cc
 
+-- or one is due still, where the log keeps the failure that it kept, or none
+pub due_still : {D C : Type 0} (old new : Log D C) (H : History) (due : Option Due) (U : List Message) → fault_of new ≡ fault_of old → AreUnmarked old H due U → AreUnmarked new H due U
+due_still old new H None U same are = are
+due_still old new H (Some d) U same are =
+    let is = are.2 in
+    (are.0, are.1, record { there = is.there; is = is.is; kind = is.kind; newest = is.newest; beside = is.beside; former = is.former; sound = same ∙ is.sound })
+
 -- It stays open so, where that has the same tickets, and as many pins are out.
 module _ {D C : Type 0} (trace : D → Trace) (sum : List ℕ → ℕ) (opened : Opened D C) (log : Log D C) (k : Unstored) (A : ℕ) where
   -- with these buffers begun
