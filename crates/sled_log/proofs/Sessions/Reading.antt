@@ -57,7 +57,7 @@ use Rattle.sled_log.proofs.Sessions.SlotsSeen.{around_seen, ledger_around_seen, 
 use Rattle.sled_log.proofs.Sessions.Writing.{AreWhole, IsHeldBy, StaysPut, all_held, due_none, flush_in, flush_out, if_held, kept_with, left_alone, leaves as leaves_log, next_start_seen, over, put_writing, sealed_too, span_seen, still_with, whole_seen}
 use Rattle.sled_log.specs.Readings.{IsOfPage, IsRead, ReadsEntries, ReadsItem, page_told}
 use Rattle.sled_log.specs.RunPhases.{IsOpenAt, Unstored, seen, seen_log, stands, traces, HasHeads}
-use Rattle.sled_log.specs.RunStates.{DeviceView, EndsInReach, LogView, RunState, current_span, first_waiting, held, is_present, next_start, opens, page_now, sealed_around, spans_without, start_around, top, with_log, MarkAt, heads_at}
+use Rattle.sled_log.specs.RunStates.{DeviceView, EndsInReach, LogView, RunState, current_span, held, is_present, next_start, opens, page_now, sealed_around, spans_without, start_around, top, with_log, MarkAt, heads_at}
 use Rattle.sled_log.specs.RunSlots.{ledger_around, position_around, position_over}
 use Rattle.sled_log.specs.ReadSteps.{FailsAt, ReadStep, ReadsAll, ReadsAt, chosen_around, held_around_place, holding_read, read_around, read_at}
 use Rattle.sled_log.specs.WriteSteps.{IfHeld, IsWhy, ShowsBuffers, WritesSome, view_flushed, headed, fillings_seen}
