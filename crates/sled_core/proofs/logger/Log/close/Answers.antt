@@ -107,7 +107,7 @@ closes_part trace sum r old new sound never io size (inr front) = inr (record {
   written = front.written;
   whole = sound _ front.whole;
   short = elim front.short [
-    | inl failed ↦ inl (io failed.0.fault failed.0.kept, failed.0.sound, failed.0.unpinned, failed.1, step_due trace sum (reserved_end old) old new size front failed)
+    | inl failed ↦ inl (io failed.0.fault failed.0.kept, failed.0.sound, failed.0.unpinned, failed.1, step_due trace sum _ old new size front failed)
     | inr short ↦ inr (subst (λ n. n < reserved_end old) (sym ((λ i. first_begin (sym front.left i) (sym front.start i)) ∙ sym (first_left new))) short)
   ];
 })
