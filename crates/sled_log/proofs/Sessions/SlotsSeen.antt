@@ -1,11 +1,11 @@
 -- The slots of a log as they are seen: where its next record may begin with slots left as a machine has them, and what a call that writes begins with.
-use Rattle.std.proofs.Common.{◌≡◌, ◌≤◌, ◌<◌, ◌+◌, ◌*◌, nat_le, nat_lt, if◌then◌else◌, refl, subst, arith, ℕ, Bool, true, false, List, length, map, Option}
+use Rattle.std.proofs.Common.{◌≡◌, ◌≢◌, ◌≤◌, ◌<◌, ◌+◌, ◌*◌, nat_le, nat_lt, if◌then◌else◌, refl, subst, arith, ℕ, Bool, true, false, List, [], length, map, Option}
 use Rattle.std.specs.Prelude.{Err}
 use Rattle.std.proofs.lemmas.Bool.Decides.{nat_tests}
 use Rattle.sled_codec.specs.declared.result.Error.TheVariants.{Io}
 use Rattle.sled_codec.specs.History.{Message}
 use Rattle.sled_store.specs.Device.{Trace}
-use Rattle.sled_store.specs.SegmentStates.{Machine, handed_out, next_slot}
+use Rattle.sled_store.specs.SegmentStates.{Machine, handed_out, next_slot, stabilized}
 use Rattle.sled_store.specs.Stabilizing.{MovesSlots}
 use Rattle.sled_core.specs.Account.{account_of}
 use Rattle.sled_core.specs.Begun.{SegmentView, begin_of, segment_view}
@@ -111,4 +111,5 @@ module _ {D C : Type 0} (log : Log D C) (begun : ℕ) (tickets : List (Option Me
         kept = failed.kept;
         before = way.before;
         moved = record { mid = moved.mid; between = moved.between; calls = moved.calls; moves = moved.moves; made = moved.made; end = moved.end; all = tt };
+        due = subst (λ (m : Machine). (stabilized size mark m).calls ≢ []) begins (subst (λ n. (stabilized n mark slots).calls ≢ []) same way.due);
       }
