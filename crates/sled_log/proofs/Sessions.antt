@@ -27,6 +27,7 @@ pub mod RunLogs
 pub mod SafeItems
 pub mod SessionLemmas
 pub mod SharedBlobs
+pub mod SlotsSeen
 pub mod SpentTickets
 pub mod TicketsSeen
 pub mod Within

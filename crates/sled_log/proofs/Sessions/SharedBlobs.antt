@@ -2,12 +2,12 @@
 -- that was.
 use Rattle.std.proofs.Common.{◌≡◌, ◌∙◌, ◌≤◌, ℤ, List, sym, ap, subst}
 use Rattle.std.specs.List.{Contains}
-use Rattle.sled_codec.specs.History.{History, Message, table}
-use Rattle.sled_store.specs.Marks.{IsFormerState, info_of}
+use Rattle.sled_codec.specs.History.{History, Message}
+use Rattle.sled_store.specs.Marks.{IsFormerList}
 use Rattle.sled_store.specs.Outdated.{NamesBlob, NoneShares}
 use Rattle.sled_store.specs.declared.segment.slot.CacheInfo.{CacheInfo}
 use Rattle.sled_store.proofs.Histories.Ascending.{apart_ascends, one_at_place}
-use Rattle.sled_store.proofs.Marks.DeactivationSteps.{from_map}
+use Rattle.sled_store.proofs.Marks.FormerLists.{from_former}
 use Rattle.sled_store.proofs.Segments.TableEntries.{from_table}
 use Rattle.sled_core.proofs.Read.FoundLemmas.{pos_injective}
 use Rattle.sled_log.specs.Made.{HasBlobIn, IsMade}
@@ -24,10 +24,10 @@ module _ (H : History) (made : IsMade H) where
 
   -- No message needs what a page was, but for those of the page up to its newest one.
   pub none_shares : (G : History) → ((m : Message) → Contains G.messages m → Contains H.messages m) → (x : Message) (old : List CacheInfo)
-      → IsFormerState G x.page old
+      → IsFormerList G x.page old
       → ((m : Message) → Contains H.messages m → m.page ≡ x.page → m.place ≤ x.place) → NoneShares H x old
   none_shares G more x old former newest o lid blob among points other e there names =
-      let was = from_map info_of (table G former.cut x.page) o (subst (λ (os : List CacheInfo). Contains os o) former.is among) in
+      let was = from_former G x.page old former o among in
       let from = from_table G former.cut x.page was.0 was.1 in
       let page : e.page ≡ x.page = one_page was.0 e blob (more was.0 from.0) there (lid, ap (λ (i : CacheInfo). i.pointer) was.2 ∙ points) names ∙ from.1 in
       (page, newest e there page)
