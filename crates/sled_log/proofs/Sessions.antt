@@ -5,10 +5,12 @@ pub mod DeviceLemmas
 pub mod EndedBatches
 pub mod EndedTickets
 pub mod Endings
+pub mod FormerPages
 pub mod Headline
 pub mod KeptPlaces
 pub mod MadeBatches
 pub mod MadeHistories
+pub mod MadeMarks
 pub mod MadePages
 pub mod MadeStable
 pub mod MadeTables
@@ -25,6 +27,7 @@ pub mod RunLogs
 pub mod SafeItems
 pub mod SessionLemmas
 pub mod SharedBlobs
+pub mod SlotsSeen
 pub mod SpentTickets
 pub mod TicketsSeen
 pub mod Within

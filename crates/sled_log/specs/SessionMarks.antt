@@ -1,5 +1,5 @@
 -- The marks of a session: each message is marked once it is completed, in place of all that its page was; and each ticket has its pin until then.
-use Rattle.std.specs.Prelude.{◌≡◌, ◌+◌, ◌-◌, ◌/◌, ℕ, ℤ, pos, nat_lt, unsigned_abs, if◌then◌else◌, List, [], ◌∷◌, map, Option, None, Some}
+use Rattle.std.specs.Prelude.{◌≡◌, ◌+◌, ◌-◌, ◌/◌, ℕ, ℤ, pos, nat_lt, true, unsigned_abs, if◌then◌else◌, List, [], ◌∷◌, map, Option, None, Some}
 use Rattle.sled_codec.specs.declared.result.DiskPtr.{DiskPtr}
 use Rattle.sled_codec.specs.declared.serialization.message.LogKind.{LogKind}
 use Rattle.sled_codec.specs.declared.serialization.message.LogKind.TheVariants as does
@@ -11,6 +11,7 @@ use Rattle.sled_store.specs.SegmentStates.{Machine, linked, replaced}
 use Rattle.sled_store.specs.declared.segment.slot.CacheInfo.{CacheInfo}
 use Rattle.sled_core.specs.Account.{Account}
 use Rattle.sled_core.specs.Buffers.{record_size}
+use Rattle.sled_log.specs.RunSlots.{position_over}
 use Rattle.sled_log.specs.RunStates.{DueMark, LogView, RunState, page_now}
 
 -- How long the record of a Free is: a header alone. Of one from before a restart a recovery doesn't tell, and it counts as 32.
@@ -67,9 +68,9 @@ with_pin l = record l { pins = l.pins + 1; account = record l.account { pinned =
 abbrev pub without_pin : LogView → LogView
 without_pin l = record l { pins = l.pins - 1; account = record l.account { pinned = nat_lt 0 (l.pins - 1) } }
 
--- a log once a mark is made, whose pin goes back
+-- A log once a mark is made, whose pin goes back. Where its next record may begin has the slots behind it, and so those that the mark left.
 abbrev pub marking : ℕ → DueMark → LogView → LogView
-marking size d l = without_pin (record l { machine = slots_marked size d l.machine })
+marking size d l = let m = slots_marked size d l.machine in without_pin (record l { position = position_over size l m; machine = m })
 
 -- the run goes on from there, with none due
 abbrev pub marking_in : ℕ → DueMark → Option LogView → Option LogView

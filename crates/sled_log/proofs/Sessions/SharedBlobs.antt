@@ -1,14 +1,15 @@
 -- In a history that a session makes, messages that name one blob are of one page. So a message that is the newest of its page may be marked in place of what
 -- that was.
-use Rattle.std.proofs.Common.{◌≡◌, ◌∙◌, ◌≤◌, ℤ, List, sym, ap, subst}
+use Rattle.std.proofs.Common.{◌≡◌, ◌∙◌, ◌≤◌, ℤ, List, map, sym, ap, subst}
 use Rattle.std.specs.List.{Contains}
 use Rattle.sled_codec.specs.History.{History, Message, table}
-use Rattle.sled_store.specs.Marks.{IsFormerState, info_of}
+use Rattle.sled_store.specs.Marks.{IsFormerList, info_of, unsized}
 use Rattle.sled_store.specs.Outdated.{NamesBlob, NoneShares}
 use Rattle.sled_store.specs.declared.segment.slot.CacheInfo.{CacheInfo}
 use Rattle.sled_store.proofs.Histories.Ascending.{apart_ascends, one_at_place}
 use Rattle.sled_store.proofs.Marks.DeactivationSteps.{from_map}
 use Rattle.sled_store.proofs.Segments.TableEntries.{from_table}
+use Rattle.sled_core.proofs.Logged.Messages.{in_map}
 use Rattle.sled_core.proofs.Read.FoundLemmas.{pos_injective}
 use Rattle.sled_log.specs.Made.{HasBlobIn, IsMade}
 
@@ -24,10 +25,12 @@ module _ (H : History) (made : IsMade H) where
 
   -- No message needs what a page was, but for those of the page up to its newest one.
   pub none_shares : (G : History) → ((m : Message) → Contains G.messages m → Contains H.messages m) → (x : Message) (old : List CacheInfo)
-      → IsFormerState G x.page old
+      → IsFormerList G x.page old
       → ((m : Message) → Contains H.messages m → m.page ≡ x.page → m.place ≤ x.place) → NoneShares H x old
   none_shares G more x old former newest o lid blob among points other e there names =
-      let was = from_map info_of (table G former.cut x.page) o (subst (λ (os : List CacheInfo). Contains os o) former.is among) in
+      let told : Contains (map unsized old) (unsized o) = in_map unsized old o among in
+      let was = from_map (λ (m : Message). unsized (info_of m)) (table G former.cut x.page) (unsized o)
+      (subst (λ (os : List CacheInfo). Contains os (unsized o)) former.is told) in
       let from = from_table G former.cut x.page was.0 was.1 in
       let page : e.page ≡ x.page = one_page was.0 e blob (more was.0 from.0) there (lid, ap (λ (i : CacheInfo). i.pointer) was.2 ∙ points) names ∙ from.1 in
       (page, newest e there page)
