@@ -33,7 +33,7 @@ module _ (size floor : ℕ) where
 
   pub unsized_told : (ms : List Message) → map unsized (map (told_of size floor) ms) ≡ map (λ m. unsized (info_of m)) ms
   unsized_told [] = refl
-  unsized_told (m ∷ ms) i = unsized_by m.kind m i ∷ unsized_told ms i
+  unsized_told (m ∷ ms) = λ i. unsized_by m.kind m i ∷ unsized_told ms i
 
   -- which is told of a Free alone as of one from a table.
   told_else : (k : LogKind) (m : Message) → (k ≡ does.Free → ⊥) → told_by size floor k m ≡ info_of m
@@ -47,7 +47,7 @@ module _ (size floor : ℕ) where
 
   entries_told : (ms : List Message) → All (λ m. m.kind ≡ does.Free → ⊥) ms → map told_entry (map entry_of ms) ≡ map (told_of size floor) ms
   entries_told [] others = refl
-  entries_told (m ∷ ms) others i =
+  entries_told (m ∷ ms) others = λ i.
       sym (told_else m.kind m (All-contains (λ x. x.kind ≡ does.Free → ⊥) (m ∷ ms) m others (in_first m ms))) i
       ∷ entries_told ms (All-tail (λ x. x.kind ≡ does.Free → ⊥) m ms others) i
 

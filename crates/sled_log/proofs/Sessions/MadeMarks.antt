@@ -1,8 +1,10 @@
 -- What it comes to where a session makes a mark: the log is as it was but for its slots and its pins, and so the session stands where it stood.
-use Rattle.std.proofs.Common.{⊎_elim, ◌≡◌, ◌∙◌, ◌≢◌, ◌<◌, ◌≤◌, ◌+◌, ◌-◌, ℕ, Bool, true, false, nat_lt, not, ◌==◌, ◌||◌, List, [], ◌∷◌, length, map, get_or, set, sym, ap, subst, arith, refl, inl, inr, Option, None, Some, eq-eqb, eqb-true, filter, cond}
+use Rattle.std.proofs.Common.{⊎_elim, ◌≡◌, ◌∙◌, ◌≢◌, ◌<◌, ◌≤◌, ◌+◌, ◌-◌, ℕ, Bool, true, false, nat_lt, not, ◌==◌, ◌||◌, List, [], ◌∷◌, length, map, get_or, set, sym, ap, subst, arith, refl, inl, inr, Option, None, Some, Ok, Err, eq-eqb, eqb-true, filter, cond}
+use Rattle.std.specs.Prelude.{is_some}
 use Rattle.std.specs.List.{All, Contains, slice_get}
 use Rattle.std.specs.declared.io.Error.{Error as IoError}
 use Rattle.std.proofs.lemmas.List.Elements.{All-contains}
+use Rattle.sled_codec.specs.declared.result.Error.TheVariants as error
 use Rattle.sled_codec.specs.declared.serialization.message.LogKind.{LogKind}
 use Rattle.sled_codec.specs.declared.serialization.message.LogKind.TheVariants as does
 use Rattle.sled_codec.specs.History.{Batch, History, Message, ChangesPage, begins_page}
@@ -33,10 +35,10 @@ use Rattle.sled_log.specs.declared.session.marking.Due.{Due}
 use Rattle.sled_log.specs.declared.session.opened.Opened.{Opened}
 use Rattle.sled_log.specs.declared.session.Phase.TheVariants.{Open}
 use Rattle.sled_log.specs.Made.{IsMade}
-use Rattle.sled_log.specs.Marking.{KeepsBeside, mark_of}
+use Rattle.sled_log.specs.Marking.{KeepsBeside, MakesDue, Settles, mark_of, with_due}
 use Rattle.sled_log.specs.RunPhases.{AreUnmarked, BeginsBatch, HasBatch, HasTickets, IsOpenAt, IsSafe, IsUnmarked, Unstored, seen_log, shown_due, stands, traces}
 use Rattle.sled_log.specs.RunSlots.{position_over}
-use Rattle.sled_log.specs.RunStates.{DeviceView, DueMark, LogView, MarkAt, RunState, open_messages}
+use Rattle.sled_log.specs.RunStates.{DeviceView, DueMark, LogView, MarkAt, RunState, open_messages, top}
 use Rattle.sled_log.specs.SessionMarks.{marking, slots_by, slots_marked, with_mark}
 use Rattle.sled_log.proofs.Sessions.BegunHeads.{HasNoOther, heads_left, other_same}
 use Rattle.sled_log.proofs.Sessions.SafeItems.{safe_on}
@@ -88,13 +90,13 @@ module _ {D C : Type 0} (log : Log D C) (H : History) (d : Due) (m : Message) (i
   -- all others of its page lie below it
   newest_one : (x : Message) → Contains H.messages x → x.page ≡ m.page → x.place ≤ m.place
   newest_one x there page = by (is_among (m ∷ []) x.place) refl where
-    by : (b : Bool) → is_among (m ∷ []) x.place ≡ b → x.place ≤ m.place
-    by true among = let same : m.place ≡ x.place = single (m.place == x.place) refl among in omega (arith, same)
-    by false other = let less = is.newest x (in_filter (λ (y : Message). not (is_among (m ∷ []) y.place)) H.messages x there (ap not other)) page in omega (arith, less)
-
     single : (b : Bool) → (m.place == x.place) ≡ b → (b || false) ≡ true → m.place ≡ x.place
     single true is_it among = eqb-true m.place x.place is_it
     single false is_it among = cc
+
+    by : (b : Bool) → is_among (m ∷ []) x.place ≡ b → x.place ≤ m.place
+    by true among = let same : m.place ≡ x.place = single (m.place == x.place) refl among in omega (arith, same)
+    by false other = let less = is.newest x (in_filter (λ (y : Message). not (is_among (m ∷ []) y.place)) H.messages x there (ap not other)) page in omega (arith, less)
 
   pub none_shared : IsMade H → (d.kind ≡ does.Link → ⊥) → NoneShares H m d.old.items
   none_shared made other =
@@ -237,7 +239,7 @@ module _ {D C : Type 0} (view : D → DeviceView) (sum : List ℕ → ℕ) (old 
     zeros = at.zeros;
     pinned = pinned;
     origin = ap (λ (o : Opened D C). o.origin) rest ∙ at.origin ∙ (λ i. record { size = sym (size_same old.log new.log beside) i; floor = k.floor });
-    table = subst (λ (o : Opened D C). IsTable (map page_of o.pages.items) k.history _) (sym rest) at.table;
+    table = subst (λ (o : Opened D C). IsTable (map page_of o.pages.items) k.history top) (sym rest) at.table;
     tickets = tickets_still at.tickets;
     given_up = λ x given. at.given_up x ((tickets_same old.log new.log beside).given_up x given);
     heads = heads_left sum old.log new.log k.heads (other_same old.log new.log (line_same old.log new.log beside)) at.heads;
@@ -260,3 +262,50 @@ module _ {D C : Type 0} (view : D → DeviceView) (sum : List ℕ → ℕ) (old 
         due = shown i;
       })
       ∙ (λ i. record (stands view (Open old) k) { log = Some (seen i); due = due })
+
+-- The mark that was due.
+
+module _ {D C : Type 0} (view : D → DeviceView) (sum : List ℕ → ℕ) (old new : Opened D C) (d : Due) (was : old.due ≡ Some d) (taken : Option Due) (none : taken ≡ None)
+    (rest : new ≡ record old { log = new.log; due = new.due }) (beside : KeepsBeside old.log new.log) (k : Unstored) (at : IsOpenAt (traces view) sum old k) where
+  -- it is of the one message that isn't marked
+  its : (m : Message) × (at.unmarked ≡ m ∷ []) × IsUnmarked old.log k.history d m
+  its = subst (λ (o : Option Due). AreUnmarked old.log k.history o at.unmarked) was at.due
+
+  abbrev pub Came : Bool → Type 0
+  Came made = (H : History) (A f : ℕ) (m : Message) → Fits (traces view) sum old.log H A f (m ∷ []) → IsUnmarked old.log H d m → IsMade H
+      → Settles (traces view) sum (record old { due = taken }) d made new H A f m
+
+  came : (made : Bool) → Came made → Settles (traces view) sum (record old { due = taken }) d made new k.history k.acknowledged k.floor its.0
+  came made settles =
+      settles k.history k.acknowledged k.floor its.0 (subst (λ (U : List Message). Fits (traces view) sum old.log k.history k.acknowledged k.floor U) its.1 at.fits) its.2 at.made
+
+  -- It is made,
+  pub due_made : Came true → MakesDue {T = Unit {0}} view sum old (Ok tt) new k
+  due_made settles =
+      let settled = came true settles in
+      let now : new.due ≡ None = settled.1 ∙ none in
+      record {
+        at = open_beside view sum old new rest beside k at [] (subst (λ (o : Option Due). AreUnmarked new.log k.history o []) (sym now) refl) settled.0.fits
+            (let pins = settled.0.pins in let out = at.pinned in let one = ap (λ (U : List Message). length U) its.1 in omega (arith, pins, out, one));
+        none = now;
+        made = stands_beside view sum old new rest beside k (marking (segment_size_of old.log) (mark_of d) (seen_log old.log (length old.pages.items) k.tickets k.given_up k.heads)) None
+            (seen_marked old.log new.log beside (length old.pages.items) k.tickets k.given_up k.heads (mark_of d) settled.0.machine settled.0.pins) (ap shown_due now)
+            ∙ ap (with_due (segment_size_of old.log) (stands view (Open old) k)) (sym (ap shown_due was));
+        some = tt;
+        kept = tt;
+      }
+
+  -- or it is due still.
+  pub due_kept : Came false → MakesDue {T = Unit {0}} view sum old (Err error.OutOfMemory) new k
+  due_kept settles =
+      let settled = came false settles in
+      record {
+        at = open_beside view sum old new rest beside k at (its.0 ∷ [])
+            (subst (λ (o : Option Due). AreUnmarked new.log k.history o (its.0 ∷ [])) (sym settled.1) (its.0, refl, unmarked_beside old.log new.log beside k.history d its.0 its.2)) settled.0.fits
+            (let pins = settled.0.pins in let out = at.pinned in let one = ap (λ (U : List Message). length U) its.1 in omega (arith, pins, out, one));
+        none = tt;
+        made = tt;
+        some = ap is_some was;
+        kept = stands_beside view sum old new rest beside k (seen_log old.log (length old.pages.items) k.tickets k.given_up k.heads) (shown_due old.due)
+            (seen_same old.log new.log beside (length old.pages.items) k.tickets k.given_up k.heads settled.0.machine settled.0.pins) (ap shown_due (settled.1 ∙ sym was));
+      }

@@ -1,5 +1,5 @@
 //! Marking what is completed, so that segments come free (`specs/SessionMarks.antt`).
-ghost use Rattle.std.specs.Prelude.{◌≡◌, ◌≢◌, ◌<◌, ◌-◌, ◌∷◌, ℕ, List, [], Some, IfOk, IsOkUnless};
+ghost use Rattle.std.specs.Prelude.{◌≡◌, ◌≢◌, ◌<◌, ◌-◌, ◌∷◌, ℕ, List, [], map, Some, IfOk, IsOkUnless};
 ghost use Rattle.std.specs.Option.{option_copied};
 ghost use Rattle.sled_codec.specs.History.{History, Message};
 ghost use Rattle.sled_core.specs.Fits.{config_of, fault_of, pins_of};
@@ -64,27 +64,34 @@ pub(crate) fn replaced_by(
     ensures list { IfOk result (λ old. old.items ≡ replacing kind (told_state origin.size origin.floor page (option_copied state.entry))) }
     ensures err { IsOkUnless result Error.OutOfMemory }
 {
-    let mut old = Vec::new(alloc);
     if kind == LogKind::Link {
-        return Ok(old);
+        return Ok(Vec::new(alloc));
     }
     match state {
-        Some(PageState::Present { base, frags }) => {
-            old.reserve(frags.len() + 1)?;
-            old.push_reserved(told(base));
-            for frag in frags {
-                old.push_reserved(told(frag));
-            }
-        }
+        Some(PageState::Present { base, frags }) => all_of(alloc, base, frags),
         Some(PageState::Free(place, pointer)) => {
             let log_size = free_len(origin, page, place.unsigned_abs());
+            let mut old = Vec::new(alloc);
             old.push(CacheInfo {
                 lsn: *place,
                 pointer: *pointer,
                 log_size,
             })?;
+            Ok(old)
         }
-        Some(PageState::Uninitialized) | None => {}
+        Some(PageState::Uninitialized) | None => Ok(Vec::new(alloc)),
+    }
+}
+
+/// What the log is told of a page that is present: its Replace, and the Links on that.
+fn all_of(alloc: Global, base: &Entry, frags: &[Entry]) -> Result<Vec<CacheInfo>>
+    ensures list { IfOk result (λ old. old.items ≡ told_entry base.now ∷ map told_entry frags.now) }
+    ensures err { IsOkUnless result Error.OutOfMemory }
+{
+    let mut old = Vec::with_capacity(alloc, frags.len() + 1)?;
+    old.push_reserved(told(base));
+    for frag in frags {
+        old.push_reserved(told(frag));
     }
     Ok(old)
 }

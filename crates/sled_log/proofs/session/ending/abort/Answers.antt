@@ -28,25 +28,25 @@ returns-in-Err-clause-step g c = λ none k at asked.
     let sum = g.C.Checksum.sum_of in
     let old = c.args.opened.now in
     let mid = c.take_open.new.opened in
-    let new = c.abort.new.self in
+    let new = c.abort-aborted.new.self in
     let its = open_there (view old.log.config.device).is_stopped c.args.number k.tickets asked in
     let takes : TakesTicket old c.args.number mid (Some c.in-Some.field-0) = subst (TakesTicket old c.args.number mid) c.in-Some.is c.take_open.ensures in
     let own : Option ℤ = own_blob c.in-Some.field-0.reservation in
     let done = c.in-Err.ensures in
     let did : GivesUp {T = ℤ × DiskPtr} view sum (Err c.in-Err.e) own mid.log new =
-    record { answers = done.answers; removes = done.device; keeps = c.abort.ensures.keeps; seen = c.abort.ensures.seen; buffers = c.abort.ensures.ends.buffers; position = c.abort.ensures.ends.position; heads = record { heads = c.abort.ensures.ends.heads; fillings = c.abort.ensures.ends.fillings }; err = done.err } in
+    record { answers = done.answers; removes = done.device; keeps = c.abort-aborted.ensures.keeps; seen = c.abort-aborted.ensures.seen; buffers = c.abort-aborted.ensures.ends.buffers; position = c.abort-aborted.ensures.ends.position; heads = record { heads = c.abort-aborted.ensures.ends.heads; fillings = c.abort-aborted.ensures.ends.fillings }; err = done.err } in
     let back = c.unpin.ensures in
     does_back view sum old k at c.args.number its.0 its.1 mid c.in-Some.field-0 takes none new mid.pages c.unpin.new.log back.given _ _
     (abort_fails view sum old k at c.args.number its.0 its.1 mid c.in-Some.field-0 takes none new mid.pages
     (back_from view sum old k at c.args.number its.0 its.1 mid c.in-Some.field-0 takes none new mid.pages c.unpin.new.log back.given back.fits) (ℤ × DiskPtr) c.in-Err.e
-    (subst (λ x. GivesUp {T = ℤ × DiskPtr} view sum (Err c.in-Err.e) own x new) takes.log did) (c.abort.ensures.ends.machine ∙ ap (λ x. machine_at x) takes.log) (ap (λ x. map page_of x.items) takes.pages))
+    (subst (λ x. GivesUp {T = ℤ × DiskPtr} view sum (Err c.in-Err.e) own x new) takes.log did) (c.abort-aborted.ensures.ends.machine ∙ ap (λ x. machine_at x) takes.log) (ap (λ x. map page_of x.items) takes.pages))
 
 pub returns-in-Ok-clause-step : goal.returns-in-Ok-clause-step
 returns-in-Ok-clause-step g c = λ none k at asked.
     let view = view_by g.D.Device.trace g.D.Device.faults g.D.CrashDevice.is_stopped in
     let old = c.args.opened.now in
     let mid = c.take_open.new.opened in
-    let new = c.abort.new.self in
+    let new = c.abort-aborted.new.self in
     let its = open_there (view old.log.config.device).is_stopped c.args.number k.tickets asked in
     let takes : TakesTicket old c.args.number mid (Some c.in-Some.field-0) = subst (TakesTicket old c.args.number mid) c.in-Some.is c.take_open.ensures in
     let trace = g.D.Device.trace in
@@ -57,20 +57,20 @@ returns-in-Ok-clause-step g c = λ none k at asked.
     let awaits : Awaits old.log ticket m = awaits_it view sum old k at c.args.number m its.1 mid c.in-Some.field-0 takes in
     let says = awaited old.log ticket m awaits in
     let done = c.in-Ok.ensures in
-    let keeps = c.abort.ensures.keeps in
+    let keeps = c.abort-aborted.ensures.keeps in
     let given : ℤ × DiskPtr = (cast_signed w64 (cast_unsigned w64 c.in-Ok.place), c.in-Ok.pointer) in
     let gave : GivesUp view sum (Ok given) (own_blob ticket) mid.log new =
-    record { answers = done.answers; removes = record { calls = done.device.calls; done = done.device.done; none = done.device.none }; keeps = keeps; seen = c.abort.ensures.seen; buffers = c.abort.ensures.ends.buffers; position = c.abort.ensures.ends.position; heads = record { heads = c.abort.ensures.ends.heads; fillings = c.abort.ensures.ends.fillings }; err = tt } in
+    record { answers = done.answers; removes = record { calls = done.device.calls; done = done.device.done; none = done.device.none }; keeps = keeps; seen = c.abort-aborted.ensures.seen; buffers = c.abort-aborted.ensures.ends.buffers; position = c.abort-aborted.ensures.ends.position; heads = record { heads = c.abort-aborted.ensures.ends.heads; fillings = c.abort-aborted.ensures.ends.fillings }; err = tt } in
     let did : GivesUp view sum (Ok given) (own_blob ticket) old.log new = subst (λ x. GivesUp view sum (Ok given) (own_blob ticket) x new) takes.log gave in
     let back = c.unpin.ensures in
     does_back view sum old k at c.args.number m its.1 mid c.in-Some.field-0 takes none new mid.pages c.unpin.new.log back.given _ _
     (aborts view sum old k at c.args.number m its.1 mid c.in-Some.field-0 takes none new mid.pages
-    did.seen (did.answers.1 ∙ sym did.answers.0) (c.abort.ensures.ends.machine ∙ ap (λ x. machine_at x) takes.log) did.position did.buffers did.answers.0
-    (λ t x holds ne. c.abort.ensures.ends.others k.history t x (fits_holds trace sum mid.log k.history k.acknowledged k.floor at.unmarked fits) (subst (λ y. Awaits y t x) (sym takes.log) holds) ne)
+    did.seen (did.answers.1 ∙ sym did.answers.0) (c.abort-aborted.ensures.ends.machine ∙ ap (λ x. machine_at x) takes.log) did.position did.buffers did.answers.0
+    (λ t x holds ne. c.abort-aborted.ensures.ends.others k.history t x (fits_holds trace sum mid.log k.history k.acknowledged k.floor at.unmarked fits) (subst (λ y. Awaits y t x) (sym takes.log) holds) ne)
     (λ j x apart had none_kept. keeps.items none_kept x (beside_ticket view sum old k at c.args.number m its.1 mid c.in-Some.field-0 takes j x apart had)
     (subst (λ y. IsSafe trace sum y x) (sym takes.log) had.stored (keeps.sound none_kept)))
     (subst (λ x. TakesOut m.place (open_places x) (open_places new)) takes.log (done.ends.opens m.place says.0))
     _ c.in-Ok.pointer (sym (place_back c.in-Ok.place m.place (done.place.0 ∙ sym says.0) (awaited_small old.log ticket m awaits)), done.place.1 ∙ sym says.1)
     (ap (λ x. map page_of x.items) takes.pages)
     (back_from view sum old k at c.args.number m its.1 mid c.in-Some.field-0 takes none new mid.pages c.unpin.new.log back.given back.fits k.history) did
-    (subst (λ x. AreAmong (given_up_of new) (in_log m ∷ given_up_of x)) takes.log (c.abort.ensures.given_up m (subst (λ x. Awaits x ticket m) (sym takes.log) awaits))))
+    (subst (λ x. AreAmong (given_up_of new) (in_log m ∷ given_up_of x)) takes.log (c.abort-aborted.ensures.given_up m (subst (λ x. Awaits x ticket m) (sym takes.log) awaits))))

@@ -85,7 +85,7 @@ returns-in-Ok-clause-step g c = λ none k at asked.
     let trace = g.D.Device.trace in
     let old = c.args.opened.now in
     let mid = c.take_open.new.opened in
-    let new = c.mark_writebatch.new.self in
+    let new = c.mark_writebatch-ended.new.self in
     let n = c.in-Some.number in
     let ticket = c.in-Some-take_open.field-0 in
     let read = (goal.at.returns-in-Ok-clause-step g c).After-reserved_offset-peg in
@@ -101,14 +101,14 @@ returns-in-Ok-clause-step g c = λ none k at asked.
     subst (λ x. NotesBatchOf ticket.reservation (pos (reserved_end old.log) -ℤ pos 1) x new) took.log (subst (λ z. NotesBatchOf ticket.reservation z mid.log new) (peg_is g read) done.same) in
     let back = c.unpin.ensures in
     does_back (seen_by g) sum old k at n m its.1 mid ticket took none new mid.pages c.unpin.new.log back.given _ _
-    (ends_batch (seen_by g) sum old k at n m its.1 its.2 mid ticket took none new notes (c.mark_writebatch.ensures.ends.machine ∙ ap (λ x. machine_at x) took.log)
-    (subst (λ x. SamePosition x new) took.log c.mark_writebatch.ensures.ends.position) (subst (λ x. KeepsBuffers x new) took.log c.mark_writebatch.ensures.ends.buffers)
+    (ends_batch (seen_by g) sum old k at n m its.1 its.2 mid ticket took none new notes (c.mark_writebatch-ended.ensures.ends.machine ∙ ap (λ x. machine_at x) took.log)
+    (subst (λ x. SamePosition x new) took.log c.mark_writebatch-ended.ensures.ends.position) (subst (λ x. KeepsBuffers x new) took.log c.mark_writebatch-ended.ensures.ends.buffers)
     (sym (ap (λ x. fault_of x) took.log) ∙ done.answers)
-    (λ t x holds ne. c.mark_writebatch.ensures.ends.others k.history t x (fits_holds trace sum mid.log k.history k.acknowledged k.floor at.unmarked fits) (subst (λ y. Awaits y t x) (sym took.log) holds) ne)
-    (λ j x apart had. safe_on trace sum mid.log new x c.mark_writebatch.ensures.goes_on (subst (λ y. IsSafe trace sum y x) (sym took.log) had.stored))
+    (λ t x holds ne. c.mark_writebatch-ended.ensures.ends.others k.history t x (fits_holds trace sum mid.log k.history k.acknowledged k.floor at.unmarked fits) (subst (λ y. Awaits y t x) (sym took.log) holds) ne)
+    (λ j x apart had. safe_on trace sum mid.log new x c.mark_writebatch-ended.ensures.goes_on (subst (λ y. IsSafe trace sum y x) (sym took.log) had.stored))
     (subst (λ x. TakesOut m.place (open_places x) (open_places new)) took.log (done.ends.opens m.place says.0))
-    (subst (λ x. AreAmong (given_up_of new) (given_up_of x)) took.log (c.mark_writebatch.ensures.ended (subst (λ z. place_of ticket.reservation <ℤ z) (sym (peg_is g read)) (behind (seen_by g) sum old k at n m its.1 its.2 mid ticket took))))
-    (subst (λ x. HasNoOther x new) took.log (record { heads = c.mark_writebatch.ensures.ends.heads; fillings = c.mark_writebatch.ensures.ends.fillings }))
+    (subst (λ x. AreAmong (given_up_of new) (given_up_of x)) took.log (c.mark_writebatch-ended.ensures.ended (subst (λ z. place_of ticket.reservation <ℤ z) (sym (peg_is g read)) (behind (seen_by g) sum old k at n m its.1 its.2 mid ticket took))))
+    (subst (λ x. HasNoOther x new) took.log (record { heads = c.mark_writebatch-ended.ensures.ends.heads; fillings = c.mark_writebatch-ended.ensures.ends.fillings }))
     _ c.in-Ok.pointer (sym (place_back c.in-Ok.low m.place (done.place.0 ∙ sym says.0) (awaited_small old.log ticket.reservation m awaits)), done.place.1 ∙ sym says.1)
     gives.0 (subst (λ z. EndsBatch k.history ticket.reservation z gives.0) (peg_is g read) gives.1)
     (back_from (seen_by g) sum old k at n m its.1 mid ticket took none new mid.pages c.unpin.new.log back.given back.fits gives.0 gives.2))
@@ -123,7 +123,7 @@ returns-in-Err-clause-step g c = λ none k at asked.
     let n = c.in-Some.number in
     let mid = c.take_open.new.opened in
     let ticket = c.in-Some-take_open.field-0 in
-    let new = c.mark_writebatch.new.self in
+    let new = c.mark_writebatch-ended.new.self in
     let back = c.unpin.ensures in
     does_back (seen_by g) sum old k at n its.0 its.1 mid ticket took none new mid.pages c.unpin.new.log back.given _ _
     (end_fails (seen_by g) sum old k at n its.0 its.1 its.2 mid ticket took none new (ℤ × DiskPtr) c.in-Err.e
