@@ -594,11 +594,17 @@ module _ {D C : Type 0} (view : D → DeviceView) (sum : List ℕ → ℕ) (old 
           now_pinned = let pins = same.pins in let out = at.pinned in let less = fewer in let all = ap (λ (U : List Message). length U) all_marked in omega (arith, pins, out, less, all)
 
           does_now : (new : Log D C) (due : Option Due) → (beside : KeepsBeside log new)
-              → ((stands view (Open (now new pages due)) (left H') ≡ record (stands view (Open old) k) { device = view (config_of new).device; history = H';
-              log = Some (marking (segment_size_of old.log) (mark_for (segment_size_of old.log) k.floor k.history m) (spent (seen old k.tickets k.given_up k.heads) n (places_without m.place (opens (seen old k.tickets k.given_up k.heads))) count_now)) })
-              ⊎ (stands view (Open (now new pages due)) (left H') ≡ record (stands view (Open old) k) { device = view (config_of new).device; history = H';
-              log = Some (spent (seen old k.tickets k.given_up k.heads) n (places_without m.place (opens (seen old k.tickets k.given_up k.heads))) count_now);
-              due = Some (mark_for (segment_size_of old.log) k.floor k.history m) }))
+              → ((stands view (Open (now new pages due)) (left H') ≡ record (stands view (Open old) k) {
+                device = view (config_of new).device;
+                history = H';
+                log = Some (marking (segment_size_of old.log) (mark_for (segment_size_of old.log) k.floor k.history m) (spent (seen old k.tickets k.given_up k.heads) n (places_without m.place (opens (seen old k.tickets k.given_up k.heads))) count_now));
+              })
+              ⊎ (stands view (Open (now new pages due)) (left H') ≡ record (stands view (Open old) k) {
+                device = view (config_of new).device;
+                history = H';
+                log = Some (spent (seen old k.tickets k.given_up k.heads) n (places_without m.place (opens (seen old k.tickets k.given_up k.heads))) count_now);
+                due = Some (mark_for (segment_size_of old.log) k.floor k.history m);
+              }))
               → IsOpenAt (traces view) sum (now new pages due) (left H')
               → DoesHere view sum (Open old) (command.Complete n) (Open (now new pages due), reply.Done place pointer) k
           does_now new due beside leads open_then = record {

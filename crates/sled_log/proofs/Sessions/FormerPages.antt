@@ -82,12 +82,12 @@ module _ (size floor : ℕ) where
   unfolding table page_state
   page_told H page made = by (last_beginning (of_page H.messages top page)) (λ b. last_found (of_page H.messages top page) b
       (page_ascends H.messages top page (apart_ascends H.messages made.orderly.formed.apart))) where
-    by : (o : Option Message) → ((b : Message) → o ≡ Some b → IsLast (of_page H.messages top page) b)
-        → told_page size floor page (page_with (entries_from o (of_page H.messages top page))) ≡ map (told_of size floor) (entries_from o (of_page H.messages top page))
-    by None found = refl
-    by (Some b) found =
-        let last = found b refl in
-        begun_told page b (of_page H.messages top page) (from_page H.messages top page b last.there).1 last.begins
+        by : (o : Option Message) → ((b : Message) → o ≡ Some b → IsLast (of_page H.messages top page) b)
+            → told_page size floor page (page_with (entries_from o (of_page H.messages top page))) ≡ map (told_of size floor) (entries_from o (of_page H.messages top page))
+        by None found = refl
+        by (Some b) found =
+            let last = found b refl in
+            begun_told page b (of_page H.messages top page) (from_page H.messages top page b last.there).1 last.begins
 
   -- What is told of a page of the session's table is what is told of the page's messages.
 

@@ -51,7 +51,13 @@ pub(crate) fn complete<D: CrashDevice, C: Checksum>(
     let size = reservation.reservation_len() as u64;
     match opened.log.complete(reservation) {
         Ok((place, pointer)) => {
-            apply(opened.alloc, &mut opened.pages, kind, page, (place, pointer, size));
+            apply(
+                opened.alloc,
+                &mut opened.pages,
+                kind,
+                page,
+                (place, pointer, size),
+            );
             let new = CacheInfo {
                 lsn: place,
                 pointer,
