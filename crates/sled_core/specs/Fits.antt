@@ -222,6 +222,10 @@ start_behind log page n =
     then record { place = (current_of log).parts.site.place + segment_size_of log; lid = next_slot (machine_of log.accountant) * segment_size_of log }
     else start_of log
 
+-- and which slots there are then: where it needs one, that one's is handed out
+abbrev pub machine_behind : {D C : Type 0} → Log D C → ℕ → ℕ → Machine
+machine_behind log page n = if is_moved log page n then (target_of log page n).machine else machine_at log
+
 -- To seal the current buffer takes a further segment, since no further record has room in its own, and there is none in reach.
 abbrev pub IsUsedUp : {D C : Type 0} → Log D C → Type 0
 IsUsedUp log = (is_short log.config.config.segment_size (length (current_of log).parts.bytes) ≡ true) × NoFurther log

@@ -1,11 +1,11 @@
 -- How far a call came that seals and writes buffers, and fails: as many buffers are gone as it wrote and synced.
-use Rattle.std.specs.Prelude.{◌≡◌, ◌⊎◌, ◌+◌, ◌-◌, ◌*◌, ◌<◌, ◌≤ℤ◌, ℕ, ℤ, suc, pos, unsigned_abs, if◌then◌else◌, Bool, true, false, List, [], ◌∷◌, take, drop, None}
+use Rattle.std.specs.Prelude.{◌≡◌, ◌≢◌, ◌⊎◌, ◌+◌, ◌-◌, ◌*◌, ◌<◌, ◌≤ℤ◌, ℕ, ℤ, suc, pos, unsigned_abs, if◌then◌else◌, Bool, true, false, List, [], ◌∷◌, take, drop, None}
 use Rattle.std.specs.Prelude.{Result, Err}
 use Rattle.std.specs.declared.io.Error.{Error as IoError}
 use Rattle.sled_codec.specs.declared.result.Error.{Error}
 use Rattle.sled_codec.specs.declared.result.Error.TheVariants.{Io}
 use Rattle.sled_store.specs.Device.{Event, Trace, Synced, Wrote}
-use Rattle.sled_store.specs.SegmentStates.{Machine}
+use Rattle.sled_store.specs.SegmentStates.{Machine, stabilized}
 use Rattle.sled_store.specs.Script.{after_all}
 use Rattle.sled_store.specs.Stabilizing.{MovesSlots}
 use Rattle.sled_core.specs.Account.{account_behind, account_of}
@@ -13,6 +13,7 @@ use Rattle.sled_core.specs.declared.logger.Log.{Log}
 use Rattle.sled_core.specs.Fits.{current_begin, device_of, fault_of, ledger_for, ledger_of, machine_at, pins_of, position_with, reserved_end, segment_size_of}
 use Rattle.sled_core.specs.Fits.{start_of, synced_end, waiting_of, writing_some}
 use Rattle.sled_core.specs.Keeps.{FailedStep, position_for, sealed_for, start_for}
+use Rattle.sled_core.specs.Freeing.{Ledger}
 use Rattle.sled_core.specs.Ledger.{ledger_behind}
 use Rattle.sled_core.specs.Stable.{first_begin}
 use Rattle.sled_core.specs.Waiting.{BufferAt}
@@ -48,11 +49,20 @@ pub record WroteNone {D C : Type 0} (trace : D → Trace) (old new : Log D C) : 
   pub still : fault_of new ≡ None → trace (device_of new) ≡ trace (device_of old)
   pub account : account_of new ≡ account_of old
 
--- The accountant's step failed that began with these slots: single moves for the mark that joined were made, each with its calls, and one more may have begun.
+-- The accountant's step failed that began with these slots: it had a call to make for the mark that joined. Single moves for it were made, each with its calls,
+-- and one more may have begun.
 pub record IsOnTheWay {D C : Type 0} (trace : D → Trace) (new : Log D C) (slots : Machine) : Type 0 where
   pub before : Trace
   pub fault : IoError
   pub moved : MovesSlots {T = Unit {0}} (segment_size_of new) (account_of new).mark (Err (Io fault)) slots (machine_at new) before (trace (device_of new))
+  pub due : (stabilized (segment_size_of new) (account_of new).mark slots).calls ≢ []
+
+-- Of those that begin below a place so many at the front were written, and the step behind the last of these failed, that began with the slots as they are
+-- behind the others.
+abbrev pub FailedFront : {D C : Type 0} → (D → Trace) → (List ℕ → ℕ) → ℕ → ℕ → Log D C → Log D C → Type 0
+FailedFront trace sum to count old new =
+    FailedStep old new × (0 < count)
+    × IsOnTheWay trace new (ledger_behind (segment_size_of old) (take (count - 1) (sealed_for sum to old)) (ledger_for to old)).machine
 
 -- Those that begin below a place are sealed, and so many at the front were written; unless the device failed no other call was made.
 pub record WroteFront {D C : Type 0} (trace : D → Trace) (sum : List ℕ → ℕ) (to : ℕ) (old new : Log D C) : Type 0 where
@@ -61,11 +71,10 @@ pub record WroteFront {D C : Type 0} (trace : D → Trace) (sum : List ℕ → �
   pub start : start_of new ≡ start_for to old
   pub position : (m : Machine) → position_with new m ≡ position_for to old m
   -- the marks of all that were written count; and slots are as behind these, and not all is written that begins below the place: or the step behind the last
-  -- one failed, that began with those behind the others
+  -- one failed
   pub ledger : (account_of new ≡ (ledger_behind (segment_size_of old) (take count (sealed_for sum to old)) (ledger_for to old)).account)
       × (((machine_at new ≡ (ledger_behind (segment_size_of old) (take count (sealed_for sum to old)) (ledger_for to old)).machine) × (synced_end new < to))
-      ⊎ (FailedStep old new × (0 < count)
-      × IsOnTheWay trace new (ledger_behind (segment_size_of old) (take (count - 1) (sealed_for sum to old)) (ledger_for to old)).machine))
+      ⊎ FailedFront trace sum to count old new)
   pub written : synced_writes (trace (device_of new)) ≡ count + synced_writes (trace (device_of old))
   pub whole : fault_of new ≡ None → trace (device_of new) ≡ after_all (writing_some count sum old to) (trace (device_of old))
 
@@ -113,13 +122,19 @@ abbrev pub UnlessIo : {T : Type 0} → Result T Error → Type 0 → Type 0
 UnlessIo (Err (Io e)) P = Unit {0}
 UnlessIo _ P = P
 
+-- The step behind the last of so many of those has a call to make, for the mark that joined.
+abbrev pub IsStepDue : {D C : Type 0} → (List ℕ → ℕ) → ℕ → ℕ → Log D C → Type 0
+IsStepDue sum to count log =
+    let behind : ℕ → Ledger = λ n. ledger_behind (segment_size_of log) (take n (sealed_for sum to log)) (ledger_for to log) in
+    (stabilized (segment_size_of log) (behind count).account.mark (behind (count - 1)).machine).calls ≢ []
+
 -- A log was given up with this answer, and so many buffers at the front were written: what was reserved isn't all among them, or the device failed behind
--- the last of them, in the accountant's step, which isn't where the log kept a failure.
+-- the last of them, in the accountant's step, which had a call to make, and isn't where the log kept a failure.
 pub record ClosedFront {T D C : Type 0} (trace : D → Trace) (sum : List ℕ → ℕ) (result : Result T Error) (log : Log D C) (after : Trace) : Type 0 where
   pub count : ℕ
   pub written : synced_writes after ≡ count + synced_writes (trace (device_of log))
   pub whole : UnlessIo result (after ≡ after_all (writing_some count sum log (reserved_end log)) (trace (device_of log)))
-  pub short : (IsIo result × (fault_of log ≡ None) × (pins_of log ≡ 0) × (0 < count))
+  pub short : (IsIo result × (fault_of log ≡ None) × (pins_of log ≡ 0) × (0 < count) × IsStepDue sum (reserved_end log) count log)
       ⊎ (first_begin (drop count (sealed_for sum (reserved_end log) log)) (start_for (reserved_end log) log) < reserved_end log)
 
 -- How far the last flush of a log came that failed: nothing was asked of the device, so it didn't fail, though the current buffer was to be sealed, or the log

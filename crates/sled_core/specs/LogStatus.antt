@@ -6,7 +6,7 @@ use Rattle.sled_codec.specs.History.{Batch}
 use Rattle.sled_store.specs.SegmentStates.{Machine}
 use Rattle.sled_core.specs.Account.{Account, account_of}
 use Rattle.sled_core.specs.declared.logger.Log.{Log}
-use Rattle.sled_core.specs.Fits.{fault_of, noted_in, pins_of, position_of, reserved_end, start_of, synced_end, waiting_of}
+use Rattle.sled_core.specs.Fits.{fault_of, machine_at, noted_in, pins_of, position_of, reserved_end, start_of, synced_end, waiting_of}
 use Rattle.sled_core.specs.Freeing.{Ledger}
 use Rattle.sled_core.specs.Ledger.{ledger_behind}
 use Rattle.sled_core.specs.OpenBatches.{not_whole}
@@ -18,6 +18,8 @@ use Rattle.sled_core.specs.Waiting.{BufferAt, BufferStart, front_below, not_belo
 pub record LogStatus : Type 0 where
   -- where the next record may begin
   pub position : Position
+  -- the slots of the segments
+  pub machine : Machine
   -- the place behind all that was reserved, and behind all that is on the device without a gap
   pub reserved : ℕ
   pub synced : ℕ
@@ -33,6 +35,7 @@ pub record LogStatus : Type 0 where
 abbrev pub status_of : {D C : Type 0} → Log D C → LogStatus
 status_of log = record {
   position = position_of log;
+  machine = machine_at log;
   reserved = reserved_end log;
   synced = synced_end log;
   noted = noted_in log;
@@ -43,14 +46,15 @@ status_of log = record {
   account = account_of log;
 }
 
--- the buffers are these, and the current one begins there
-abbrev pub rolled : List BufferAt → BufferStart → LogStatus → LogStatus
-rolled buffers start s = record s { waiting = buffers; start = start }
+-- the buffers are these, the current one begins there, and the slots are these
+abbrev pub rolled : List BufferAt → BufferStart → Machine → LogStatus → LogStatus
+rolled buffers start m s = record s { waiting = buffers; start = start; machine = m }
 
 -- those of them are written that begin below what was reserved, from these slots and marks on; and the next record may begin there, by which slots are left
 abbrev pub flushed : ℕ → List BufferAt → BufferStart → Ledger → (Machine → Position) → LogStatus → LogStatus
 flushed size buffers start l position s = record s {
   position = position (ledger_behind size (front_below s.reserved buffers) l).machine;
+  machine = (ledger_behind size (front_below s.reserved buffers) l).machine;
   waiting = not_below s.reserved buffers;
   start = start;
   synced = first_begin (not_below s.reserved buffers) start;

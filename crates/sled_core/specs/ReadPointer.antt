@@ -11,12 +11,14 @@ use Rattle.sled_codec.specs.declared.serialization.message.MessageHeader.{Messag
 use Rattle.sled_codec.specs.History.{Message, History, table}
 use Rattle.sled_codec.specs.Pointers.{lid_of}
 use Rattle.sled_store.specs.Blobs.{HoldsItem, IsDamagedBlob}
-use Rattle.sled_store.specs.Device.{State}
+use Rattle.sled_store.specs.Device.{State, Trace}
 use Rattle.sled_core.specs.declared.logger.Log.{Log}
 use Rattle.sled_core.specs.declared.logger.read_message.LogRead.{LogRead}
 use Rattle.sled_core.specs.declared.logger.read_message.LogRead.TheVariants.{Blob}
-use Rattle.sled_core.specs.Fits.{fault_of, next_place, stable_end}
+use Rattle.sled_core.specs.Fits.{HasRecordOf, fault_of, next_place, stable_end}
+use Rattle.sled_core.specs.Keeps.{IsSpared}
 use Rattle.sled_core.specs.Reading.{GivesMessage, IsInline, IsNoPlace, IsReading, IsUnreadableAs}
+use Rattle.sled_core.specs.Running.{IsStored}
 
 -- The place whose buffer a read brings to the device: that of the message, or for one whose item is a blob the place of that.
 abbrev pub place_read : ℤ → DiskPtr → ℤ
@@ -82,6 +84,19 @@ pub record IsKeptBlob {D C : Type 0} (log : Log D C) (H : History) (m : Message)
   pub pointer : m.pointer ≡ p
   pub beside : IsInline p → ⊥
 
+-- The same of any message that the log has the record of, whose blob no crash takes and no write removes: one that was replaced too, where it was stored when
+-- a pin was taken that is out still.
+pub record IsStoredBlob {D C : Type 0} (trace : D → Trace) (sum : List ℕ → ℕ) (log : Log D C) (H : History) (m : Message) (pid : ℕ) (lsn : ℤ) (p : DiskPtr)
+    : Type 0 where
+  pub known : Contains H.messages m
+  pub has : HasRecordOf log H m
+  pub stored : IsStored trace sum log m
+  pub spared : IsSpared log m
+  pub page : m.page ≡ pid
+  pub place : pos m.place ≡ lsn
+  pub pointer : m.pointer ≡ p
+  pub beside : IsInline p → ⊥
+
 -- The message is given, or the read has to wait or fails: its blob is neither missing nor damaged.
 abbrev pub GivesBlobOrWaits : Message → Option IoError → Result LogRead Error → Type 0
 GivesBlobOrWaits m kept (Ok read) = GivesMessage m read
@@ -89,7 +104,10 @@ GivesBlobOrWaits m kept (Err (Io e)) = kept ≡ None → error_kind e ≢ NotFou
 GivesBlobOrWaits m kept (Err (Corruption at)) = ⊥
 GivesBlobOrWaits m kept (Err _) = Unit {0}
 
--- What a read of a message's blob comes to: of the table of what is stable nothing holds it, of the table of all that there is it may have to wait.
-pub record ReadsBlob {D C : Type 0} (log : Log D C) (H : History) (m : Message) (pid : ℕ) (lsn : ℤ) (p : DiskPtr) (result : Result LogRead Error) : Type 0 where
+-- What a read of a message's blob comes to: of the table of what is stable nothing holds it, of the table of all that there is, and of what is stored, it may
+-- have to wait.
+pub record ReadsBlob {D C : Type 0} (trace : D → Trace) (sum : List ℕ → ℕ) (log : Log D C) (H : History) (m : Message) (pid : ℕ) (lsn : ℤ) (p : DiskPtr)
+    (result : Result LogRead Error) : Type 0 where
   pub stable : IsStableBlob log H m pid lsn p → GivesBlob m (fault_of log) result
   pub kept : IsKeptBlob log H m pid lsn p → GivesBlobOrWaits m (fault_of log) result
+  pub stored : IsStoredBlob trace sum log H m pid lsn p → GivesBlobOrWaits m (fault_of log) result

@@ -11,7 +11,7 @@ use Rattle.sled_store.specs.StartCauses.{StartRefuses}
 use Rattle.sled_store.specs.Device.{Trace, state_of}
 use Rattle.sled_store.specs.Script.{Performs, after_all}
 use Rattle.sled_store.specs.Started.{started}
-use Rattle.sled_core.specs.Fits.{NoneOpen, NoneSealed, config_of, fault_of, given_up_of, kept_batches, noted_in, pins_of, position_of, reserved_end}
+use Rattle.sled_core.specs.Fits.{NoneOpen, NoneSealed, config_of, fault_of, given_up_of, kept_batches, machine_at, noted_in, pins_of, position_of, reserved_end}
 use Rattle.sled_core.specs.Fits.{segment_size_of}
 use Rattle.sled_core.specs.Fits.{start_of, synced_end}
 use Rattle.sled_core.specs.FreeSlots.{begun_machine}
@@ -59,6 +59,8 @@ pub record BeginsBehind {D C : Type 0} (size len : ℕ) (s : SnapshotModel) (log
   pub given_up : given_up_of log ≡ []
   pub unsealed : NoneSealed log
   pub pins : pins_of log ≡ 0
+  -- the slots are those that a start leaves, with that of its segment
+  pub machine : machine_at log ≡ begun_machine size len s
   -- the marks begin as the snapshot's place
   pub account : account_of log ≡ record { mark = pos (stable_place s.stable); durable = pos (stable_place s.stable); pinned = false }
   pub fault : fault_of log ≡ None

@@ -18,7 +18,7 @@ ghost use Rattle.sled_store.specs.Device.{Trace, State, Left, Leaves, Crashed, s
 ghost use Rattle.sled_store.specs.Moments.{IsLater, LeavesOnly};
 ghost use Rattle.sled_store.specs.Script.{Performs};
 ghost use Rattle.sled_store.specs.Outdated.{IsNamedNow, MayName, NamesBlob};
-ghost use Rattle.sled_store.specs.Marks.{IsFormerState, info_of};
+ghost use Rattle.sled_store.specs.Marks.{IsFormerList, info_of};
 ghost use Rattle.sled_store.specs.SegmentStates.{MayMark, slot_at};
 ghost use Rattle.sled_store.specs.declared.segment.slot.CacheInfo.{CacheInfo};
 ghost use Rattle.sled_core.specs.Fits.{stable_end, KeepsAll, Awaits, FirstWaits, FitsInline, HasRecordOf, IsLeastOpen, IsUnchanged, IsUsedUpBelow, IsUsedUpFor, IsWritten, NoneOpen, blob_at, body_length, buffers_of, current_begin, device_of, fault_of, fillings_of, given_up_of, heads_of, held_len, holding_below, in_blob_of, is_moved, ledger_for, ledger_of, line_of, machine_at, message_for, message_rewriting, next_place, noted_in, open_of, open_places, pins_of, reserved_end, sealing_end, segment_size_of, start_behind, start_of, synced_end, target_of, waiting_behind, waiting_of, writing_below, writing_pending, writing_some};
@@ -250,7 +250,7 @@ pub fn what_is_not_marked_may_be_marked<D: Device, C: Checksum>()
     ensures link { (log : Log D C) (H : History) (A f : ℕ) (U : List Message) (m : Message) → Fits D.trace C.sum_of log H A f U → Contains U m
         → MayMark (segment_size_of log) (machine_at log) (info_of m) [] }
     ensures begins { (log : Log D C) (H : History) (A f : ℕ) (U : List Message) (m : Message) (old : List CacheInfo) → Fits D.trace C.sum_of log H A f U
-        → Contains U m → IsFormerState (without U H) m.page old → MayMark (segment_size_of log) (machine_at log) (info_of m) old }
+        → Contains U m → IsFormerList (without U H) m.page old → MayMark (segment_size_of log) (machine_at log) (info_of m) old }
 {}
 
 /// Marks join with the writes of buffers, whatever is freed behind them.

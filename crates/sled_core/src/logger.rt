@@ -265,6 +265,10 @@ impl<D: Device, C: Checksum> Log<D, C> {
     /// before all. Its header has the blob's kind, this page, the number of the segment of this place, and 0 for checksum and
     /// length; the length of its record is answered as 0.
     ///
+    /// Who took a pin goes on reading what was in the table then, until the pin goes back, also once it is replaced: the log keeps its
+    /// record (law `what_was_in_a_table_keeps_its_record`), and its blob, which no crash takes (law `what_is_in_the_table_is_stored`), and which
+    /// no call removes while a pin is out (`items` of what each keeps; an `abort` removes its own ticket's alone).
+    ///
     /// The page isn't compared with what is read. Of an inline pointer the answer is what the record at its offset has, if it is one of
     /// the segment of this place: where place and pointer may be those of another page's message, the caller compares
     /// `header.pid` with the page that it asked for. Of a blob's pointer that shows nothing: a blob names no page, and the header has
@@ -287,7 +291,8 @@ impl<D: Device, C: Checksum> Log<D, C> {
         ensures undamaged { (H : History) (A f : ℕ) (U : List Message) (m : Message) → Fits D.trace C.sum_of self.old H A f U → Contains H.messages m
             → HasRecordOf self.old H m → pos m.place ≡ lsn → m.pointer ≡ ptr → IsInline ptr → IsCorruption result → ⊥ }
         ensures blob { (H : History) (A f : ℕ) (U : List Message) (m : Message)
-            → Fits D.trace C.sum_of self.old H A f U → NoHeaderOfZeros C.sum_of → ReadsBlob self.old H m pid lsn ptr result }
+            → Fits D.trace C.sum_of self.old H A f U → NoHeaderOfZeros C.sum_of
+            → ReadsBlob D.trace C.sum_of self.old H m pid lsn ptr result }
         ensures reading { let size = segment_size_of self.old in
             IfOk result (IsReadOf C.sum_of size (state_of (D.trace (device_of self.new))) pid (unsigned_abs lsn / size) ptr) }
         ensures corrupt { IfErr result (IsDamageAt C.sum_of (segment_size_of self.old) (state_of (D.trace (device_of self.new))) lsn ptr) }

@@ -1,12 +1,12 @@
 -- What the commands come to that write: a flush, a write up to a place, and that of one buffer; and why a log fails.
-use Rattle.std.specs.Prelude.{◌≡◌, ◌⊎◌, ◌+◌, ◌≤◌, ◌≤ℤ◌, ◌<ℤ◌, ◌<◌, ◌-◌, ◌%◌, ◌^◌, ◌∷◌, ℕ, ℤ, pos, max, IsTrue, List, [], drop, map, take, Option, None, Some, Err}
+use Rattle.std.specs.Prelude.{◌≡◌, ◌≢◌, ◌⊎◌, ◌+◌, ◌≤◌, ◌≤ℤ◌, ◌<ℤ◌, ◌<◌, ◌-◌, ◌%◌, ◌^◌, ◌∷◌, ℕ, ℤ, pos, max, IsTrue, List, [], drop, map, take, Option, None, Some, Err}
 use Rattle.std.specs.List.{All}
 use Rattle.std.specs.declared.io.Error.{Error as IoError}
 use Rattle.sled_codec.specs.declared.result.Error.{Error}
 use Rattle.sled_codec.specs.declared.result.Error.TheVariants.{Held, Io, NotReserved, OutOfMemory, PlacesUsedUp}
 use Rattle.sled_store.specs.Device.{Trace, state_of}
 use Rattle.sled_store.specs.Answers.{is_fault}
-use Rattle.sled_store.specs.SegmentStates.{Machine}
+use Rattle.sled_store.specs.SegmentStates.{Machine, stabilized}
 use Rattle.sled_store.specs.Stabilizing.{MovesSlots}
 use Rattle.sled_store.specs.Script.{Performs, after_all}
 use Rattle.sled_codec.specs.Record.{short_header}
@@ -111,6 +111,7 @@ pub record StepFailed (size : ℕ) (l : LogView) (mark : ℤ) (from left : Machi
   pub kept : fault ≡ Some failure
   pub before : Trace
   pub moved : MovesSlots {T = Unit {0}} size mark (Err (Io failure)) from left before after
+  pub due : (stabilized size mark from).calls ≢ []
 
 -- the log with these buffers left, the current one from there on, this failure kept, these slots and marks, and the next record where it may begin with such
 -- slots: all before the first of the buffers is on the device

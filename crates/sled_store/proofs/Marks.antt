@@ -1,5 +1,6 @@
 pub mod AccountSteps
 pub mod DeactivationSteps
+pub mod FormerLists
 pub mod FreedSteps
 pub mod HeldLemmas
 pub mod MarkExample

@@ -5,6 +5,7 @@ use Rattle.std.specs.List.{list_any, sum_by}
 use Rattle.sled_codec.specs.declared.serialization.message.LogKind.TheVariants.{Link}
 use Rattle.sled_codec.specs.History.{Message, Batch, History, no_history, begins_page, table, AddsMessage, AddsBatch}
 use Rattle.sled_codec.specs.Pointers.{lid_of}
+use Rattle.sled_codec.specs.Snapshots.{Entry}
 use Rattle.sled_store.specs.SegmentStates.{SlotState, Machine, unused_machine, is_free, slot_at, handed_out, LiesIn, MayMark, linked, replaced, stabilized}
 use Rattle.sled_store.specs.SegmentStates.{popped}
 use Rattle.sled_store.specs.declared.segment.slot.CacheInfo.{CacheInfo}
@@ -12,6 +13,14 @@ use Rattle.sled_store.specs.declared.segment.slot.CacheInfo.{CacheInfo}
 -- what a segment is told of a message
 abbrev pub info_of : Message → CacheInfo
 info_of m = record { lsn = pos m.place; pointer = m.pointer; log_size = m.size }
+
+-- what it is told of it but for its length
+abbrev pub unsized : CacheInfo → CacheInfo
+unsized i = record i { log_size = 0 }
+
+-- what it is told of an entry of a page table
+abbrev pub told_of : Entry → CacheInfo
+told_of e = record { lsn = e.0; pointer = e.1; log_size = e.2 }
 
 -- the slot that a message lies in
 abbrev pub slot_with : ℕ → Message → ℕ
@@ -37,11 +46,7 @@ pub record IsFormerState (H : History) (page : ℕ) (old : List CacheInfo) : Typ
   pub past : IsPast H cut
   pub is : old ≡ map info_of (table H cut page)
 
--- what a segment is told of a message but for its length
-abbrev pub unsized : CacheInfo → CacheInfo
-unsized i = record i { log_size = 0 }
-
--- The same, whatever lengths are told of them: by those no one tells which messages are needed. A recovery has none of a Free.
+-- the same, whatever lengths are told of them
 pub record IsFormerList (H : History) (page : ℕ) (old : List CacheInfo) : Type 0 where
   pub cut : ℕ
   pub past : IsPast H cut

@@ -5,7 +5,7 @@ use Rattle.std.proofs.lemmas.Bool.{eqb-true}
 use Rattle.std.proofs.lemmas.Bool.Decides.{eqb_tells}
 use Rattle.std.proofs.lemmas.List.Elements.{filter-append}
 use Rattle.sled_codec.specs.History.{AddsMessage, ChangesPage, History, Message, begins_page}
-use Rattle.sled_store.specs.Marks.{Completes, IsFormerState, IsNewPlace, info_of}
+use Rattle.sled_store.specs.Marks.{Completes, IsFormerList, IsNewPlace, info_of}
 use Rattle.sled_store.specs.Outdated.{AreOutdated, NoneShares}
 use Rattle.sled_store.specs.SegmentStates.{Machine, MayMark, SlotState, handed_out, linked, replaced, slot_at}
 use Rattle.sled_store.specs.Tracked.{IsNoEntry, IsTracked}
@@ -224,7 +224,7 @@ module _ (sum : List ℕ → ℕ) (size : ℕ) (snapshots : ℤ → Option (List
     }
 
     pub account_replaced : ChangesPage x.kind → (old : List CacheInfo) → MayMark size m (info_of x) old → begins_page x.kind ≡ true
-        → IsFormerState (without U H) x.page old → NoneShares H x old
+        → IsFormerList (without U H) x.page old → NoneShares H x old
         → HasAccount sum marks size snapshots H V (replaced size x.page (info_of x) old m)
     account_replaced changes old may_old begins former none = record {
       first = has.first;

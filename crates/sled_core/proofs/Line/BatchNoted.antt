@@ -15,7 +15,7 @@ use Rattle.sled_core.specs.declared.iobuf.Reserved.{Reserved}
 use Rattle.sled_core.specs.declared.logger.Log.{Log}
 use Rattle.sled_core.specs.declared.logger.joined_marks.JoinedMarks.{JoinedMarks}
 use Rattle.sled_core.specs.declared.reservation.Reservation.{Reservation}
-use Rattle.sled_core.specs.Fits.{KeepsAll, KeepsBuffers, config_of, current_of, fault_of, fillings_of, given_up_of, kept_batches, line_of, noted_in, open_places, reserved_end, synced_end, heads_of}
+use Rattle.sled_core.specs.Fits.{KeepsAll, KeepsBuffers, config_of, current_of, fault_of, fillings_of, given_up_of, kept_batches, line_of, machine_at, noted_in, open_places, reserved_end, synced_end, heads_of}
 use Rattle.sled_core.specs.invariants.Fits.{Holds}
 use Rattle.sled_core.specs.Among.{AreAmong}
 use Rattle.sled_core.specs.Keeps.{GoesOn, KeepsOthers, SamePosition}
@@ -104,6 +104,7 @@ pub record IsBatchNoted {D C : Type 0} (trace : D → Trace) (sum : List ℕ →
   pub heads : AreAmong (heads_of new) (heads_of old)
   pub fillings : AreAmong (fillings_of new) (fillings_of old)
   pub others : KeepsOthers trace sum ticket old new
+  pub machine : machine_at new ≡ machine_at old
 
 -- It ends with a peg, and then the batch is noted.
 module _ {D C : Type 0} (trace : D → Trace) (sum : List ℕ → ℕ) (old mid new : Log D C) (ticket : Reservation) (n index : ℕ) (f : IsReservedAt old ticket n index) (manifest : is_manifest_of ticket ≡ true) (peg : ℕ)
@@ -212,7 +213,7 @@ module _ {D C : Type 0} (trace : D → Trace) (sum : List ℕ → ℕ) (old mid 
 
     -- so much is seen,
     pub batch_seen : kept_batches new ≤ 2 * length (noted_in new) → IsBatchNoted trace sum old new ticket peg
-    batch_seen few = record { same = batch_same few; position = batch_position; buffers = batch_buffers; goes_on = batch_goes_on; opens = batch_opens; given_up = batch_given; heads = batch_heads; fillings = batch_fillings; others = batch_others }
+    batch_seen few = record { same = batch_same few; position = batch_position; buffers = batch_buffers; goes_on = batch_goes_on; opens = batch_opens; given_up = batch_given; heads = batch_heads; fillings = batch_fillings; others = batch_others; machine = ap machine_of (rest.accountant ∙ ended.accountant) }
 
     -- The same counts for nothing in the log file,
     same_shown : ShowsSame old.config.config.segment_size (machine_of old.accountant) (machine_of old.accountant) (line_of old)

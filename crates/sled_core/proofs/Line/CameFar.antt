@@ -14,7 +14,7 @@ use Rattle.sled_core.specs.Causes.{IsHeld}
 use Rattle.sled_core.specs.declared.logger.Log.{Log}
 use Rattle.sled_core.specs.Fits.{buffers_of, current_begin, device_of, ledger_for, ledger_of, ledger_sealed, line_of, position_sealed, position_with, segment_size_of, start_of, synced_end, waiting_of}
 use Rattle.sled_core.specs.Freeing.{Ledger}
-use Rattle.sled_core.specs.Fronts.{CameAround, IsOnTheWay, WroteFront, WroteNone, synced_writes, syncs}
+use Rattle.sled_core.specs.Fronts.{CameAround, FailedFront, IsOnTheWay, WroteFront, WroteNone, synced_writes, syncs}
 use Rattle.sled_core.specs.Keeps.{LeavesSome, position_for, sealed_for, start_for, start_sealed}
 use Rattle.sled_core.specs.Ledger.{ledger_behind, writings}
 use Rattle.sled_core.specs.ReadBuffer.{SealsAround, WritesAround, held_at, settling}
@@ -115,6 +115,14 @@ module _ {D C : Type 0} (trace : D → Trace) (sum : List ℕ → ℕ) (faults :
         let is = one.line (first_view mid) refl in
         let failed = failed_since trace sum faults to old mid new so_far one.failed in
         let less : suc so_far.count - 1 ≡ so_far.count = omega arith in
+        let fails : FailedFront trace sum to (suc so_far.count) old new = (
+          failed,
+          omega arith,
+          subst
+              (λ (n : ℕ). IsOnTheWay trace new (ledger_behind (segment_size_of old) (take n (sealed_for sum to old)) (ledger_for to old)).machine)
+              (sym less)
+              (subst (λ (m : Machine). IsOnTheWay trace new m) (ap (λ (l : Ledger). l.machine) (so_far.ledger ∙ ledger_is so_far.count)) one.way),
+        ) in
         record {
           count = suc so_far.count;
           left = one_gone trace sum faults to old mid new so_far ready is ∙ left_for (suc so_far.count);
@@ -123,14 +131,7 @@ module _ {D C : Type 0} (trace : D → Trace) (sum : List ℕ → ℕ) (faults :
           ledger = (
             one_account trace sum faults to old mid new so_far ready is (one.account (first_view mid) refl)
                 ∙ ap (λ (l : Ledger). l.account) (ledger_is (suc so_far.count)),
-            inr (
-              failed,
-              omega arith,
-              subst
-                  (λ (n : ℕ). IsOnTheWay trace new (ledger_behind (segment_size_of old) (take n (sealed_for sum to old)) (ledger_for to old)).machine)
-                  (sym less)
-                  (subst (λ (m : Machine). IsOnTheWay trace new m) (ap (λ (l : Ledger). l.machine) (so_far.ledger ∙ ledger_is so_far.count)) one.way),
-            ),
+            inr fails,
           );
           written = (let last = one.written in let before = so_far.written in omega (arith, last, before));
           whole = λ sound. absurd (let bad : None ≡ Some failed.fault = sym sound ∙ failed.kept in cc);

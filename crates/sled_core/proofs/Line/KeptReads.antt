@@ -1,9 +1,11 @@
--- A message whose item is a blob, and that is in the table of all that there is, is read, or the read has to wait: a record may begin at its offset, whether its record is stable, is written behind a gap or behind an open batch, or lies in a buffer.
-use Rattle.std.proofs.Common.{◌≡◌, ◌≤◌, ◌<◌, ◌+◌, ℕ, ℤ, List, [], ◌∷◌, map, Option, None, Result, Ok, Err, subst, arith, inl, inr}
+-- A message whose item is a blob is read, or the read has to wait: a record may begin at its offset, where the log has its record, whether that is stable, is
+-- written behind a gap or behind an open batch, or lies in a buffer. So it is with one that is in the table of all that there is.
+use Rattle.std.proofs.Common.{◌≡◌, ◌⊎◌, ◌≤◌, ◌≤ℤ◌, ◌<◌, ◌+◌, ℕ, ℤ, pos, List, [], ◌∷◌, map, Option, None, Result, Ok, Err, subst, arith, inl, inr}
 use Rattle.std.specs.List.{Contains}
 use Rattle.std.specs.declared.io.Error.{Error as IoError}
 use Rattle.std.proofs.lemmas.Bool.{cases_lt}
 use Rattle.std.proofs.lemmas.List.Elements.{All-contains, Contains-append_cases}
+use Rattle.sled_codec.specs.declared.result.DiskPtr.{DiskPtr}
 use Rattle.sled_codec.specs.declared.result.Error.{Error}
 use Rattle.sled_codec.specs.declared.result.Error.TheVariants as error
 use Rattle.sled_codec.specs.History.{Batch, History, Message, table}
@@ -13,29 +15,33 @@ use Rattle.sled_codec.specs.Snapshots.{SnapshotModel}
 use Rattle.sled_store.specs.Device.{State, Trace}
 use Rattle.sled_store.proofs.Histories.Ascending.{Ascends}
 use Rattle.sled_store.proofs.Histories.EarlierEntries.{entry_earlier}
-use Rattle.sled_store.proofs.Segments.Elements.{in_first, in_nothing, in_rest}
+use Rattle.sled_store.proofs.Segments.Elements.{in_first, in_map, in_nothing, in_rest}
 use Rattle.sled_store.proofs.Segments.TableEntries.{from_table}
 use Rattle.sled_core.specs.inside.Shown.{shown_of}
 use Rattle.sled_core.specs.declared.logger.Log.{Log}
 use Rattle.sled_core.specs.declared.logger.read_message.LogRead.{LogRead}
 use Rattle.sled_core.specs.Begun.{SegmentParts, records_to, segment_view}
 use Rattle.sled_core.specs.inside.Fits.{HoldBehind, begun_segment, parts_in}
-use Rattle.sled_core.specs.Fits.{fault_of, line_of, machine_at, next_place, noted_in, segment_size_of, synced_end}
+use Rattle.sled_core.specs.Fits.{HasRecordOf, fault_of, line_of, machine_at, next_place, noted_in, segment_size_of, synced_end}
 use Rattle.sled_core.specs.Logged.{in_log}
 use Rattle.sled_core.specs.OpenBatches.{stable_below}
 use Rattle.sled_core.specs.inside.Reached.{StandsAmong, StandsIn, StandsTo}
 use Rattle.sled_core.specs.inside.ReadBuffer.{SettleAnswers}
-use Rattle.sled_core.specs.ReadPointer.{GivesBlob, GivesBlobOrWaits}
+use Rattle.sled_core.specs.ReadPointer.{GivesBlob, GivesBlobOrWaits, IsKeptBlob, IsStoredBlob}
 use Rattle.sled_core.specs.Recoverable.{NoHeaderOfZeros}
 use Rattle.sled_core.specs.invariants.Running.{Fits}
 use Rattle.sled_core.specs.inside.Running.{FitsWith}
 use Rattle.sled_core.specs.Tail.{least_place}
+use Rattle.sled_core.proofs.Holds.HeldFrom.{held_under}
 use Rattle.sled_core.proofs.Holds.ReachLemmas.{completed_behind}
 use Rattle.sled_core.proofs.Line.BlobReads.{among}
 use Rattle.sled_core.proofs.Line.Reads.{fault_missed}
 use Rattle.sled_core.proofs.Line.Rewritten.{ordered, synced_before}
-use Rattle.sled_core.proofs.Logged.Messages.{in_map, logged_ascends, logged_there}
+use Rattle.sled_core.proofs.Line.Segments.{line_segments}
+use Rattle.sled_core.proofs.Line.Spared.{entry_spared, entry_stored}
+use Rattle.sled_core.proofs.Logged.Messages.{logged_ascends, logged_there}
 use Rattle.sled_core.proofs.Reached.MetWritten.{reached_begins, written_begins}
+use Rattle.sled_core.proofs.Sealed.Ended.{ends_up}
 use Rattle.sled_core.specs.inside.LogSegments.{held_since}
 
 -- Of segments one behind another that stand in the file as far as each is written: a message of them begins in what is written, or in a buffer.
@@ -68,10 +74,8 @@ module _ {D C : Type 0} (trace : D → Trace) (sum : List ℕ → ℕ) (log : Lo
   abbrev state : State
   state = shown_of trace log
 
-  module _ (fits : FitsWith sum log.marks (noted_in log) size state log.fault.kept (line_of log) (machine_at log) log.pins H A f U) (m : Message) (entry : Contains (table H (next_place log) m.page) m) where
-    there : Contains H.messages m
-    there = (from_table H (next_place log) m.page m entry).0
-
+  module _ (fits : FitsWith sum log.marks (noted_in log) size state log.fault.kept (line_of log) (machine_at log) log.pins H A f U) (m : Message)
+      (there : Contains H.messages m) where
     ascends : Ascends H.messages
     ascends = logged_ascends H (ordered trace sum log H A f U fits)
 
@@ -82,16 +86,40 @@ module _ {D C : Type 0} (trace : D → Trace) (sum : List ℕ → ℕ) (log : Lo
       abbrev stands : StandsTo sum size state.log.bytes H (stable_below fits.reach H.batches) fits.parts.holds.begun.first fits.reach
       stands = found.stands
 
-      -- a reader comes to it
-      begins_before : m.place < fits.reach → MayBegin size (lid_of m.pointer)
-      begins_before low =
-          let near = fits.parts.reached.near in
-          let up = synced_before trace sum log H A f U fits in
-          let early = entry_earlier H ascends fits.reach (next_place log) m.page (omega (arith, near, up)) m low entry in
+      -- a reader comes to an entry of the table
+      at_cut : (cut : ℕ) → stands.from ≤ cut → cut ≤ fits.reach → Contains (table H cut m.page) m → MayBegin size (lid_of m.pointer)
+      at_cut cut high passes entry =
+          let its = (stands.needed cut high passes m.page m entry).0 in
+          reached_begins sum size state.log.bytes its.segment m its.found.slot its.reached
+
+      -- at any cut from where what is held counts
+      of_table : m.place < fits.reach → (cut : ℕ) → (log.marks.joined ≤ℤ pos cut) ⊎ (synced_end log ≤ cut) → Contains (table H cut m.page) m
+          → MayBegin size (lid_of m.pointer)
+      of_table low cut far entry =
           let high = stands.from_high in
           let passes = stands.passes in
-          let its = (stands.needed fits.reach (omega (arith, high, passes)) (omega arith) m.page m early).0 in
-          reached_begins sum size state.log.bytes its.segment m its.found.slot its.reached
+          elim (cases_lt cut fits.reach) [
+            | inl within ↦ (
+                let from = found.low in
+                let held = held_under log.marks.ordered fits.parts.holds.begun cut far in
+                at_cut cut (omega (arith, from, held)) (omega (arith, within)) entry)
+            | inr past ↦ at_cut fits.reach (omega (arith, high, passes)) (omega arith) (entry_earlier H ascends fits.reach cut m.page past m low entry)
+          ]
+
+      -- and to what is written of the first segment
+      begins_before : HasRecordOf log H m → m.place < fits.reach → MayBegin size (lid_of m.pointer)
+      begins_before has low = elim has [
+        | inl above ↦ (
+            let near = fits.parts.reached.near in
+            let first = (line_segments log).0 in
+            let short = first.short in
+            let held = first.begins in
+            let written = ends_up log.segments.first.buffer.written_len log.segments.first.buffer.reserved.items log.segments.first.buffer.sealed.items first.are in
+            written_begins sum size state.log.bytes log.config.config.least H (stable_below fits.reach H.batches) fits.parts.holds.begun.first fits.reach stands
+            ascends m there log.segments.first.site log.segments.first.buffer.written_len 0 found.here (omega (arith, short, held, written)) above
+            (omega (arith, low, near)))
+        | inr (cut, far, entry) ↦ of_table low cut far entry
+      ]
 
       -- it begins behind all that is on the device without a gap
       begins_behind : fits.reach ≤ m.place → MayBegin size (lid_of m.pointer)
@@ -107,14 +135,33 @@ module _ {D C : Type 0} (trace : D → Trace) (sum : List ℕ → ℕ) (log : Lo
                 (λ s behind. found.behind (begun_segment s) (in_map begun_segment (map parts_in (map segment_view log.segments.behind.items)) s behind)) others
           ]
 
-      begins : MayBegin size (lid_of m.pointer)
-      begins = elim (cases_lt m.place fits.reach) [ inl low ↦ begins_before low | inr high ↦ begins_behind high ]
+      begins : HasRecordOf log H m → MayBegin size (lid_of m.pointer)
+      begins has = elim (cases_lt m.place fits.reach) [ inl low ↦ begins_before has low | inr high ↦ begins_behind high ]
 
 -- So it is of a log that fits the history.
-pub kept_begins : {D C : Type 0} (trace : D → Trace) (sum : List ℕ → ℕ) (log : Log D C) (H : History) (A f : ℕ) (U : List Message) → Fits trace sum log H A f U → fault_of log ≡ None
-    → NoHeaderOfZeros sum → (m : Message) → Contains (table H (next_place log) m.page) m → MayBegin (segment_size_of log) (lid_of m.pointer)
-unfolding Fits
-kept_begins trace sum log H A f U fits none zeros m entry = begins trace sum log H A f U fits.shows m entry none zeros
+module _ {D C : Type 0} (trace : D → Trace) (sum : List ℕ → ℕ) (log : Log D C) (H : History) (A f : ℕ) (U : List Message) (fits : Fits trace sum log H A f U)
+    (m : Message) where
+  pub record_begins : fault_of log ≡ None → NoHeaderOfZeros sum → Contains H.messages m → HasRecordOf log H m → MayBegin (segment_size_of log) (lid_of m.pointer)
+  unfolding Fits
+  record_begins none zeros there has = begins trace sum log H A f U fits.shows m there none zeros has
+
+  -- What is in the table of all that there is has its record.
+  entry_has : Contains (table H (next_place log) m.page) m → HasRecordOf log H m
+  unfolding Fits
+  entry_has entry = inr (next_place log, inr (synced_before trace sum log H A f U fits.shows), entry)
+
+  -- So it is stored, and read as what is.
+  pub kept_stored : (pid : ℕ) (lsn : ℤ) (p : DiskPtr) → IsKeptBlob log H m pid lsn p → IsStoredBlob trace sum log H m pid lsn p
+  kept_stored pid lsn p is = record {
+    known = (from_table H (next_place log) m.page m is.entry).0;
+    has = entry_has is.entry;
+    stored = entry_stored trace sum log H A f U fits m is.entry;
+    spared = entry_spared trace sum log H A f U fits m is.entry;
+    page = is.page;
+    place = is.place;
+    pointer = is.pointer;
+    beside = is.beside;
+  }
 
 -- What gives it without waiting gives it.
 pub gives_at_once : (m : Message) (fault : Option IoError) (r : Result LogRead Error) → GivesBlob m fault r → GivesBlobOrWaits m fault r

@@ -8,7 +8,7 @@ use Rattle.sled_codec.specs.declared.serialization.message.LogKind.TheVariants.{
 use Rattle.sled_codec.specs.History.{ChangesPage, History, Message, begins_page}
 use Rattle.sled_store.specs.Accounts.{IsAccountant, machine_of}
 use Rattle.sled_store.specs.Device.{Trace, state_of}
-use Rattle.sled_store.specs.Marks.{IsFormerState}
+use Rattle.sled_store.specs.Marks.{IsFormerList}
 use Rattle.sled_store.specs.Outdated.{NoneShares}
 use Rattle.sled_store.specs.SegmentStates.{LiesIn, Machine, MayMark, linked, replaced}
 use Rattle.sled_store.specs.declared.config.RunningConfig.{RunningConfig}
@@ -92,7 +92,7 @@ module _ {D C : Type 0} (trace : D → Trace) (sum : List ℕ → ℕ) (log : Lo
       (subst (λ (i : CacheInfo). MayMark size (machine_at log) i []) of.1 may) (inr (inl link))))
 
   -- and with a message in place of what its page was.
-  pub replace_account : (old : List CacheInfo) → begins_page x.kind ≡ true → MayMark (segment_size_of log) (machine_at log) info old → IsFormerState (without U H) pid old → NoneShares H x old
+  pub replace_account : (old : List CacheInfo) → begins_page x.kind ≡ true → MayMark (segment_size_of log) (machine_at log) info old → IsFormerList (without U H) pid old → NoneShares H x old
       → HasAccount sum log.marks (segment_size_of log) (state_of (trace (device_of log))).snapshots.file H V (replaced (segment_size_of log) pid info old (machine_at log))
   unfolding Fits
   replace_account old begins may former none =
@@ -103,4 +103,4 @@ module _ {D C : Type 0} (trace : D → Trace) (sum : List ℕ → ℕ) (log : Lo
       (subst (λ (i : CacheInfo). Account (replaced size x.page i old (machine_at log))) (sym of.1)
       (account_replaced sum size _ H U (machine_at log) fits.shows.account some (apart_ascends H.messages (fits_apart trace sum log H A f U fits)) x V takes
       (subst (λ (i : CacheInfo). MayMark size (machine_at log) i []) of.1 alone) (begins_changes x.kind begins) old
-      (subst (λ (i : CacheInfo). MayMark size (machine_at log) i old) of.1 may) begins (subst (λ (p : ℕ). IsFormerState (without U H) p old) (sym of.0) former) none))
+      (subst (λ (i : CacheInfo). MayMark size (machine_at log) i old) of.1 may) begins (subst (λ (p : ℕ). IsFormerList (without U H) p old) (sym of.0) former) none))

@@ -1,11 +1,11 @@
 -- A message of a history that isn't marked yet may be marked, in place of what its page is made of: its segment is active, and each of those lies in a segment.
-use Rattle.std.proofs.Common.{◌≡◌, ◌/◌, ℕ, max, true, false, not, List, [], sym, subst, arith, refl}
-use Rattle.std.specs.List.{Contains}
+use Rattle.std.proofs.Common.{◌≡◌, ℕ, max, true, false, not, List, [], sym, subst, arith, refl}
+use Rattle.std.specs.List.{All, Contains}
 use Rattle.std.proofs.lemmas.Bool.{false≢true}
 use Rattle.std.proofs.lemmas.List.Elements.{All-nil}
 use Rattle.sled_codec.specs.History.{History, Message, table}
 use Rattle.sled_store.specs.Device.{Trace}
-use Rattle.sled_store.specs.Marks.{IsFormerState, info_of, slot_with}
+use Rattle.sled_store.specs.Marks.{IsFormerList, info_of, slot_with}
 use Rattle.sled_store.specs.SegmentStates.{LiesIn, Machine, MayMark, is_active, is_free, slot_at}
 use Rattle.sled_store.specs.Tracked.{IsAccountOf, IsHeld}
 use Rattle.sled_store.specs.declared.segment.slot.CacheInfo.{CacheInfo}
@@ -14,7 +14,7 @@ use Rattle.sled_store.specs.declared.segment.slot.State.TheVariants.{Active, Dra
 use Rattle.sled_store.specs.inside.Outdated.{IsInActive}
 use Rattle.sled_store.proofs.Histories.Ascending.{Ascends, filter_ascends}
 use Rattle.sled_store.proofs.Marks.AccountSteps.{entry_in_slot, past_table}
-use Rattle.sled_store.proofs.Marks.DeactivationSteps.{from_map}
+use Rattle.sled_store.proofs.Marks.FormerLists.{former_lies}
 use Rattle.sled_store.proofs.Marks.SlotLemmas.{taken_there}
 use Rattle.sled_store.proofs.Marks.TableLemmas.{apart_ascends}
 use Rattle.sled_store.proofs.Segments.Elements.{all_from_in}
@@ -43,14 +43,13 @@ module _ (size : ℕ) (m : Machine) where
       record { slot = taken_there m.slots (slot_with size e) in_use; taken = in_use; not_negative = search arith; lsn = sym is.lsn }
 
   -- What a page is made of lies in segments: a table from the base on has it, as any has that is above all messages.
-  former_lies : (base : ℕ) (G : History) → Ascends G.messages → IsAccountOf size base G m → (page : ℕ) (old : List CacheInfo)
-      → IsFormerState G page old → (o : CacheInfo) → Contains old o → LiesIn size m o
-  former_lies base G order account page old former o there =
-      let found = from_map info_of (table G former.cut page) o (subst (λ (os : List CacheInfo). Contains os o) former.is there) in
+  all_lie : (base : ℕ) (G : History) → Ascends G.messages → IsAccountOf size base G m → (page : ℕ) (old : List CacheInfo)
+      → IsFormerList G page old → All (LiesIn size m) old
+  all_lie base G order account page old former = all_from_in (LiesIn size m) old (former_lies G page old former size m (λ e there.
       let high : ℕ = max base former.cut in
-      let entry : Contains (table G high page) found.0 =
-      subst (λ (l : List Message). Contains l found.0) (past_table G order former.cut high page former.past (omega arith)) found.1 in
-      subst (LiesIn size m) found.2 (held_lies found.0 (entry_in_slot size base G m account high page found.0 (omega arith) entry))
+      let same : table G former.cut page ≡ table G high page = past_table G order former.cut high page former.past (omega arith) in
+      let entry : Contains (table G high page) e = subst (λ (l : List Message). Contains l e) same there in
+      held_lies e (entry_in_slot size base G m account high page e (omega arith) entry)))
 
 module _ {D C : Type 0} (trace : D → Trace) (sum : List ℕ → ℕ) (log : Log D C) (H : History) (A f : ℕ) (U : List Message) (x : Message)
     (fits : Fits trace sum log H A f U) (due : Contains U x) where
@@ -66,7 +65,7 @@ module _ {D C : Type 0} (trace : D → Trace) (sum : List ℕ → ℕ) (log : Lo
       }
 
   -- and so may what begins its page.
-  pub due_may_mark : (old : List CacheInfo) → IsFormerState (without U H) x.page old
+  pub due_may_mark : (old : List CacheInfo) → IsFormerList (without U H) x.page old
       → MayMark (segment_size_of log) (machine_at log) (info_of x) old
   unfolding Fits
   due_may_mark old former =
@@ -78,5 +77,5 @@ module _ {D C : Type 0} (trace : D → Trace) (sum : List ℕ → ℕ) (log : Lo
       record {
         lies = active_lies size m x its;
         active = its.active;
-        old_lie = all_from_in (LiesIn size m) old (former_lies size m _ (without U H) order fits.shows.account.account x.page old former);
+        old_lie = all_lie size m _ (without U H) order fits.shows.account.account x.page old former;
       }

@@ -9,6 +9,7 @@ use Rattle.sled_core.specs.Manifests.{is_manifest, kind_for}
 use Rattle.sled_core.specs.Tickets.{is_manifest_of}
 use Rattle.sled_codec.specs.Spelling.{short_header_tail}
 use Rattle.sled_codec.specs.History.{Message}
+use Rattle.sled_store.specs.Accounts.{machine_of}
 use Rattle.sled_store.specs.Device.{Trace}
 use Rattle.sled_store.specs.SegmentStates.{handed_out, next_slot}
 use Rattle.sled_store.specs.declared.config.Config.{Config}
@@ -118,6 +119,7 @@ module _ {D C : Type 0} (trace : D → Trace) (sum : List ℕ → ℕ) (old mid 
         room = room;
         batch = batch;
         seals = (buffers.0 ∙ sym (ap (λ (o : Bool). if o then closed else waiting_of old) stays), buffers.1 ∙ sym (ap (λ (o : Bool). if o then next else start_of old) stays));
+        machine = machine ∙ sym (ap (λ (o : Bool). if o then (target_of old kept.page n).machine else machine_at old) stays);
         marked = none_begun sum old mid (ap (λ (v : SegmentView). v.parts.site.place) current) (among_same (heads_of mid) (heads_of old) (ap heads_along line)) (among_same (fillings_of mid) (fillings_of old) (ap fillings_along line));
       }
 
@@ -181,6 +183,7 @@ module _ {D C : Type 0} (trace : D → Trace) (sum : List ℕ → ℕ) (old : Lo
         room = record { bytes = omega (arith, space, least, all, short, inline); reserved = room.reserved; few = room.few };
         batch = batch;
         seals = (buffers.0 ∙ sym (ap (λ (o : Bool). if o then closed else waiting_of old) moves), buffers.1 ∙ sym (ap (λ (o : Bool). if o then next else start_of old) moves));
+        machine = machine ∙ sym (ap (λ (o : Bool). if o then (target_of old kept.page n).machine else machine_at old) moves ∙ ap (λ (q : Position). q.machine) next_target);
         marked = begins_marked trace sum old mid line machine rest next_used;
       }
 
@@ -294,7 +297,7 @@ module _ {D C : Type 0} {trace : D → Trace} {sum : List ℕ → ℕ} {old mid 
 
   -- It stands behind all that the log had.
   pub made_behind : StandsBehind sum old new kept.page len
-  made_behind = record { position = made_position; reserved = made_end; opens = made_opens; given_up = made_given; waiting = made_seals.0; start = made_seals.1; marked = made_marked }
+  made_behind = record { position = made_position; reserved = made_end; opens = made_opens; given_up = made_given; waiting = made_seals.0; start = made_seals.1; machine = ap machine_of laid.accountant ∙ ready.machine; marked = made_marked }
 
   -- The ticket is for its message, as the log has it.
   abbrev pub laid_message : Message

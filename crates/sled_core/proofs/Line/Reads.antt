@@ -19,6 +19,7 @@ use Rattle.sled_codec.specs.Pointers.{lid_of}
 use Rattle.sled_store.specs.Answers.{is_fault_kind}
 use Rattle.sled_store.specs.Device.{State, Trace, state_of}
 use Rattle.sled_store.specs.Script.{Performs, after_all}
+use Rattle.sled_store.proofs.Segments.Elements.{in_map}
 use Rattle.sled_store.proofs.Traces.ScriptLemmas.{performs_whole}
 use Rattle.sled_core.specs.inside.Shown.{shown_of, shown}
 use Rattle.sled_core.specs.Begun.{segment_view, SegmentView}
@@ -48,7 +49,7 @@ use Rattle.sled_core.proofs.Line.Outcomes.{all_done, all_err, all_ok, held_alike
 use Rattle.sled_core.proofs.Line.Records.{IsHeldAt, entry_stays, first_stable, line_begins, line_record}
 use Rattle.sled_core.proofs.Line.Segments.{line_segments}
 use Rattle.sled_core.proofs.Line.Settles.{stable_written}
-use Rattle.sled_core.proofs.Logged.Messages.{in_map, inline_same, inline_there, table_logged}
+use Rattle.sled_core.proofs.Logged.Messages.{inline_same, inline_there, table_logged}
 use Rattle.sled_core.proofs.Reserve.Ranges.{at_there}
 use Rattle.sled_core.proofs.Stable.EndLemmas.{or_beyond}
 use Rattle.sled_store.specs.SegmentStates.{Machine}

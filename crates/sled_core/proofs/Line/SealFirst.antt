@@ -16,7 +16,7 @@ use Rattle.sled_core.specs.declared.logger.Log.{Log}
 use Rattle.sled_core.specs.Causes.{HeldAnswers, IsHeld, OnDone}
 use Rattle.sled_core.specs.inside.Fits.{AddsBuffers}
 use Rattle.sled_core.specs.Fits.{IsUnchanged, IsUsedUp, IsUsedUpBelow, KeepsAll, NoneSealed, buffers_of, current_begin, current_of, device_of, fault_of, holding_below, ledger_for, ledger_of, ledger_sealed, machine_at, pins_of, position_of, position_sealed, position_with, reserved_end, sealing_end, segment_size_of, start_of, synced_end, waiting_of, writing_below, writing_some}
-use Rattle.sled_core.specs.Fronts.{CameTo, IsOnTheWay, WroteFront, synced_writes}
+use Rattle.sled_core.specs.Fronts.{CameTo, FailedFront, IsOnTheWay, WroteFront, synced_writes}
 use Rattle.sled_core.specs.Freeing.{Ledger}
 use Rattle.sled_core.specs.Keeps.{FailedStep, IsSpared, KeepsLog, KeepsWriting, LeavesAbove, LeavesSome, WritesBelow, sealed_for, start_sealed}
 use Rattle.sled_core.specs.Ledger.{ledger_behind, writings}
@@ -102,11 +102,7 @@ module _ {D C : Type 0} (sum : List ℕ → ℕ) (to : ℕ) (old mid : Log D C) 
           front.ledger.0 ∙ ap (λ (l : Ledger). l.account) (all front.count same from),
           elim front.ledger.1 [
             | inl whole ↦ inl (whole.0 ∙ ap (λ (l : Ledger). l.machine) (all front.count same from), whole.1)
-            | inr failed ↦ inr (
-              failed_over old mid new sound pins failed.0,
-              failed.1,
-              subst (λ (m : Machine). IsOnTheWay trace new m) (ap (λ (l : Ledger). l.machine) (all (front.count - 1) same from)) failed.2,
-            )
+            | inr failed ↦ inr (fails same from failed)
           ],
         );
         written = front.written ∙ ap (λ d. front.count + synced_writes (trace d)) device;
@@ -117,6 +113,14 @@ module _ {D C : Type 0} (sum : List ℕ → ℕ) (to : ℕ) (old mid : Log D C) 
           → ledger_behind (segment_size_of mid) (take n (sealed_for sum to mid)) (ledger_for to mid)
           ≡ ledger_behind (segment_size_of old) (take n (sealed_for sum to old)) (ledger_for to old)
       all n same from = λ i. ledger_behind (size i) (take n (same i)) (from i)
+
+      fails : sealed_for sum to mid ≡ sealed_for sum to old → ledger_for to mid ≡ ledger_for to old → FailedFront trace sum to front.count mid new
+          → FailedFront trace sum to front.count old new
+      fails same from failed = (
+        failed_over old mid new sound pins failed.0,
+        failed.1,
+        subst (λ (m : Machine). IsOnTheWay trace new m) (ap (λ (l : Ledger). l.machine) (all (front.count - 1) same from)) failed.2,
+      )
 
   pub sealed_past : current_begin mid ≡ sealing_end old → to ≤ current_begin mid
   sealed_past begins = let most = ends_behind old in omega (arith, reserved, begins, most)

@@ -186,4 +186,5 @@ module _ {D C : Type 0} {old new : Log D C} {ticket : Reservation} {n index : â„
         buffers = ended_buffers old new n v i r e.text state e.at.among e.line;
         heads = ticket_heads;
         fillings = ticket_fillings plain;
+        machine = ap machine_of rest.accountant;
       }

@@ -6,10 +6,11 @@ use Rattle.sled_codec.specs.PageTables.{IsTable, page_with}
 use Rattle.sled_codec.specs.Snapshots.{Page}
 use Rattle.sled_codec.specs.WellFormed.{LieApart}
 use Rattle.sled_store.proofs.Marks.DeactivationSteps.{from_map}
+use Rattle.sled_store.proofs.Segments.Elements.{in_map}
 use Rattle.sled_core.specs.Fits.{EndBelow}
 use Rattle.sled_core.specs.Logged.{in_log, logged}
 use Rattle.sled_core.specs.inside.Recoverable.{NoMessageBegins, NoBatchBegins, NoBatchEnds}
-use Rattle.sled_core.proofs.Logged.Messages.{in_map, from_logged, logged_there, logged_apart, apart_logged, logged_below, below_logged, of_page_logged, page_with_logged, table_logged}
+use Rattle.sled_core.proofs.Logged.Messages.{from_logged, logged_there, logged_apart, apart_logged, logged_below, below_logged, of_page_logged, page_with_logged, table_logged}
 
 -- A history is alike to what the log has of it, by logged_twice.
 

@@ -1,5 +1,5 @@
 -- What the log has of messages and histories: the same messages in the same order, with the same tables, but for items that blobs have.
-use Rattle.std.proofs.Common.{◌≡◌, ◌∙◌, ◌+◌, ◌<◌, ◌≤◌, ◌&&◌, ◌==◌, nat_lt, if◌then◌else◌, max, ℕ, pos, Bool, true, false, List, [], ◌∷◌, ◌++◌, map, Option, Some, None, refl, sym, ap, subst, inl, inr}
+use Rattle.std.proofs.Common.{◌≡◌, ◌∙◌, ◌+◌, ◌<◌, ◌≤◌, ◌&&◌, ◌==◌, nat_lt, if◌then◌else◌, max, ℕ, pos, Bool, true, false, List, [], ◌∷◌, ◌++◌, map, Option, Some, None, refl, sym, ap, subst}
 use Rattle.std.specs.List.{All, Contains, filter}
 use Rattle.std.proofs.lemmas.List.{map-append}
 use Rattle.std.proofs.lemmas.List.Elements.{All-contains, All-map}
@@ -11,7 +11,7 @@ use Rattle.sled_codec.specs.Snapshots.{Entry, Page, Present, Free}
 use Rattle.sled_codec.specs.WellFormed.{LieApart}
 use Rattle.sled_store.proofs.Histories.Ascending.{Ascends}
 use Rattle.sled_store.proofs.Marks.DeactivationSteps.{from_map}
-use Rattle.sled_store.proofs.Segments.Elements.{all_from_in, in_cases, in_first, in_nothing, in_rest}
+use Rattle.sled_store.proofs.Segments.Elements.{all_from_in, in_map}
 use Rattle.sled_core.specs.Fits.{EndBelow}
 use Rattle.sled_core.specs.Logged.{in_log, item_in_log, logged}
 use Rattle.sled_core.specs.Reading.{BlobIsBelow}
@@ -48,14 +48,6 @@ below_in_log m below = by m.pointer below where
   by (Blob lid place) low = low
 
 -- Lists of messages.
-
--- what is made of an element is an element of what is made of the list
-pub in_map : {X Y : Type 0} (f : X → Y) (xs : List X) (x : X) → Contains xs x → Contains (map f xs) (f x)
-in_map f [] x there = absurd (in_nothing x there)
-in_map f (y ∷ ys) x there = elim (in_cases y x ys there) [
-  | inl first ↦ subst (Contains (f y ∷ map f ys)) (ap f first) (in_first (f y) (map f ys))
-  | inr rest ↦ in_rest (f y) (f x) (map f ys) (in_map f ys x rest)
-]
 
 -- what is so of all that the log has is so of what it has of each
 pub all_in_log : (P : Message → Type 0) (ms : List Message) → All P (map in_log ms) → All (λ m. P (in_log m)) ms

@@ -4,13 +4,12 @@ use Rattle.std.specs.List.{All}
 use Rattle.std.proofs.lemmas.Int.{ints}
 use Rattle.std.proofs.lemmas.List.Elements.{All-cons, All-map, All-nil}
 use Rattle.sled_codec.specs.History.{Batch}
-use Rattle.sled_store.proofs.Segments.Elements.{all_from_in, in_first}
+use Rattle.sled_store.proofs.Segments.Elements.{all_from_in, in_first, in_map}
 use Rattle.sled_core.specs.declared.logger.Log.{Log}
 use Rattle.sled_core.specs.Fits.{noted_in, stable_end, synced_end}
 use Rattle.sled_core.specs.inside.OpenBatches.{IsOpenBatch}
 use Rattle.sled_core.specs.OpenBatches.{stable_below}
 use Rattle.sled_core.specs.StableEnds.{IsBeforeHalfSynced, IsContiguousEnd, IsHalfSynced, IsStableEnd, LiesIn, places_of}
-use Rattle.sled_core.proofs.Logged.Messages.{in_map}
 use Rattle.sled_core.proofs.Reached.StableBelow.{stable_is, stable_open}
 use Rattle.sled_core.proofs.Stable.EndLemmas.{greatest_at, some_in}
 

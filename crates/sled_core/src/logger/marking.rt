@@ -5,7 +5,7 @@
 ghost use Rattle.std.specs.Prelude.{◌≡◌, ◌↔◌, [], ℕ, List, true, IsTrue, OnOk};
 ghost use Rattle.sled_codec.specs.declared.serialization.message.LogKind.TheVariants.{Link};
 ghost use Rattle.sled_codec.specs.History.{History, Message, begins_page};
-ghost use Rattle.sled_store.specs.Marks.{IsFormerState};
+ghost use Rattle.sled_store.specs.Marks.{IsFormerList};
 ghost use Rattle.sled_store.specs.Outdated.{NoneShares};
 ghost use Rattle.sled_store.specs.SegmentStates.{MayMark, first_page, linked, popped, replaced};
 ghost use Rattle.sled_core.specs.Causes.{FaultOrMemory};
@@ -50,9 +50,13 @@ impl<D: Device, C: Checksum> Log<D, C> {
     }
 
     /// Marks a completed message of a page that is there in place of all that the page had, which is `old`: a Replace or
-    /// a Free. `lsn` is its place. The segments of these hold less then, and the blobs that they name, but for the new
-    /// message's own, go once the segment of the new message is deactivated. So no other message may need one of those: none
-    /// of another page, and none of this page above the new one, names it (`NoneShares`).
+    /// a Free. `lsn` is its place. The segments of these hold less then, by the lengths that `old` tells, which say how
+    /// much a segment still holds, and nothing else: what is fitted asks for none (`IsFormerList`). A start counts 32 for
+    /// a page that was given back before it, since no snapshot has the length of its Free; so 32 is told of that.
+    ///
+    /// The blobs that the older ones name, but for the new message's own, go once the segment of the new message is
+    /// deactivated. So no other message may need one of those: none of another page, and none of this page above the new
+    /// one, names it (`NoneShares`).
     ///
     /// # Errors
     ///
@@ -70,7 +74,7 @@ impl<D: Device, C: Checksum> Log<D, C> {
         ensures keeps { KeepsMarked D.trace C.sum_of result self.old self.new }
         ensures fits { (H : History) (A f : ℕ) (U V : List Message) (m : Message) → Fits D.trace C.sum_of self.old H A f U
             → TakesMark H U m V → IsOfMessage m pid new → begins_page m.kind ≡ true
-            → IsFormerState (without U H) pid old.now → NoneShares H m old.now
+            → IsFormerList (without U H) pid old.now → NoneShares H m old.now
             → OnOk result (Fits D.trace C.sum_of self.new H A f V) }
         ensures answers { FaultOrMemory result ⊥ (fault_of self.old) }
     {

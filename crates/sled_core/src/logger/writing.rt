@@ -18,7 +18,7 @@ ghost use Rattle.sled_core.specs.Begun.{SegmentView};
 ghost use Rattle.sled_core.specs.Buffers.{first_open_in, open_in};
 ghost use Rattle.sled_core.specs.Causes.{Answers, FaultOrMemory, HeldAnswers, OnDone};
 ghost use Rattle.sled_core.specs.invariants.Fits.{Holds};
-ghost use Rattle.sled_core.specs.Fits.{IsUnchanged, IsUsedUp, IsUsedUpBelow, IsWritten, KeepsAll, NoneSealed, buffers_of, config_of, current_begin, current_of, device_of, fault_of, fillings_of, flushing, heads_of, held_len, holding_below, ledger_for, ledger_of, line_of, machine_at, pending_of, position_with, reserved_end, sealing_end, segment_size_of, stable_end, start_of, synced_end, waiting_of, writing_below, writing_pending};
+ghost use Rattle.sled_core.specs.Fits.{IsUnchanged, IsUsedUp, IsUsedUpBelow, IsWritten, KeepsAll, NoneSealed, buffers_of, config_of, current_begin, current_of, device_of, fault_of, fillings_of, flushing, heads_of, held_len, holding_below, ledger_for, ledger_of, ledger_sealed, line_of, machine_at, pending_of, position_with, reserved_end, sealing_end, segment_size_of, stable_end, start_of, synced_end, waiting_of, writing_below, writing_pending};
 ghost use Rattle.sled_core.specs.Fronts.{CameTo, IsOnTheWay, WroteFront, WroteNone, WroteThenFailed, synced_writes, syncs};
 ghost use Rattle.sled_core.specs.Keeps.{FailedStep, HoldsFast, KeepsLog, KeepsWriting, LeavesAbove, WritesBelow, position_for, sealed_for, start_for, start_sealed};
 ghost use Rattle.sled_core.specs.Ledger.{ledger_behind, ledger_step, stepped_ledger, written_ledger};
@@ -108,7 +108,8 @@ impl<D: Device, C: Checksum> Log<D, C> {
     pub fn roll_iobuf(&mut self) -> Result<usize>
         ensures answer { IfOk result (λ n. n ≡ held_len self.old) }
         ensures status { OnOk result (status_of self.new ≡ rolled (buffers_of C.sum_of self.old)
-            (if holds_any (current_of self.old) then start_sealed self.old else start_of self.old) (status_of self.old)) }
+            (if holds_any (current_of self.old) then start_sealed self.old else start_of self.old)
+            (if holds_any (current_of self.old) then ledger_sealed self.old else ledger_of self.old).machine (status_of self.old)) }
         ensures marked { OnOk result (BeginsMarked C.sum_of self.old self.new) }
         ensures keeps { KeepsLog D.trace C.sum_of self.old self.new }
         ensures untouched { config_of self.new ≡ config_of self.old }

@@ -4,7 +4,7 @@ use Rattle.std.specs.List.{All, Contains}
 use Rattle.std.proofs.lemmas.List.{map-append, take_more}
 use Rattle.std.proofs.lemmas.List.Elements.{All-cons, All-head, All-nil, All-tail, Contains-get_or}
 use Rattle.sled_store.specs.Device.{Trace, state_of}
-use Rattle.sled_store.proofs.Segments.Elements.{in_cases, in_first, in_nothing, in_rest}
+use Rattle.sled_store.proofs.Segments.Elements.{in_cases, in_first, in_map, in_nothing, in_rest}
 use Rattle.sled_core.specs.declared.iterator.Segment.{Segment}
 use Rattle.sled_core.specs.declared.iterator.scan.ScannedRecord.{ScannedRecord}
 use Rattle.sled_log.specs.declared.snapshot.pass.Pass.{Pass}
@@ -14,7 +14,6 @@ use Rattle.sled_log.proofs.Passes.Blobs.{good_more}
 use Rattle.sled_log.proofs.Replay.BlobLemmas.{bad_before, bad_either, bad_left}
 use Rattle.sled_core.proofs.Iterates.Kinds.{scan_kinds}
 use Rattle.sled_log.proofs.Replay.LookLemmas.{kinds_with_blobs}
-pub use Rattle.sled_core.proofs.Logged.Messages.{in_map}
 
 module _ (sum : List ℕ → ℕ) (blobs : ℤ → Option (List ℕ)) (end : ℕ) where
   bad_of_one : (ss : List Scanned) (s : Scanned) → Contains ss s → MeetsBadBlob sum blobs (before_open end s.met) → MeetsBadPass sum blobs end ss

@@ -1,15 +1,14 @@
 -- In a history that a session makes, messages that name one blob are of one page. So a message that is the newest of its page may be marked in place of what
 -- that was.
-use Rattle.std.proofs.Common.{◌≡◌, ◌∙◌, ◌≤◌, ℤ, List, map, sym, ap, subst}
+use Rattle.std.proofs.Common.{◌≡◌, ◌∙◌, ◌≤◌, ℤ, List, sym, ap, subst}
 use Rattle.std.specs.List.{Contains}
-use Rattle.sled_codec.specs.History.{History, Message, table}
-use Rattle.sled_store.specs.Marks.{IsFormerList, info_of, unsized}
+use Rattle.sled_codec.specs.History.{History, Message}
+use Rattle.sled_store.specs.Marks.{IsFormerList}
 use Rattle.sled_store.specs.Outdated.{NamesBlob, NoneShares}
 use Rattle.sled_store.specs.declared.segment.slot.CacheInfo.{CacheInfo}
 use Rattle.sled_store.proofs.Histories.Ascending.{apart_ascends, one_at_place}
-use Rattle.sled_store.proofs.Marks.DeactivationSteps.{from_map}
+use Rattle.sled_store.proofs.Marks.FormerLists.{from_former}
 use Rattle.sled_store.proofs.Segments.TableEntries.{from_table}
-use Rattle.sled_core.proofs.Logged.Messages.{in_map}
 use Rattle.sled_core.proofs.Read.FoundLemmas.{pos_injective}
 use Rattle.sled_log.specs.Made.{HasBlobIn, IsMade}
 
@@ -28,9 +27,7 @@ module _ (H : History) (made : IsMade H) where
       → IsFormerList G x.page old
       → ((m : Message) → Contains H.messages m → m.page ≡ x.page → m.place ≤ x.place) → NoneShares H x old
   none_shares G more x old former newest o lid blob among points other e there names =
-      let told : Contains (map unsized old) (unsized o) = in_map unsized old o among in
-      let was = from_map (λ (m : Message). unsized (info_of m)) (table G former.cut x.page) (unsized o)
-      (subst (λ (os : List CacheInfo). Contains os (unsized o)) former.is told) in
+      let was = from_former G x.page old former o among in
       let from = from_table G former.cut x.page was.0 was.1 in
       let page : e.page ≡ x.page = one_page was.0 e blob (more was.0 from.0) there (lid, ap (λ (i : CacheInfo). i.pointer) was.2 ∙ points) names ∙ from.1 in
       (page, newest e there page)

@@ -1,5 +1,5 @@
 -- Steps of the machine that are made one after another, and what was asked of the device where one of them fails.
-use Rattle.std.proofs.Common.{Result, ◌≡◌, ◌∙◌, ℕ, ℤ, ◌+◌, ◌<◌, true, List, [], ◌∷◌, ◌++◌, ◌⊎◌, length, get_or, take, drop, refl, sym, ap, subst, add-one, drop-cons}
+use Rattle.std.proofs.Common.{Result, ◌≡◌, ◌≢◌, ◌∙◌, ℕ, ℤ, ◌+◌, ◌<◌, true, List, [], ◌∷◌, ◌++◌, ◌⊎◌, length, get_or, take, drop, refl, sym, ap, subst, add-one, drop-cons}
 use Rattle.std.proofs.lemmas.List.{take-append-drop, take_more, map-append}
 use Rattle.sled_store.specs.Answers.{Tears}
 use Rattle.sled_store.specs.Blobs.{removing_blobs}
@@ -10,6 +10,25 @@ use Rattle.sled_store.specs.declared.segment.accountant.SegmentAccountant.{Segme
 use Rattle.sled_codec.specs.declared.result.Error.{Error}
 use Rattle.sled_store.specs.SegmentStates.{Machine, Step, followed_by, without_calls, in_turn}
 use Rattle.sled_store.proofs.Traces.ScriptLemmas.{after_joined, performs_more, performs_behind, stop_call}
+
+-- Of some calls at least one was due, and they were made in order, all of them or up to one that failed.
+pub record IsBegun (es : List Event) (old new : Trace) : Type 0 where
+  pub calls : Performs es old new
+  pub due : es ≢ []
+
+-- behind one that was begun there may be others,
+begun_first : (es fs : List Event) (old new : Trace) → IsBegun es old new → IsBegun (es ++ fs) old new
+begun_first es fs old new begun = record { calls = performs_more es fs old new begun.calls; due = some es begun.due } where
+  some : (ds : List Event) → ds ≢ [] → ds ++ fs ≢ []
+  some [] due = λ is. due refl
+  some (d ∷ ds) due = λ is. cc
+
+-- and before it others that were all made
+begun_behind : (es fs : List Event) (old mid new : Trace) → mid ≡ after_all es old → IsBegun fs mid new → IsBegun (es ++ fs) old new
+begun_behind es fs old mid new came begun = record { calls = performs_behind es fs old mid new came begun.calls; due = some es } where
+  some : (ds : List Event) → ds ++ fs ≢ []
+  some [] = begun.due
+  some (d ∷ ds) = λ is. cc
 
 -- a step was made, and all of its calls
 pub record IsMade (step : Step) (old : Trace) (m : Machine) (new : Trace) : Type 0 where
@@ -25,12 +44,12 @@ module _ (step : Step) (more : Machine → Step) (old mid new : Trace) (m : Mach
         ∙ sym (after_joined step.calls (more step.machine).calls old);
   }
 
-  pub failed_next : IsMade step old m mid → Performs (more m).calls mid new → Performs (followed_by step more).calls old new
+  pub failed_next : IsMade step old m mid → IsBegun (more m).calls mid new → IsBegun (followed_by step more).calls old new
   failed_next first then =
-      performs_behind step.calls (more step.machine).calls old mid new first.trace (subst (λ (k : Machine). Performs (more k).calls mid new) first.machine then)
+      begun_behind step.calls (more step.machine).calls old mid new first.trace (subst (λ (k : Machine). IsBegun (more k).calls mid new) first.machine then)
 
-pub failed_first : (step : Step) (more : Machine → Step) (old new : Trace) → Performs step.calls old new → Performs (followed_by step more).calls old new
-failed_first step more old new = performs_more step.calls (more step.machine).calls old new
+pub failed_first : (step : Step) (more : Machine → Step) (old new : Trace) → IsBegun step.calls old new → IsBegun (followed_by step more).calls old new
+failed_first step more old new = begun_first step.calls (more step.machine).calls old new
 
 -- the same step, of the same size
 pub step_is : {T : Type 0} {result : Result T Error} {old new : Trace} {faults faults_then : ℕ} {a : SegmentAccountant} {size other : ℕ} {step now : Step} → other ≡ size → step ≡ now
@@ -42,16 +61,16 @@ step_is {result = result} {old = old} {new = new} {faults = faults} {faults_then
 pub record LeadsTo (rest : Step) (mid : Trace) (whole : Step) (old : Trace) : Type 0 where
   pub machine : rest.machine ≡ whole.machine
   pub made : after_all rest.calls mid ≡ after_all whole.calls old
-  pub calls : (new : Trace) → Performs rest.calls mid new → Performs whole.calls old new
+  pub begun : (new : Trace) → IsBegun rest.calls mid new → IsBegun whole.calls old new
 
 pub leads_itself : (step : Step) (old : Trace) → LeadsTo step old step old
-leads_itself step old = record { machine = refl; made = refl; calls = λ new came. came }
+leads_itself step old = record { machine = refl; made = refl; begun = λ new came. came }
 
 pub leads_from : (rest mid_step whole : Step) (mid between old : Trace) → LeadsTo rest mid mid_step between → LeadsTo mid_step between whole old → LeadsTo rest mid whole old
 leads_from rest mid_step whole mid between old near far = record {
   machine = near.machine ∙ far.machine;
   made = near.made ∙ far.made;
-  calls = λ new came. far.calls new (near.calls new came);
+  begun = λ new came. far.begun new (near.begun new came);
 }
 
 pub leads_next : (step : Step) (more : Machine → Step) (old mid : Trace) (m : Machine) → IsMade step old m mid → LeadsTo (more m) mid (followed_by step more) old
@@ -60,7 +79,7 @@ leads_next step more old mid m first = record {
   made =
       ap (λ (k : Machine). after_all (more k).calls mid) first.machine ∙ ap (after_all (more step.machine).calls) first.trace
       ∙ sym (after_joined step.calls (more step.machine).calls old);
-  calls = λ new came. failed_next step more old mid new m first came;
+  begun = λ new came. failed_next step more old mid new m first came;
 }
 
 -- nothing is left to be done
@@ -74,8 +93,8 @@ made_same step size other old m new same machine trace = record {
   trace = subst (λ n. new ≡ after_all (step n).calls old) same trace;
 }
 
-pub calls_same : (step : ℕ → Step) (size other : ℕ) (old new : Trace) → other ≡ size → Performs (step other).calls old new → Performs (step size).calls old new
-calls_same step size other old new same came = subst (λ n. Performs (step n).calls old new) same came
+pub begun_same : (step : ℕ → Step) (size other : ℕ) (old new : Trace) → other ≡ size → IsBegun (step other).calls old new → IsBegun (step size).calls old new
+begun_same step size other old new same came = subst (λ n. IsBegun (step n).calls old new) same came
 
 -- What is left of a list of steps, each of which is made in turn.
 module _ {X : Type 0} (step : X → Machine → Step) (now : List X) (m : Machine) (mid : Trace) (whole : Step) (old : Trace) (leads : LeadsTo (in_turn step now m) mid whole old) where
@@ -86,9 +105,9 @@ module _ {X : Type 0} (step : X → Machine → Step) (now : List X) (m : Machin
       (subst (λ l. LeadsTo (in_turn step l n) new (in_turn step (x ∷ rest) m) mid) (sym same) (leads_next (step x m) (in_turn step rest) mid new n made)))
       leads
 
-  pub turn_failed : (x : X) (rest : List X) (new : Trace) → now ≡ x ∷ rest → Performs (step x m).calls mid new → Performs whole.calls old new
+  pub turn_failed : (x : X) (rest : List X) (new : Trace) → now ≡ x ∷ rest → IsBegun (step x m).calls mid new → IsBegun whole.calls old new
   turn_failed x rest new is came =
-      leads.calls new (subst (λ (s : Step). Performs s.calls mid new) (sym (ap (λ l. in_turn step l m) is)) (failed_first (step x m) (in_turn step rest) mid new came))
+      leads.begun new (subst (λ (s : Step). IsBegun s.calls mid new) (sym (ap (λ l. in_turn step l m) is)) (failed_first (step x m) (in_turn step rest) mid new came))
 
   pub turns_done : now ≡ [] → IsMade whole old m mid
   turns_done is = leads_end m mid old whole (subst (λ l. LeadsTo (in_turn step l m) mid whole old) is leads)
@@ -113,7 +132,8 @@ module _ (ps : List ℤ) (i : ℕ) (d p : ℤ) (below : i < length ps) (is : p �
       ∙ ap (λ (es : List Event). after_all es old) (sym more)
 
   -- where the removal of one failed, the list was begun
-  pub removals_begun : {fault : Type 0} → (new ≡ mid) ⊎ (fault × ((torn : Event) × Tears (BlobRemoved p true) torn × (new ≡ torn ∷ mid))) → Performs (removing_blobs ps) old new
+  pub removals_begun : {fault : Type 0} → (new ≡ mid) ⊎ (fault × ((torn : Event) × Tears (BlobRemoved p true) torn × (new ≡ torn ∷ mid))) → IsBegun (removing_blobs ps) old new
   removals_begun left =
-      subst (λ (es : List Event). Performs es old new) (sym all)
-      (performs_behind (removing_blobs (take i ps)) (BlobRemoved p true ∷ removing_blobs (drop (i + 1) ps)) old mid new came (stop_call (BlobRemoved p true) (removing_blobs (drop (i + 1) ps)) mid new left))
+      subst (λ (es : List Event). IsBegun es old new) (sym all)
+      (begun_behind (removing_blobs (take i ps)) (BlobRemoved p true ∷ removing_blobs (drop (i + 1) ps)) old mid new came
+      (record { calls = stop_call (BlobRemoved p true) (removing_blobs (drop (i + 1) ps)) mid new left; due = λ is. cc }))

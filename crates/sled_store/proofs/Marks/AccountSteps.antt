@@ -4,7 +4,7 @@ use Rattle.std.specs.List.{Contains}
 use Rattle.std.proofs.lemmas.Bool.{true≢false, cases_lt, cases_eq}
 use Rattle.sled_codec.specs.History.{Message, History, begins_page, page_state, of_page, table, no_history}
 use Rattle.sled_codec.proofs.Histories.{table_stays}
-use Rattle.sled_store.specs.Marks.{Completes, IsFormerState, IsIn, IsNeeded, IsNewPlace, IsPast, info_of, slot_with}
+use Rattle.sled_store.specs.Marks.{Completes, IsFormerList, IsIn, IsNeeded, IsNewPlace, IsPast, info_of, slot_with}
 use Rattle.sled_store.specs.SegmentStates.{Machine, MayMark, handed_out, is_due, is_free, linked, next_slot, replaced, slot_at, stabilized, unused_machine}
 use Rattle.sled_store.specs.Tracked.{IsAccountOf, IsHeld, IsNoEntry}
 use Rattle.sled_store.specs.declared.segment.slot.CacheInfo.{CacheInfo}
@@ -117,7 +117,7 @@ module _ (size base : ℕ) (H : History) (m : Machine) (some : 0 < size) (order 
     linked_account = linked_message size base H m some (IsNoEntry H base) (IsNoEntry H' base) t x H' completes may still_none
 
     -- or is there in place of all that its page was
-    pub replaced_account : (old : List CacheInfo) → begins_page x.kind ≡ true → IsFormerState H x.page old
+    pub replaced_account : (old : List CacheInfo) → begins_page x.kind ≡ true → IsFormerList H x.page old
         → IsAccountOf size base H' (replaced size x.page (info_of x) old m)
     replaced_account old begins former =
         replaced_message size base H m some (IsNoEntry H base) (IsNoEntry H' base) t x H' completes may still_none old former

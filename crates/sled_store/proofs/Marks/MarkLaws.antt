@@ -5,7 +5,7 @@ use Rattle.std.proofs.lemmas.Bool.{true≢false}
 use Rattle.std.proofs.lemmas.Nat.{div-add-mod', mod_below}
 use Rattle.sled_codec.specs.History.{Message, History, table}
 use Rattle.sled_codec.specs.WellFormed.{LieApart}
-use Rattle.sled_store.specs.Marks.{HasReplacement, IsCounted, IsFormerState, IsLinked, IsPast, IsSuperseded, greatest_mark, info_of, slot_with, IsIn, IsNeeded}
+use Rattle.sled_store.specs.Marks.{HasReplacement, IsCounted, IsFormerList, IsLinked, IsPast, IsSuperseded, greatest_mark, info_of, slot_with, IsIn, IsNeeded}
 use Rattle.sled_store.specs.SegmentStates.{Machine, LiesIn, MayMark, is_free, next_slot, slot_at, is_active, stabilized}
 use Rattle.sled_store.specs.declared.segment.slot.CacheInfo.{CacheInfo}
 use Rattle.sled_store.proofs.Segments.Elements.{all_from_in}
@@ -13,7 +13,7 @@ use Rattle.sled_store.proofs.Marks.SlotLemmas.{taken_there}
 use Rattle.sled_store.specs.Tracked.{IsHeld}
 use Rattle.sled_store.proofs.Marks.MarkSteps.{next_free}
 use Rattle.sled_store.proofs.Marks.StableSteps.{segment_above}
-use Rattle.sled_store.proofs.Marks.DeactivationSteps.{from_map}
+use Rattle.sled_store.proofs.Marks.FormerLists.{former_lies}
 use Rattle.sled_store.proofs.Marks.TableLemmas.{apart_ascends, entry_above}
 use Rattle.sled_store.proofs.Marks.MarkedLemmas.{IsTruthful, not_superseded, superseded_more, entry_held, last_held, stable_waits}
 
@@ -83,13 +83,13 @@ module _ (size mark : ℕ) (H : History) (m : Machine) (t : IsTruthful size mark
 
   -- Old messages.
 
-  former_lies : (x : Message) (old : List CacheInfo) → IsFormerState H x.page old → (o : CacheInfo) → Contains old o → LiesIn size m o
-  former_lies x old former o there =
-      let found = from_map info_of (table H former.cut x.page) o (subst (λ (os : List CacheInfo). Contains os o) former.is there) in
-      subst (LiesIn size m) found.2 (counted former.cut x.page found.0 former.past found.1).linked.lies
-
-  pub former_may : (x : Message) (old : List CacheInfo) → IsFormerState H x.page old → MayMark size m (info_of x) [] → MayMark size m (info_of x) old
-  former_may x old former may = record { lies = may.lies; active = may.active; old_lie = all_from_in (LiesIn size m) old (former_lies x old former) }
+  pub former_may : (x : Message) (old : List CacheInfo) → IsFormerList H x.page old → MayMark size m (info_of x) [] → MayMark size m (info_of x) old
+  former_may x old former may = record {
+    lies = may.lies;
+    active = may.active;
+    old_lie = all_from_in (LiesIn size m) old
+        (former_lies H x.page old former size m (λ e entry. (counted former.cut x.page e former.past entry).linked.lies));
+  }
 
   -- Segments.
 

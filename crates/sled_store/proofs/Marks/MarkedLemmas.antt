@@ -7,7 +7,7 @@ use Rattle.std.proofs.lemmas.List.{get_or-set_same}
 use Rattle.std.proofs.lemmas.Map.Lookups.{exact_unsigned}
 use Rattle.std.proofs.lemmas.Nat.{div-add-mod', mod_below}
 use Rattle.sled_codec.specs.History.{Message, History, no_history, begins_page, table, Batch, AddsBatch}
-use Rattle.sled_store.specs.Marks.{HasReplacement, info_of, slot_with, IsPast, Completes, IsFormerState, greatest_mark, Marked, unused, hands_out, links, replaces, batches, stabilizes, pops, IsSuperseded, IsNewPlace}
+use Rattle.sled_store.specs.Marks.{HasReplacement, info_of, slot_with, IsPast, Completes, IsFormerList, greatest_mark, Marked, unused, hands_out, links, replaces, batches, stabilizes, pops, IsSuperseded, IsNewPlace}
 use Rattle.sled_store.specs.SegmentStates.{SlotState, Machine, is_free, free_slot, slot_at, MayMark, linked_slot, linked, outdating, replaced, is_due, stabilized, unused_machine, handed_out, popped}
 use Rattle.sled_store.specs.declared.segment.slot.CacheInfo.{CacheInfo}
 use Rattle.sled_store.proofs.Segments.Elements.{in_nothing}
@@ -17,7 +17,7 @@ use Rattle.sled_store.specs.Tracked.{at, IsHeld, IsActiveAt, IsTracked}
 use Rattle.sled_store.proofs.Marks.MarkSteps.{Tracks, handed_out_tracks, SameSegments, same_then, active_same, linked_tracks, linked_same, outdating_tracks, outdating_same}
 use Rattle.sled_store.proofs.Marks.ReplaceSteps.{LiesBelow, below_same, replaced_all_tracks}
 use Rattle.sled_store.proofs.Marks.StableSteps.{NotesPlace, HoldsAsMuch, segment_mono}
-use Rattle.sled_store.proofs.Marks.DeactivationSteps.{from_map}
+use Rattle.sled_store.proofs.Marks.FormerLists.{from_former, state_is_list}
 use Rattle.sled_store.proofs.Marks.StabilizeSteps.{stabilized_tracks, stabilized_waits, stabilized_holds}
 use Rattle.sled_store.proofs.Marks.TableLemmas.{Ascends, added_ascends, added_keeps, added_there, added_cases, entry_above}
 
@@ -124,12 +124,12 @@ module _ (size base : ℕ) (H : History) (m : Machine) (some : 0 < size) (Spent 
       more_tracks size base base H H' Spent Later (linked size x.page (info_of x) m) (linked_tracks size base H Spent m t x.page (info_of x) may.lies.taken) (omega arith) (added_keeps H x H' completes.adds)
       (λ e there. ⊎_elim (λ is. inl (subst (λ (n : Message). IsHeld size (slot_at (linked size x.page (info_of x) m) (slot_with size n)) n) is held)) (λ old. inr old) (added_cases H x H' completes.adds e there)) still
 
-  module _ (old : List CacheInfo) (former : IsFormerState H x.page old)
+  module _ (old : List CacheInfo) (former : IsFormerList H x.page old)
       (held_there : (e : Message) → Contains (table H former.cut x.page) e → IsHeld size (slot_at m (slot_with size e)) e) where
     -- Its old messages lie in segments at or below its own.
     pub former_below : (o : CacheInfo) → Contains old o → LiesBelow size (x.place / size * size) x.page m.slots o
     former_below o there =
-        let found = from_map info_of (table H former.cut x.page) o (subst (λ (os : List CacheInfo). Contains os o) former.is there) in
+        let found = from_former H x.page old former o there in
         let e : Message = found.0 in
         let held : IsHeld size (slot_at m (slot_with size e)) e = held_there e found.1 in
         let from = from_table H former.cut x.page e found.1 in
@@ -209,7 +209,7 @@ module _ (size mark : ℕ) (H : History) (m : Machine) (t : IsTruthful size mark
       }
 
   pub replaced_truthful : (x : Message) (old : List CacheInfo) (H' : History) → Completes H x H' → begins_page x.kind ≡ true
-      → IsFormerState H x.page old → MayMark size m (info_of x) []
+      → IsFormerList H x.page old → MayMark size m (info_of x) []
       → IsTruthful size mark H' (replaced size x.page (info_of x) old m)
   replaced_truthful x old H' completes begins former may =
       let base = mark / size * size in
@@ -245,7 +245,7 @@ pub truthful : (size mark : ℕ) (H : History) (m : Machine) → Marked size mar
 truthful size mark H m (unused some) = unused_truthful size some
 truthful size mark H m (hands_out {m = n} place marked new_place) = handed_out_truthful size mark H n (truthful size mark H n marked) place new_place
 truthful size mark K m (links {H = G} {m = n} x H marked completes kind may) = linked_truthful size mark G n (truthful size mark G n marked) x H completes may
-truthful size mark K m (replaces {H = G} {m = n} x old H marked completes begins former may) = replaced_truthful size mark G n (truthful size mark G n marked) x old H completes begins former may
+truthful size mark K m (replaces {H = G} {m = n} x old H marked completes begins former may) = replaced_truthful size mark G n (truthful size mark G n marked) x old H completes begins (state_is_list G x.page old former) may
 truthful size mark K m (batches {H = G} b H marked adds) = batched_truthful size mark G m (truthful size mark G m marked) b H adds
 truthful size mark H m (stabilizes {mark = low} {m = n} next marked) = stabilized_truthful size low H n (truthful size low H n marked) next
 truthful size mark H m (pops {m = n} marked) = popped_truthful size mark H n (truthful size mark H n marked) (popped n.cleaner)

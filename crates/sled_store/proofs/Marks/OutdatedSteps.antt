@@ -10,7 +10,7 @@ use Rattle.sled_codec.specs.declared.result.DiskPtr.{DiskPtr}
 use Rattle.sled_codec.specs.declared.result.DiskPtr.TheVariants.{Inline, Blob}
 use Rattle.sled_codec.specs.History.{AddsMessage, History, Message, begins_page, table}
 use Rattle.sled_codec.specs.Pointers.{lid_of}
-use Rattle.sled_store.specs.Marks.{IsFormerState, IsSuperseded, info_of, slot_with}
+use Rattle.sled_store.specs.Marks.{IsFormerList, IsSuperseded, info_of, slot_with}
 use Rattle.sled_store.specs.Outdated.{AreOutdated, IsNamedNow, IsOutdated, MayName, NamesBlob, NoneShares}
 use Rattle.sled_store.specs.SegmentStates.{SlotState, Machine, MayMark, active_among, all_outdated, deactivated, drained, drained_if_sparse, drained_if_wasteful, drained_slot, free_slot, freed, handed_out, in_turn, inactive_among, inactive_slot, is_active, is_active_place, is_done, is_due, is_free, is_inactive, is_sparse, is_wasteful, linked, linked_slot, next_slot, outdated, outdating, replaced, replaced_all, replaced_one, replaced_slot, segment_place, slot_at, stabilized, taken_slot, tested, unused_machine, waiting_for, with_slot}
 use Rattle.sled_store.specs.Tracked.{at}
@@ -19,7 +19,7 @@ use Rattle.sled_store.specs.inside.Outdated.{NamesNoOutdated}
 use Rattle.sled_store.proofs.Histories.Ascending.{Ascends, one_at_place}
 use Rattle.sled_store.proofs.Segments.Elements.{in_first, in_nothing, in_rest}
 use Rattle.sled_store.proofs.Segments.TableEntries.{from_table}
-use Rattle.sled_store.proofs.Marks.DeactivationSteps.{from_map}
+use Rattle.sled_store.proofs.Marks.FormerLists.{from_former}
 use Rattle.sled_store.proofs.Marks.MarkSteps.{SameSegments, inactive_not_active, linked_same}
 use Rattle.sled_store.proofs.Marks.MarkedLemmas.{not_superseded, superseded_more}
 use Rattle.sled_store.proofs.Marks.SlotLemmas.{Changes, each_slot, free_behind, from_insert, push_changes, set_changes, taken_there}
@@ -285,8 +285,8 @@ module _ (size : ℕ) (H : History) (m : Machine) (order : Ascends H.messages) (
 
 -- the former state of a page is of messages of the history, as they are marked
 pub former_there : (H G : History) (page : ℕ) (old : List CacheInfo) → ((x : Message) → Contains G.messages x → Contains H.messages x)
-    → IsFormerState G page old
+    → IsFormerList G page old
     → (o : CacheInfo) → Contains old o → (e : Message) × Contains H.messages e × (e.pointer ≡ o.pointer)
 former_there H G page old more former o among =
-    let found = from_map info_of (table G former.cut page) o (subst (λ (os : List CacheInfo). Contains os o) former.is among) in
+    let found = from_former G page old former o among in
     (found.0, more found.0 (from_table G former.cut page found.0 found.1).0, ap (λ (i : CacheInfo). i.pointer) found.2)

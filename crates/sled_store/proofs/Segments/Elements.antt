@@ -1,5 +1,5 @@
 -- What is an element of a list.
-use Rattle.std.proofs.Common.{⊎_elim, ◌≡◌, ◌∙◌, ◌⊎◌, ◌<◌, ℕ, zero, suc, Bool, true, false, cond, List, [], ◌∷◌, length, slice_index_or, refl, sym, ap, subst, arith, inl, inr}
+use Rattle.std.proofs.Common.{⊎_elim, ◌≡◌, ◌∙◌, ◌⊎◌, ◌<◌, ℕ, zero, suc, Bool, true, false, cond, List, [], ◌∷◌, length, map, slice_index_or, refl, sym, ap, subst, arith, inl, inr}
 use Rattle.std.specs.List.{All, Contains, filter}
 use Rattle.std.proofs.lemmas.List.Elements.{All-tail, All-weaker, All-filter, All-contains, All-contains_itself, filter_passes}
 
@@ -49,6 +49,14 @@ from_filter p xs y there = (
   All-contains (Contains xs) (filter p xs) y (All-filter p (Contains xs) xs (All-contains_itself xs)) there,
   All-contains (λ z. p z ≡ true) (filter p xs) y (filter_passes p xs) there,
 )
+
+-- what is made of an element is an element of what is made of the list
+pub in_map : {X Y : Type 0} (f : X → Y) (xs : List X) (x : X) → Contains xs x → Contains (map f xs) (f x)
+in_map f [] x there = absurd (in_nothing x there)
+in_map f (y ∷ ys) x there = elim (in_cases y x ys there) [
+  | inl first ↦ subst (Contains (f y ∷ map f ys)) (ap f first) (in_first (f y) (map f ys))
+  | inr rest ↦ in_rest (f y) (f x) (map f ys) (in_map f ys x rest)
+]
 
 -- where no element passes, none is kept
 pub none_kept : {X : Type 0} (p : X → Bool) (xs : List X) → All (λ x. p x ≡ false) xs → filter p xs ≡ []

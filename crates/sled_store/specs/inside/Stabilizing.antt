@@ -1,5 +1,5 @@
 -- What proofs, and functions that no user calls, need beside `specs/Stabilizing.antt`. No public contract names it.
-use Rattle.std.specs.Prelude.{◌≡◌, ◌≢◌, ◌==◌, ℕ, List, map, filter, Option, None, Some, Result, OnOk, IfErr}
+use Rattle.std.specs.Prelude.{◌≡◌, ◌≢◌, ◌==◌, ℕ, List, [], map, filter, Option, None, Some, Result, OnOk, OnErr, IfErr}
 use Rattle.std.specs.BTreeMap.{is_at}
 use Rattle.std.specs.Set.{remove_key}
 use Rattle.sled_codec.specs.declared.result.Error.{Error}
@@ -24,12 +24,14 @@ not_beside (Some place) k ps = remove_key (is_at (by_place (place, k))) ps
 abbrev pub waiting_freed : ℕ → ℕ → Machine → Step
 waiting_freed size place m = in_turn (freed size) (waiting_for place m) m
 
--- A step of the machine was made, with all of its calls; where the device failed, the first of those calls were made. The accountant stays one then, too.
+-- A step of the machine was made, with all of its calls; where the device failed, one of them was due, and the first of them were made. The accountant stays
+-- one then, too.
 pub record MakesStep {T : Type 0} (size : ℕ) (step : Step) (result : Result T Error) (old new : Trace) (faults faults_then : ℕ)
     (a : SegmentAccountant) : Type 0 where
   pub done : OnOk result (machine_of a ≡ step.machine)
   pub made : OnOk result (new ≡ after_all step.calls old)
   pub calls : Performs step.calls old new
+  pub due : OnErr result (step.calls ≢ [])
   pub answers : RemoveAnswers result faults faults_then
   pub memory : IfErr result (λ e. e ≢ OutOfMemory)
   pub account : IsAccountant size a

@@ -2,11 +2,14 @@
 //! messages of a history (`specs/Marks.antt`) make of the segments (`specs/SegmentStates.antt`). A segment whose pages
 //! are all replaced holds no entry of the page table, and no slot that is free, or handed out next, holds an entry of a
 //! table below a cut that the mark's segment doesn't pass.
-ghost use Rattle.std.specs.Prelude.{◌≡◌, ◌≢◌, ◌⊎◌, ◌+◌, ◌*◌, ◌/◌, ◌%◌, ◌^◌, ◌<◌, ◌≤◌, ℕ, ℤ, pos, true, false, List, [], Some, Contains};
+ghost use Rattle.std.specs.Prelude.{◌≡◌, ◌≢◌, ◌⊎◌, ◌+◌, ◌*◌, ◌/◌, ◌%◌, ◌^◌, ◌<◌, ◌≤◌, ℕ, ℤ, pos, true, false, List, [], Some, Contains, get_or, map};
 ghost use Rattle.std.specs.List.{sum_by};
 ghost use Rattle.sled_codec.specs.History.{AddsMessage, Message, History, begins_page, no_history, table};
+ghost use Rattle.sled_codec.specs.PageTables.{IsTable};
+ghost use Rattle.sled_codec.specs.Snapshots.{Page, Uninitialized};
 ghost use Rattle.sled_codec.specs.WellFormed.{LieApart};
-ghost use Rattle.sled_store.specs.Marks.{Completes, HasReplacement, IsCounted, IsFormerState, IsIn, IsLinked, IsNeeded, IsNewPlace, IsPast, IsSuperseded, Marked, greatest_mark, info_of, slot_with, standing_size};
+ghost use Rattle.sled_store.specs.Begin.{entries_in};
+ghost use Rattle.sled_store.specs.Marks.{Completes, HasReplacement, IsCounted, IsFormerList, IsFormerState, IsIn, IsLinked, IsNeeded, IsNewPlace, IsPast, IsSuperseded, Marked, greatest_mark, info_of, slot_with, standing_size, told_of};
 ghost use Rattle.sled_store.specs.Outdated.{AreOutdated, MayName, NamesBlob, NoneShares};
 ghost use Rattle.sled_store.specs.SegmentStates.{Machine, MayMark, handed_out, is_active, is_due, is_free, linked, next_slot, popped, replaced, segment_in, slot_at, stabilized, unused_machine};
 ghost use Rattle.sled_store.specs.Tracked.{IsAccountOf, IsHeld};
@@ -54,10 +57,23 @@ pub fn free_slots_are_not_needed()
         → mark / size * size ≤ cut → IsNeeded size H cut place → (k : ℕ) × IsIn m k place × (k ≢ next_slot m) }
 {}
 
-/// A message in an active segment may be marked in place of its page's former state: that lies in segments.
+/// The former state of a page, with its lengths, is a former list, for which any lengths may be told.
+pub fn former_states_are_former_lists()
+    ensures { (H : History) (page : ℕ) (old : List CacheInfo) → IsFormerState H page old → IsFormerList H page old }
+{}
+
+/// A client that has no more than the page table may mark: what a start counts of a page (`entries_in`, with 32 for one
+/// that was given back) is a former list of it.
+pub fn a_tables_entries_are_former_lists()
+    ensures { (H : History) (cut page : ℕ) (pages : List Page) → IsTable pages H cut → IsPast H cut
+        → IsFormerList H page (map told_of (entries_in (get_or pages page Uninitialized))) }
+{}
+
+/// A message in an active segment may be marked in place of its page's former state: that lies in segments, whatever
+/// lengths are told of it.
 pub fn former_states_may_be_marked()
     ensures { (size mark : ℕ) (H : History) (m : Machine) (x : Message) (old : List CacheInfo) → Marked size mark H m
-        → IsFormerState H x.page old → MayMark size m (info_of x) [] → MayMark size m (info_of x) old }
+        → IsFormerList H x.page old → MayMark size m (info_of x) [] → MayMark size m (info_of x) old }
 {}
 
 /// A message from the mark's segment on is linked: no segment goes from there on.
@@ -117,7 +133,7 @@ pub fn accounts_go_on()
     ensures links { (size base : ℕ) (H : History) (m : Machine) (x : Message) (H' : History) → 0 < size → LieApart H.messages → IsAccountOf size base H m
         → Completes H x H' → MayMark size m (info_of x) [] → IsAccountOf size base H' (linked size x.page (info_of x) m) }
     ensures replaces { (size base : ℕ) (H : History) (m : Machine) (x : Message) (H' : History) (old : List CacheInfo) → 0 < size → LieApart H.messages
-        → IsAccountOf size base H m → Completes H x H' → MayMark size m (info_of x) [] → begins_page x.kind ≡ true → IsFormerState H x.page old
+        → IsAccountOf size base H m → Completes H x H' → MayMark size m (info_of x) [] → begins_page x.kind ≡ true → IsFormerList H x.page old
         → IsAccountOf size base H' (replaced size x.page (info_of x) old m) }
     ensures stabilizes { (size base : ℕ) (H : History) (m : Machine) (next : ℤ) (raised : ℕ) → 0 < size → LieApart H.messages → IsAccountOf size base H m
         → base ≤ raised → ((place : ℕ) → is_due size next place ≡ true → place + size ≤ raised) → IsAccountOf size raised H (stabilized size next m).machine }
@@ -148,7 +164,7 @@ pub fn outdated_blobs_stay_outdated()
         → AreOutdated size H (linked size pid info m) }
     ensures replaces { (size : ℕ) (H G : History) (m : Machine) (x : Message) (old : List CacheInfo) → LieApart H.messages → AreOutdated size H m
         → Contains H.messages x → begins_page x.kind ≡ true → ((e : Message) → Contains G.messages e → Contains H.messages e)
-        → IsFormerState G x.page old → NoneShares H x old → MayMark size m (info_of x) old
+        → IsFormerList G x.page old → NoneShares H x old → MayMark size m (info_of x) old
         → AreOutdated size H (replaced size x.page (info_of x) old m) }
     ensures stabilizes { (size : ℕ) (H : History) (m : Machine) (next : ℤ) → AreOutdated size H m → AreOutdated size H (stabilized size next m).machine }
     ensures pops { (size : ℕ) (H : History) (m : Machine) → AreOutdated size H m → AreOutdated size H (record m { cleaner = popped m.cleaner }) }

@@ -1,8 +1,8 @@
 //! Segments that are no longer active, and slots that come free (`specs/SegmentStates.antt`, `specs/Stabilizing.antt`).
 //!
 //! Each function makes one step of the machine: its state afterwards, and the calls of the device that were due, in
-//! order. Where the device fails, the first of those calls were made.
-ghost use Rattle.std.specs.Prelude.{◌≡◌, ◌≢◌, ◌&&◌, ◌↔◌, ◌<◌, ℤ, not, true, slice_get, Some, length, IsTrue, OnOk, IfErr};
+//! order. Where the device fails, one of them was due, and the first of them were made.
+ghost use Rattle.std.specs.Prelude.{◌≡◌, ◌≢◌, ◌&&◌, ◌↔◌, ◌<◌, ℤ, not, true, slice_get, Some, length, IsTrue, OnOk, OnErr, IfErr, []};
 ghost use Rattle.std.specs.BTreeMap.{is_at};
 ghost use Rattle.std.specs.Set.{remove_key};
 ghost use Rattle.sled_store.specs.Blobs.{RemoveAnswers, removing_blobs};
@@ -25,7 +25,8 @@ impl SegmentAccountant {
     ///
     /// # Errors
     ///
-    /// `Io` where the device failed: the first of the calls were made, and the accountant stays one, in a state on the way.
+    /// `Io` where the device failed, in one of the calls that were due: the first of them were made, and the accountant stays
+    /// one, in a state on the way. Where none was due it doesn't fail.
     pub fn stabilize<D: Device, C: Checksum>(
         &mut self,
         config: &mut RunningConfig<D, C>,
@@ -39,6 +40,7 @@ impl SegmentAccountant {
             (D.trace config.old.device) (D.trace config.new.device) }
         ensures moves { MovesSlots config.old.config.segment_size mark result (machine_of self.old) (machine_of self.new)
             (D.trace config.old.device) (D.trace config.new.device) }
+        ensures due { OnErr result ((stabilized config.old.config.segment_size mark (machine_of self.old)).calls ≢ []) }
         ensures answers { RemoveAnswers result (D.faults config.old.device) (D.faults config.new.device) }
         ensures memory { IfErr result (λ e. e ≢ Error.OutOfMemory) }
         ensures account { IsAccountant config.old.config.segment_size self.new }
@@ -302,6 +304,7 @@ fn first_at(slots: &SortedQueue<(u64, u64)>, place: u64) -> Option<u64>
 fn remove_blobs<D: Device>(device: &mut D, places: &[i64]) -> Result<()>
     ensures made { OnOk result (D.trace device.new ≡ after_all (removing_blobs places.now) (D.trace device.old)) }
     ensures calls { Performs (removing_blobs places.now) (D.trace device.old) (D.trace device.new) }
+    ensures due { OnErr result (removing_blobs places.now ≢ []) }
     ensures answers { RemoveAnswers result (D.faults device.old) (D.faults device.new) }
     ensures memory { IfErr result (λ e. e ≢ Error.OutOfMemory) }
 {

@@ -1,6 +1,7 @@
 -- The blob of the reservation's own goes, which leaves the segments of the log as they were, and then its message is given up there.
-use Rattle.std.proofs.Common.{◌≡◌, ◌∷◌, refl, sym, subst, List, rules}
+use Rattle.std.proofs.Common.{◌≡◌, ◌∙◌, ◌∷◌, ap, refl, sym, subst, List, rules}
 use Rattle.std.specs.List.{Contains}
+use Rattle.sled_store.specs.Accounts.{machine_of}
 use Rattle.sled_store.proofs.Segments.Elements.{in_rest}
 use Rattle.sled_core.specs.Fillings.{fillings_along}
 use Rattle.sled_core.specs.Heads.{heads_along}
@@ -46,6 +47,7 @@ returns-in-Ok-clause-ends g c =
       buffers = search rules;
       heads = λ h there. subst (λ (l : List SegmentView). Contains (heads_along l) h) same (c.give_up.ensures.ends.heads h there);
       fillings = λ f there. subst (λ (l : List SegmentView). Contains (fillings_along l) f) same (c.give_up.ensures.ends.fillings f there);
+      machine = c.give_up.ensures.ends.machine ∙ ap machine_of c.remove_own.ensures.changes.accountant;
     }
 
 pub returns-in-Err-clause-ends : goal.returns-in-Err-clause-ends
@@ -58,6 +60,7 @@ returns-in-Err-clause-ends g c =
       buffers = search rules;
       heads = λ h there. subst (λ (l : List SegmentView). Contains (heads_along l) h) same there;
       fillings = λ f there. subst (λ (l : List SegmentView). Contains (fillings_along l) f) same there;
+      machine = ap machine_of c.remove_own.ensures.changes.accountant;
     }
 
 pub returns-in-Ok-clause-device : goal.returns-in-Ok-clause-device

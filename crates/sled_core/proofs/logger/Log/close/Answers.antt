@@ -1,14 +1,17 @@
-use Rattle.std.proofs.Common.{◌≡◌, ◌∙◌, ◌<◌, ◌≤◌, ◌+◌, IfOk, OnErr, OnOk, List, ℕ, max, ap, subst, sym, arith, inl, inr, Option, None, Some, Result, Ok, Err}
+use Rattle.std.proofs.Common.{◌≡◌, ◌≢◌, ◌∙◌, ◌<◌, ◌≤◌, ◌+◌, ◌-◌, IfOk, OnErr, OnOk, List, [], take, ℕ, max, ap, subst, sym, arith, inl, inr, Option, None, Some, Result, Ok, Err}
 use Rattle.std.specs.declared.io.Error.{Error as IoError}
 use Rattle.sled_codec.specs.declared.result.Error.{Error}
 use Rattle.sled_codec.specs.declared.result.Error.TheVariants.{Held, Io, OutOfMemory, PlacesUsedUp}
 use Rattle.sled_store.specs.declared.config.RunningConfig.{RunningConfig}
 use Rattle.sled_store.specs.Device.{Trace, state_of}
 use Rattle.sled_store.specs.Moments.{LeavesOnly}
+use Rattle.sled_store.specs.SegmentStates.{Machine, stabilized}
+use Rattle.sled_core.specs.Account.{Account, account_of}
 use Rattle.sled_core.specs.Causes.{HeldAnswers}
-use Rattle.sled_core.specs.Fits.{IsUsedUpBelow, device_of, fault_of, holding_below, reserved_end, segment_size_of, stable_end, synced_end}
-use Rattle.sled_core.specs.Fronts.{CameTo, ClosedAt, IsIo, UnlessIo}
-use Rattle.sled_core.specs.Keeps.{LeavesAbove}
+use Rattle.sled_core.specs.Fits.{IsUsedUpBelow, device_of, fault_of, holding_below, ledger_for, reserved_end, segment_size_of, stable_end, synced_end}
+use Rattle.sled_core.specs.Fronts.{CameTo, ClosedAt, FailedFront, IsIo, IsStepDue, UnlessIo, WroteFront}
+use Rattle.sled_core.specs.Keeps.{LeavesAbove, sealed_for}
+use Rattle.sled_core.specs.Ledger.{ledger_behind}
 use Rattle.sled_core.specs.Recoverable.{LeavesRecoverable, RecoverableIfOwn}
 use Rattle.sled_core.specs.Running.{end_below}
 use Rattle.sled_core.specs.Stable.{CloseAnswers, SyncsAll, first_begin, stable_behind}
@@ -87,16 +90,25 @@ io_answers (Err PlacesUsedUp) held used fault now before after e says kept = abs
 io_answers (Err (Held at)) held used fault now before after e says kept = absurd (let bad : None ≡ Some e = sym says.3 ∙ kept in cc)
 io_answers (Err _) held used fault now before after e says kept = absurd says
 
+-- The step that failed had a call to make.
+step_due : {D C : Type 0} (trace : D → Trace) (sum : List ℕ → ℕ) (to : ℕ) (old new : Log D C) → segment_size_of new ≡ segment_size_of old
+    → (front : WroteFront trace sum to old new) → FailedFront trace sum to front.count old new → IsStepDue sum to front.count old
+step_due trace sum to old new size front failed =
+    let slots : Machine = (ledger_behind (segment_size_of old) (take (front.count - 1) (sealed_for sum to old)) (ledger_for to old)).machine in
+    subst (λ (a : Account). (stabilized (segment_size_of old) a.mark slots).calls ≢ []) front.ledger.0
+    (subst (λ (n : ℕ). (stabilized n (account_of new).mark slots).calls ≢ []) size failed.2.due)
+
 closes_part : {T D C : Type 0} (trace : D → Trace) (sum : List ℕ → ℕ) (r : Result T Error) (old new : Log D C) → ((P : Type 0) → (fault_of new ≡ None → P) → UnlessIo r P) → (fault_of old ≡ None → fault_of new ≡ fault_of old → IsIo r → ⊥)
-    → ((e : IoError) → fault_of new ≡ Some e → IsIo r) → CameTo trace sum (reserved_end old) old new → ClosedAt trace sum r old (trace (device_of new))
-closes_part trace sum r old new sound never io (inl none) = inl (none.still, λ kept. (none.due kept, never kept none.fault))
-closes_part trace sum r old new sound never io (inr front) = inr (record {
+    → ((e : IoError) → fault_of new ≡ Some e → IsIo r) → segment_size_of new ≡ segment_size_of old
+    → CameTo trace sum (reserved_end old) old new → ClosedAt trace sum r old (trace (device_of new))
+closes_part trace sum r old new sound never io size (inl none) = inl (none.still, λ kept. (none.due kept, never kept none.fault))
+closes_part trace sum r old new sound never io size (inr front) = inr (record {
   count = front.count;
   written = front.written;
   whole = sound _ front.whole;
   short = elim front.ledger.1 [
     | inl whole ↦ inr (subst (λ n. n < reserved_end old) (sym ((λ i. first_begin (sym front.left i) (sym front.start i)) ∙ sym (first_left new))) whole.1)
-    | inr failed ↦ inl (io failed.0.fault failed.0.kept, failed.0.sound, failed.0.unpinned, failed.1)
+    | inr failed ↦ inl (io failed.0.fault failed.0.kept, failed.0.sound, failed.0.unpinned, failed.1, step_due trace sum _ old new size front failed)
   ];
 })
 
@@ -108,7 +120,7 @@ returns-clause-came g c =
     let r = c.flush-flushed.result in
     subst (λ (x : RunningConfig _ _). OnErr r (ClosedAt g.D.Device.trace sum r old (g.D.Device.trace x.device))) (sym c.halt.ensures.config)
     (on_err r _ _ (closes_part g.D.Device.trace sum r old new (no_fault r _ _ _ _ _ _ c.flush-flushed.ensures.answers) (io_kept r _ _ _ _ _ _ c.flush-flushed.ensures.answers)
-    (λ e. io_answers r _ _ _ _ _ _ e c.flush-flushed.ensures.answers)) c.flush-flushed.ensures.buffers.1)
+    (λ e. io_answers r _ _ _ _ _ _ e c.flush-flushed.ensures.answers) c.flush-flushed.ensures.keeps.position.size) c.flush-flushed.ensures.buffers.1)
 
 -- Where the log keeps a failure the flush did nothing.
 pub returns-clause-faulty : goal.returns-clause-faulty

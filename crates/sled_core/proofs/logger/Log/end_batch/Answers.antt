@@ -96,6 +96,7 @@ returns-clause-ends g c = record {
   buffers = (seen g c).buffers;
   heads = (seen g c).heads;
   fillings = (seen g c).fillings;
+  machine = (seen g c).machine;
 }
 
 pub returns-clause-goes_on : goal.returns-clause-goes_on

@@ -65,6 +65,7 @@ all_flushed sum old new left position fault noted =
     let at = left.position (machine_at new) ∙ ap (position_for (reserved_end old) old) machine in
     λ i. record {
       position = at i;
+      machine = machine i;
       reserved = position.reserved i;
       synced = there i;
       noted = n i;

@@ -121,10 +121,11 @@ step_failed : {D C : Type 0} (trace : D → Trace) (old new : Log D C) (result :
     → Answers result None (fault_of new) before after → IfErr result (λ e. e ≢ error.OutOfMemory) → segment_size_of new ≡ segment_size_of old
     → (account_of new).mark ≡ (account_of old).mark
     → MovesSlots (segment_size_of old) (account_of old).mark result (machine_at old) (machine_at new) (trace (device_of old)) (trace (device_of new))
+    → OnErr result ((stabilized (segment_size_of old) (account_of old).mark (machine_at old)).calls ≢ [])
     → OnErr result (FailedStep old new × IsOnTheWay trace new (machine_at old))
-step_failed trace old new (Ok u) before after pins none did memory size mark moved = tt
-step_failed trace old new (Err (error.Io e)) before after pins none (inl kept) memory size mark moved = let never : None ≡ Some e = kept.0 in cc
-step_failed trace old new (Err (error.Io e)) before after pins none (inr failed) memory size mark moved = (
+step_failed trace old new (Ok u) before after pins none did memory size mark moved due = tt
+step_failed trace old new (Err (error.Io e)) before after pins none (inl kept) memory size mark moved due = let never : None ≡ Some e = kept.0 in cc
+step_failed trace old new (Err (error.Io e)) before after pins none (inr failed) memory size mark moved due = (
   record { unpinned = pins; sound = none; fault = e; kept = failed.1 },
   record {
     before = trace (device_of old);
@@ -133,10 +134,12 @@ step_failed trace old new (Err (error.Io e)) before after pins none (inr failed)
         (trace (device_of new))) (sym size)
         (subst (λ (z : ℤ). MovesSlots {T = Unit {0}} (segment_size_of old) z (Err (error.Io e)) (machine_at old) (machine_at new) (trace (device_of old))
         (trace (device_of new))) (sym mark) moved);
+    due = subst (λ (n : ℕ). (stabilized n (account_of new).mark (machine_at old)).calls ≢ []) (sym size)
+        (subst (λ (z : ℤ). (stabilized (segment_size_of old) z (machine_at old)).calls ≢ []) (sym mark) due);
   },
 )
-step_failed trace old new (Err error.OutOfMemory) before after pins none did memory size mark moved = absurd (memory refl)
-step_failed trace old new (Err _) before after pins none did memory size mark moved = absurd did
+step_failed trace old new (Err error.OutOfMemory) before after pins none did memory size mark moved due = absurd (memory refl)
+step_failed trace old new (Err _) before after pins none did memory size mark moved due = absurd did
 
 pub returns-clause-answers : goal.returns-clause-answers
 returns-clause-answers g c =
@@ -153,6 +156,7 @@ returns-clause-failed g c =
     (step_answers c.stabilize-freed.result _ _ _ c.note.ensures did.answers did.memory) did.memory (ap (λ (x : Config). x.segment_size) did.config) refl
     (subst (λ (z : ℤ). MovesSlots (segment_size_of old) z c.stabilize-freed.result (machine_at old) (machine_of c.stabilize-freed.new.self)
     (trace old.config.device) (trace c.stabilize-freed.new.config.device)) (sym is) did.moves)
+    (subst (λ (z : ℤ). OnErr c.stabilize-freed.result ((stabilized (segment_size_of old) z (machine_at old)).calls ≢ [])) (sym is) did.due)
 
 pub returns-clause-written : goal.returns-clause-written
 returns-clause-written g c =

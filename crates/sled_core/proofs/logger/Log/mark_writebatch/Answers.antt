@@ -50,6 +50,7 @@ returns-clause-ends g c = record {
   buffers = c.end_batch.ensures.ends.buffers;
   heads = c.end_batch.ensures.ends.heads;
   fillings = c.end_batch.ensures.ends.fillings;
+  machine = c.end_batch.ensures.ends.machine;
 }
 
 pub returns-clause-answers : goal.returns-clause-answers

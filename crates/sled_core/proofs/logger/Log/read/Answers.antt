@@ -9,7 +9,7 @@ use Rattle.sled_codec.specs.declared.result.DiskPtr.{DiskPtr}
 use Rattle.sled_codec.specs.declared.result.Error.{Error}
 use Rattle.sled_codec.specs.declared.result.Error.TheVariants.{Corruption, Io}
 use Rattle.sled_codec.specs.Errors.{IsCorruption}
-use Rattle.sled_codec.specs.History.{Message, History, table}
+use Rattle.sled_codec.specs.History.{Message, History}
 use Rattle.sled_codec.specs.Places.{MayBegin}
 use Rattle.sled_codec.specs.Pointers.{lid_of}
 use Rattle.sled_store.specs.Device.{State, Trace, state_of}
@@ -18,7 +18,7 @@ use Rattle.sled_store.proofs.Traces.ScriptLemmas.{performs_nothing}
 use Rattle.sled_core.specs.Causes.{IsHeld, OnDone}
 use Rattle.sled_core.specs.declared.logger.Log.{Log}
 use Rattle.sled_core.specs.declared.logger.read_message.LogRead.{LogRead}
-use Rattle.sled_core.specs.Fits.{HasRecordOf, device_of, fault_of, next_place, reserved_end, segment_size_of, synced_end}
+use Rattle.sled_core.specs.Fits.{HasRecordOf, device_of, fault_of, reserved_end, segment_size_of, synced_end}
 use Rattle.sled_core.specs.Freeing.{Ledger}
 use Rattle.sled_core.specs.Keeps.{HoldsFast, KeepsLog}
 use Rattle.sled_core.specs.invariants.Fits.{Holds}
@@ -29,19 +29,18 @@ use Rattle.sled_core.specs.inside.ReadBuffer.{SettleAnswers}
 use Rattle.sled_core.specs.Reading.{IsInline, IsNoPlace, GivesMessage}
 use Rattle.sled_core.specs.Running.{IsStored}
 use Rattle.sled_core.specs.inside.Recoverable.{HasItem}
-use Rattle.sled_core.specs.ReadPointer.{GivesBlob, IsStableBlob, place_read}
+use Rattle.sled_core.specs.ReadPointer.{GivesBlob, GivesBlobOrWaits, IsStableBlob, IsStoredBlob, place_read}
 use Rattle.sled_core.specs.inside.ReadPointer.{IsDamageOf}
 use Rattle.sled_core.proofs.Line.KeptCalls.{holds_fast, log_still, log_writing, spared_same, writing_further, writing_still}
 use Rattle.sled_core.proofs.Line.Advanced.{same_current}
 use Rattle.sled_core.proofs.Line.CameFar.{around_none, came_behind, seals_none, still_around}
 use Rattle.sled_core.proofs.Line.BlobReads.{gives_read, item_read, reads_stable, stable_begins, stable_stored}
-use Rattle.sled_core.proofs.Line.KeptReads.{err_waits, gives_at_once, kept_begins}
+use Rattle.sled_core.proofs.Line.KeptReads.{err_waits, gives_at_once, kept_stored, record_begins}
 use Rattle.sled_core.proofs.Line.LogSpans.{same_buffers, same_with}
 use Rattle.sled_core.proofs.Line.HeaderMarks.{segment_same}
 use Rattle.sled_core.proofs.Line.Reads.{above_zero, around_err, around_read, err_answers, err_damages, err_gives, err_refuses, err_settles, fits_begins, is_settled, read_answers, read_held, read_reserved, read_settles, refuses_none, seals_err, seals_read, settled_record}
 use Rattle.sled_core.proofs.Line.Records.{inline_is}
 use Rattle.sled_core.proofs.Line.Settles.{held_stable, stable_up, written_still}
-use Rattle.sled_core.proofs.Line.Spared.{entry_spared, entry_stored}
 use Rattle.sled_core.proofs.Read.GivesLemmas.{gives}
 use Rattle.sled_core.proofs.Read.PathLemmas.{stands_readable}
 use Rattle.sled_core.proofs.Read.PointerLemmas.{damage_at, damage_inline, if_err, read_here, reads_inline}
@@ -60,7 +59,7 @@ nothing_sealed trace sum log at e never = (seals_none log at e never, around_non
 pub returns-in-Some-clause-blob : goal.returns-in-Some-clause-blob
 returns-in-Some-clause-blob g c = λ H A f U m fits zeros.
     let some : c.args.self.now.fault.kept ≡ None → ⊥ = λ none. let both : None ≡ c.args.self.now.fault.kept = sym none in let is = c.in-Some.is in cc in
-    record { stable = λ _ none. absurd (some none); kept = λ _ none. absurd (some none) }
+    record { stable = λ _ none. absurd (some none); kept = λ _ none. absurd (some none); stored = λ _ none. absurd (some none) }
 
 pub returns-in-Some-clause-calls : goal.returns-in-Some-clause-calls
 returns-in-Some-clause-calls g c = record { made = tt; damaged = λ is. absurd is; missed = λ none _. absurd (let both : None ≡ c.args.self.now.fault.kept = sym none in let is = c.in-Some.is in cc); at_most = performs_nothing _ _ _ refl; settled = tt; unwritten = λ _. refl }
@@ -94,9 +93,14 @@ returns-then-lsn-lt0-clause-blob g c = λ H A f U m fits zeros.
     let old = c.args.self.now in
     let never : pos m.place ≡ c.args.lsn → m.pointer ≡ c.args.ptr → MayBegin (segment_size_of old) (lid_of m.pointer) → ⊥ = λ place pointer begins.
     not_there g c m.place place (subst (λ (p : DiskPtr). MayBegin (segment_size_of old) (lid_of p)) pointer begins) in
+    let trace = g.D.Device.trace in
+    let sum = g.C.Checksum.sum_of in
+    let stored : IsStoredBlob trace sum old H m c.args.pid c.args.lsn c.args.ptr → ⊥ = λ is.
+    never is.place is.pointer (record_begins trace sum old H A f U fits m c.in_default.is zeros is.known is.has) in
     record {
-      stable = λ is. absurd (never is.place is.pointer (stable_begins g.D.Device.trace g.C.Checksum.sum_of old H A f U fits c.in_default.is zeros m is.entry));
-      kept = λ is. absurd (never is.place is.pointer (kept_begins g.D.Device.trace g.C.Checksum.sum_of old H A f U fits c.in_default.is zeros m is.entry));
+      stable = λ is. absurd (never is.place is.pointer (stable_begins trace sum old H A f U fits c.in_default.is zeros m is.entry));
+      kept = λ is. absurd (stored (kept_stored trace sum old H A f U fits m _ _ _ is));
+      stored = λ is. absurd (stored is);
     }
 
 pub returns-then-lsn-lt0-clause-calls : goal.returns-then-lsn-lt0-clause-calls
@@ -173,6 +177,7 @@ returns-in_err-settle_at-clause-blob g c = λ H A f U m fits zeros.
     rw (e.1, e.2) (record {
       stable = λ is. err_gives (Unit {0}) c.in_err-settle_at.field-0.0 m _ at _ _ _ _ _ _ _ (below is) (held_stable old sum at (below is)) (λ used. stable_up old at used.0) (err_at g c);
       kept = λ is. err_waits (Unit {0}) c.in_err-settle_at.field-0.0 m _ _ _ _ _ _ _ _ _ (err_at g c);
+      stored = λ is. err_waits (Unit {0}) c.in_err-settle_at.field-0.0 m _ _ _ _ _ _ _ _ _ (err_at g c);
     })
 
 pub returns-in_err-settle_at-clause-calls : goal.returns-in_err-settle_at-clause-calls
@@ -294,9 +299,10 @@ returns-clause-blob g c = λ H A f U m fits zeros.
     gives_read sum _ s m c.args.pid _ c.args.ptr _ c.read_settled.result _ _ _ _ beside pointer page
     (subst (HasItem sum s.blobs.file m) pointer (item_read sum s.blobs m m.pointer stored.item)) refl
     c.read_settled.ensures.reading c.read_settled.ensures.damage c.read_settled.ensures.answers in
-    -- no write removes the blob of an entry of the table
-    let kept : Contains (table H (next_place old) m.page) m → IsStored trace sum mid m = λ entry.
-    c.settle_at.ensures.keeps.preserves.goes_on.items c.in_ok-settle_at.ensures.answers.1.3 m (entry_spared trace sum old H A f U fits m entry) (entry_stored trace sum old H A f U fits m entry) in
+    -- no write removes a blob that is spared
+    let stored : IsStoredBlob trace sum old H m c.args.pid c.args.lsn c.args.ptr → GivesBlobOrWaits m (fault_of old) c.read_settled.result = λ is.
+    gives_at_once m _ c.read_settled.result (gives is.beside is.pointer is.page
+    (c.settle_at.ensures.keeps.preserves.goes_on.items c.in_ok-settle_at.ensures.answers.1.3 m is.spared is.stored)) in
     -- and where the place is stable nothing is written
     let below : IsStableBlob old H m c.args.pid c.args.lsn c.args.ptr → place_read c.args.lsn c.args.ptr <ℤ pos (synced_end old) =
     reads_stable trace sum old H A f U fits c.in_default.is zeros m c.args.pid c.args.lsn c.args.ptr in
@@ -304,7 +310,8 @@ returns-clause-blob g c = λ H A f U m fits zeros.
     subst (λ z. z <ℤ pos (synced_end old) → mid ≡ old) (at_ok g c) c.in_ok-settle_at.ensures.still (below is) in
     record {
       stable = λ is. gives is.beside is.pointer is.page (subst (λ (l : Log g.row.D.Denot g.row.C.Denot). IsStored trace sum l m) (sym (still is)) (stable_stored trace sum old H A f U fits m is.entry));
-      kept = λ is. gives_at_once m _ c.read_settled.result (gives is.beside is.pointer is.page (kept is.entry));
+      kept = λ is. stored (kept_stored trace sum old H A f U fits m _ _ _ is);
+      stored = stored;
     }
 
 pub returns-clause-corrupt : goal.returns-clause-corrupt

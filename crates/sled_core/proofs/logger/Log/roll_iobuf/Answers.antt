@@ -7,15 +7,18 @@ use Rattle.sled_codec.specs.declared.result.Error.{Error}
 use Rattle.sled_codec.specs.declared.result.Error.TheVariants.{Io, OutOfMemory, PlacesUsedUp}
 use Rattle.sled_core.specs.Causes.{FaultOrMemory}
 use Rattle.sled_core.specs.Begun.{SegmentView, begin_of, view_at}
+use Rattle.sled_store.specs.SegmentStates.{Machine}
 use Rattle.sled_core.specs.declared.iobuf.IoBuf.{IoBuf}
 use Rattle.sled_core.specs.declared.iobuf.SegmentPosition.{SegmentPosition}
 use Rattle.sled_core.specs.declared.logger.Log.{Log}
-use Rattle.sled_core.specs.Fits.{KeepsAll, buffers_of, current_of, held_len, start_of, waiting_of}
+use Rattle.sled_core.specs.Fits.{KeepsAll, buffers_of, current_of, held_len, ledger_of, ledger_sealed, machine_at, position_sealed, position_with, start_of, waiting_of}
+use Rattle.sled_core.specs.Freeing.{Ledger}
 use Rattle.sled_core.specs.Keeps.{SamePosition, start_sealed}
 use Rattle.sled_core.specs.LogStatus.{rolled, status_of}
 use Rattle.sled_core.specs.Waiting.{BufferStart, holds_any}
 use Rattle.sled_core.proofs.Holds.Facts.{current_facts}
 use Rattle.sled_core.proofs.Line.KeptCalls.{log_still}
+use Rattle.sled_core.proofs.Line.SealFirst.{sealed_ledger}
 use Rattle.sled_core.proofs.Line.Shows.{buffers_still}
 use Rattle.sled_core.proofs.logger.Log.roll_iobuf.Goals as goal
 
@@ -26,19 +29,29 @@ returns-in-Some-clause-keeps g c = log_still g.D.Device.trace g.C.Checksum.sum_o
 abbrev start_rolled : {D C : Type 0} → Log D C → BufferStart
 start_rolled log = if holds_any (current_of log) then start_sealed log else start_of log
 
+-- and which slots there are then
+abbrev ledger_rolled : {D C : Type 0} → Log D C → Ledger
+ledger_rolled log = if holds_any (current_of log) then ledger_sealed log else ledger_of log
+
 -- A log of which nothing is sealed is as it was.
-none_rolled : {D C : Type 0} (sum : List ℕ → ℕ) (log : Log D C) → held_len log ≡ 0 → status_of log ≡ rolled (buffers_of sum log) (start_rolled log) (status_of log)
+none_rolled : {D C : Type 0} (sum : List ℕ → ℕ) (log : Log D C) → held_len log ≡ 0
+    → status_of log ≡ rolled (buffers_of sum log) (start_rolled log) (ledger_rolled log).machine (status_of log)
 none_rolled sum log none =
     let begins = (current_facts log).begins in
     let any : holds_any (current_of log) ≡ false = grind (arith, nat_tests, none, begins) in
     let start : start_of log ≡ start_rolled log = sym (ap (λ (o : Bool). if o then start_sealed log else start_of log) any) in
-    λ i. record (status_of log) { waiting = sym (buffers_still sum log none) i; start = start i }
+    let ledger : ledger_of log ≡ ledger_rolled log = sym (ap (λ (o : Bool). if o then ledger_sealed log else ledger_of log) any) in
+    λ i. record (status_of log) { waiting = sym (buffers_still sum log none) i; start = start i; machine = (ledger i).machine }
 
 -- One of which the current buffer is sealed has one more.
-one_rolled : {D C : Type 0} (sum : List ℕ → ℕ) (old new : Log D C) → holds_any (current_of old) ≡ true → waiting_of new ≡ buffers_of sum old → start_of new ≡ start_sealed old → SamePosition old new → KeepsAll old new
-    → status_of new ≡ rolled (buffers_of sum old) (start_rolled old) (status_of old)
-one_rolled sum old new any waits start position same =
+one_rolled : {D C : Type 0} (sum : List ℕ → ℕ) (old new : Log D C) → holds_any (current_of old) ≡ true → waiting_of new ≡ buffers_of sum old → start_of new ≡ start_sealed old
+    → ((m : Machine) → position_with new m ≡ position_sealed old m) → SamePosition old new → KeepsAll old new
+    → status_of new ≡ rolled (buffers_of sum old) (start_rolled old) (ledger_rolled old).machine (status_of old)
+one_rolled sum old new any waits start with_slots position same =
     let begun : start_of new ≡ start_rolled old = start ∙ sym (ap (λ (o : Bool). if o then start_sealed old else start_of old) any) in
+    let ledger : ledger_of new ≡ ledger_rolled old =
+        sealed_ledger old new with_slots position.position same.account ∙ sym (ap (λ (o : Bool). if o then ledger_sealed old else ledger_of old) any) in
+    let machine : machine_at new ≡ (ledger_rolled old).machine = ap (λ (l : Ledger). l.machine) ledger in
     let a = position.position in let b = position.reserved in let c = same.synced in let d = same.noted in let e = same.fault in let f = same.pins in let h = same.account in cc
 
 -- What the current buffer holds is counted behind where it begins.
@@ -81,4 +94,4 @@ returns-clause-status g c =
     let held = held_is c.args.self.now c.current.result.0 c.current.result.1.now c.current.ensures.view in
     let more : 0 < held_len c.args.self.now = omega (arith, count, some, held) in
     let did = c.in_ok-seal.ensures in
-    one_rolled g.C.Checksum.sum_of c.args.self.now c.seal.new.self (grind (arith, nat_tests, more)) did.waiting did.start did.keeps.position did.same
+    one_rolled g.C.Checksum.sum_of c.args.self.now c.seal.new.self (grind (arith, nat_tests, more)) did.waiting did.start did.position did.keeps.position did.same

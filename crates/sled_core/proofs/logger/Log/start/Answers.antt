@@ -325,6 +325,7 @@ returns-in-Ok-clause-begins g c =
       noted = ap (λ (bs : List NotedBatch). not_whole (c.in-Ok.beginning.place + c.in-Ok.buffer.written_len) (map batch_of bs)) c.new-in-Ok.ensures.noted;
       kept = ap (λ (bs : List NotedBatch). length bs) c.new-in-Ok.ensures.noted;
       pins = refl;
+      machine = c.in-Ok.ensures.machine;
       account = (let place : to_z w64 c.stable_place.result ≡ pos (stable_place s.stable) = to_z_pos w64 c.stable_place.result c.stable_place.ensures.small ∙ ap pos c.stable_place.ensures.place in λ i. record { mark = (c.from_place.ensures.joined ∙ place) i; durable = (c.from_place.ensures.durable ∙ place) i; pinned = false });
       fault = refl;
       sized = ap (λ (x : Config). x.segment_size) c.begin.ensures.config;

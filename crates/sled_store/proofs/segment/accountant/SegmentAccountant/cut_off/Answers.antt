@@ -6,7 +6,7 @@ use Rattle.sled_store.specs.SegmentStates.{Machine, Step}
 use Rattle.sled_store.specs.Stabilizing.{cut_back, MayCut, cuts, cuts_off, shorter, cutting_last}
 use Rattle.sled_store.specs.Accounts.{IsAccountant, machine_of}
 use Rattle.sled_store.proofs.Traces.ScriptLemmas.{performs_whole}
-use Rattle.sled_store.proofs.Accounts.StabilSteps.{IsMade, LeadsTo, leads_from, leads_itself, leads_next, leads_end, failed_first}
+use Rattle.sled_store.proofs.Accounts.StabilSteps.{IsBegun, IsMade, LeadsTo, leads_from, leads_itself, leads_next, leads_end, failed_first}
 use Rattle.sled_store.proofs.Accounts.StabilCut.{cut_none, cut_more}
 use Rattle.sled_store.proofs.Marks.MovesMade.{exit_begun, exit_moved, none_moved, one_moved, then_moved}
 use Rattle.sled_store.proofs.segment.accountant.SegmentAccountant.cut_off.Goals as goal
@@ -23,10 +23,12 @@ module _ (size other : ℕ) (m : Machine) (mid : Trace) (whole : Step) (old : Tr
       (subst (λ (s : Step). LeadsTo (cut_back size n) new s mid) (sym (cut_more size m may))
       (leads_next (last_step size m) (cut_back size) mid new n (record { machine = is; trace = subst (λ k. new ≡ after_all (cutting_last k m) mid) same made }))) leads
 
-  cut_failed : (new : Trace) → MayCut m → other ≡ size → Performs (cutting_last other m) mid new → Performs whole.calls old new
+  cut_failed : (new : Trace) → MayCut m → other ≡ size → Performs (cutting_last other m) mid new → IsBegun whole.calls old new
   unfolding last_step
   cut_failed new may same calls =
-      leads.calls new (subst (λ (s : Step). Performs s.calls mid new) (sym (cut_more size m may)) (failed_first (last_step size m) (cut_back size) mid new (subst (λ k. Performs (cutting_last k m) mid new) same calls)))
+      leads.begun new (subst (λ (s : Step). IsBegun s.calls mid new) (sym (cut_more size m may))
+      (failed_first (last_step size m) (cut_back size) mid new
+      (record { calls = subst (λ k. Performs (cutting_last k m) mid new) same calls; due = λ is. cc })))
 
   cut_done : (MayCut m → ⊥) → IsMade whole old m mid
   cut_done not = leads_end m mid old whole (subst (λ (s : Step). LeadsTo s mid whole old) (cut_none size m not) leads)
@@ -65,14 +67,18 @@ loop-self-preserved g c =
     }
 
 pub returns-in_err-cut_last-clause-step : goal.returns-in_err-cut_last-clause-step
-returns-in_err-cut_last-clause-step g c = record {
-  done = search rules;
-  made = search rules;
-  calls = cut_failed c.args.self.now.size c.loop-self.self.size (machine_of c.loop-self.self) _ _ _ c.loop-self.invariant.leads (g.D.Device.trace c.cut_last.new.device) (c.may_cut.ensures.0 c.loop-self-test.true) c.loop-self.invariant.account.size_is c.cut_last.ensures.calls;
-  answers = search rules;
-  memory = search rules;
-  account = subst (λ n. IsAccountant n c.cut_last.new.self) c.loop-self.invariant.account.size_is c.cut_last.ensures.account;
-}
+returns-in_err-cut_last-clause-step g c =
+    let begun = cut_failed c.args.self.now.size c.loop-self.self.size (machine_of c.loop-self.self) _ _ _ c.loop-self.invariant.leads
+    (g.D.Device.trace c.cut_last.new.device) (c.may_cut.ensures.0 c.loop-self-test.true) c.loop-self.invariant.account.size_is c.cut_last.ensures.calls in
+    record {
+      done = search rules;
+      made = search rules;
+      calls = begun.calls;
+      due = let told = begun.due in search rules;
+      answers = search rules;
+      memory = search rules;
+      account = subst (λ n. IsAccountant n c.cut_last.new.self) c.loop-self.invariant.account.size_is c.cut_last.ensures.account;
+    }
 
 pub returns-clause-step : goal.returns-clause-step
 returns-clause-step g c =
@@ -83,6 +89,7 @@ returns-clause-step g c =
       done = all.machine;
       made = all.trace;
       calls = performs_whole (cut_back c.args.self.now.size (machine_of c.args.self.now)).calls old new all.trace;
+      due = search rules;
       answers = c.loop-self.invariant.faults;
       memory = search rules;
       account = c.loop-self.invariant.account;

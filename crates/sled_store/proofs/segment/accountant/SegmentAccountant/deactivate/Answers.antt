@@ -11,7 +11,7 @@ use Rattle.sled_store.specs.declared.segment.accountant.SegmentAccountant.{Segme
 use Rattle.sled_store.specs.Accounts.{IsAccountant, machine_of, size_of}
 use Rattle.sled_store.proofs.Traces.ScriptLemmas.{performs_whole}
 use Rattle.sled_store.proofs.Accounts.StabilSlots.{slot_is}
-use Rattle.sled_store.proofs.Accounts.StabilSteps.{IsMade, made_same, calls_same, made_next, failed_first, failed_next}
+use Rattle.sled_store.proofs.Accounts.StabilSteps.{IsBegun, IsMade, made_same, begun_same, made_next, failed_first, failed_next}
 use Rattle.sled_store.proofs.Marks.MovesMade.{Moved, exit_begun, exit_failed, exit_moved, left_behind, moves_same, none_moved, one_moved, then_moved, wasteful_moved, whole_moved}
 use Rattle.sled_store.proofs.segment.accountant.SegmentAccountant.deactivate.Goals as goal
 
@@ -29,13 +29,13 @@ module _ (size place k : ℕ) (m : Machine) (h0 : Trace) where
   abbrev last : Machine → Step
   last n = without_calls (drained_if_wasteful n)
 
-  failed_gone : (h : Trace) → Performs (removing_blobs (slot_at m k).blobs) h0 h → Performs (deactivated size (place, k) m).calls h0 h
+  failed_gone : (h : Trace) → IsBegun (removing_blobs (slot_at m k).blobs) h0 h → IsBegun (deactivated size (place, k) m).calls h0 h
   failed_gone h came =
       failed_first (followed_by (followed_by gone waits) (tested size k)) last h0 h
       (failed_first (followed_by gone waits) (tested size k) h0 h (failed_first gone waits h0 h came))
 
   module _ (m1 : Machine) (h1 : Trace) (made1 : IsMade gone h0 m1 h1) where
-    failed_waits : (h : Trace) → Performs (waiting_freed size place m1).calls h1 h → Performs (deactivated size (place, k) m).calls h0 h
+    failed_waits : (h : Trace) → IsBegun (waiting_freed size place m1).calls h1 h → IsBegun (deactivated size (place, k) m).calls h0 h
     failed_waits h came =
         failed_first (followed_by (followed_by gone waits) (tested size k)) last h0 h
         (failed_first (followed_by gone waits) (tested size k) h0 h (failed_next gone waits h0 h1 h m1 made1 came))
@@ -44,7 +44,7 @@ module _ (size place k : ℕ) (m : Machine) (h0 : Trace) where
       made_both : IsMade (followed_by gone waits) h0 m2 h2
       made_both = made_next gone waits h0 h1 h2 m1 m2 made1 made2
 
-      failed_test : (h : Trace) → Performs (tested size k m2).calls h2 h → Performs (deactivated size (place, k) m).calls h0 h
+      failed_test : (h : Trace) → IsBegun (tested size k m2).calls h2 h → IsBegun (deactivated size (place, k) m).calls h0 h
       failed_test h came =
           failed_first (followed_by (followed_by gone waits) (tested size k)) last h0 h
           (failed_next (followed_by gone waits) (tested size k) h0 h2 h m2 made_both came)
@@ -80,7 +80,18 @@ returns-in_err-remove_blobs-clause-step g c =
     let old : Trace = g.D.Device.trace c.args.device.now in
     let new : Trace = g.D.Device.trace c.remove_blobs.new.device in
     let blobs = blobs_are a c.args.slot c.index-s.result.now c.keys.result.now c.requires.slot c.index-s.ensures c.keys.ensures in
-    record { done = search rules; made = search rules; calls = failed_gone a.size c.args.place c.args.slot (machine_of a) old new (subst (λ (l : List ℤ). Performs (removing_blobs l) old new) blobs c.remove_blobs.ensures.calls); answers = search rules; memory = let told = c.in_err-remove_blobs.ensures.memory in search rules; account = c.requires.account }
+    let begun = failed_gone a.size c.args.place c.args.slot (machine_of a) old new
+    (subst (λ (l : List ℤ). IsBegun (removing_blobs l) old new) blobs
+    (record { calls = c.remove_blobs.ensures.calls; due = c.in_err-remove_blobs.ensures.due })) in
+    record {
+      done = search rules;
+      made = search rules;
+      calls = begun.calls;
+      due = let told = begun.due in search rules;
+      answers = search rules;
+      memory = let told = c.in_err-remove_blobs.ensures.memory in search rules;
+      account = c.requires.account;
+    }
 
 pub returns-in_err-free_waiting-clause-step : goal.returns-in_err-free_waiting-clause-step
 returns-in_err-free_waiting-clause-step g c =
@@ -91,7 +102,19 @@ returns-in_err-free_waiting-clause-step g c =
     let blobs = blobs_are a c.args.slot c.index-s.result.now c.keys.result.now c.requires.slot c.index-s.ensures c.keys.ensures in
     let made1 : IsMade (gone a.size c.args.place c.args.slot (machine_of a) old) old m1 h1 =
     record { machine = c.make_inactive.ensures.machine; trace = subst (λ (l : List ℤ). h1 ≡ after_all (removing_blobs l) old) blobs c.in_ok-remove_blobs.ensures.made } in
-    record { done = search rules; made = search rules; calls = failed_waits a.size c.args.place c.args.slot (machine_of a) old m1 h1 made1 (g.D.Device.trace c.free_waiting.new.device) (calls_same (λ n. waiting_freed n c.args.place m1) a.size c.make_inactive.new.self.size h1 (g.D.Device.trace c.free_waiting.new.device) c.make_inactive.ensures.account.size_is c.free_waiting.ensures.step.calls); answers = let told = c.in_err-free_waiting.ensures.step.answers in search rules; memory = let told = c.in_err-free_waiting.ensures.step.memory in search rules; account = subst (λ n. IsAccountant n c.free_waiting.new.self) c.make_inactive.ensures.account.size_is c.free_waiting.ensures.step.account }
+    let failed = c.in_err-free_waiting.ensures.step in
+    let begun = failed_waits a.size c.args.place c.args.slot (machine_of a) old m1 h1 made1 (g.D.Device.trace c.free_waiting.new.device)
+    (begun_same (λ n. waiting_freed n c.args.place m1) a.size c.make_inactive.new.self.size h1 (g.D.Device.trace c.free_waiting.new.device)
+    c.make_inactive.ensures.account.size_is (record { calls = c.free_waiting.ensures.step.calls; due = failed.due })) in
+    record {
+      done = search rules;
+      made = search rules;
+      calls = begun.calls;
+      due = let told = begun.due in search rules;
+      answers = let told = failed.answers in search rules;
+      memory = let told = failed.memory in search rules;
+      account = subst (λ n. IsAccountant n c.free_waiting.new.self) c.make_inactive.ensures.account.size_is c.free_waiting.ensures.step.account;
+    }
 
 pub returns-in_err-test-clause-step : goal.returns-in_err-test-clause-step
 returns-in_err-test-clause-step g c =
@@ -108,7 +131,19 @@ returns-in_err-test-clause-step g c =
     let made2 : IsMade (waiting_freed a.size c.args.place m1) h1 m2 h2 =
     made_same (λ n. waiting_freed n c.args.place m1) a.size c.make_inactive.new.self.size h1 m2 h2 same1 c.in_ok-free_waiting.ensures.step.done c.in_ok-free_waiting.ensures.step.made in
     let same2 : c.free_waiting.new.self.size ≡ a.size = c.in_ok-free_waiting.ensures.step.account.size_is ∙ same1 in
-    record { done = search rules; made = search rules; calls = failed_test a.size c.args.place c.args.slot (machine_of a) old m1 h1 made1 m2 h2 made2 (g.D.Device.trace c.test.new.device) (calls_same (λ n. tested n c.args.slot m2) a.size c.free_waiting.new.self.size h2 (g.D.Device.trace c.test.new.device) same2 c.test.ensures.step.calls); answers = let told = c.in_err-test.ensures.step.answers in search rules; memory = let told = c.in_err-test.ensures.step.memory in search rules; account = subst (λ n. IsAccountant n c.test.new.self) same2 c.test.ensures.step.account }
+    let failed = c.in_err-test.ensures.step in
+    let begun = failed_test a.size c.args.place c.args.slot (machine_of a) old m1 h1 made1 m2 h2 made2 (g.D.Device.trace c.test.new.device)
+    (begun_same (λ n. tested n c.args.slot m2) a.size c.free_waiting.new.self.size h2 (g.D.Device.trace c.test.new.device) same2
+    (record { calls = c.test.ensures.step.calls; due = failed.due })) in
+    record {
+      done = search rules;
+      made = search rules;
+      calls = begun.calls;
+      due = let told = begun.due in search rules;
+      answers = let told = failed.answers in search rules;
+      memory = let told = failed.memory in search rules;
+      account = subst (λ n. IsAccountant n c.test.new.self) same2 c.test.ensures.step.account;
+    }
 
 pub returns-clause-step : goal.returns-clause-step
 returns-clause-step g c =
@@ -135,6 +170,7 @@ returns-clause-step g c =
       done = all.machine;
       made = all.trace;
       calls = performs_whole (deactivated a.size (c.args.place, c.args.slot) (machine_of a)).calls old h3 all.trace;
+      due = search rules;
       answers = search rules;
       memory = search rules;
       account = subst (λ n. IsAccountant n c.drain_if_wasteful.new.self) (same3 ∙ same2) c.drain_if_wasteful.ensures.account;

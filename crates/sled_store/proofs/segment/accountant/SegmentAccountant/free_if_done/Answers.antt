@@ -30,6 +30,7 @@ returns-then-not-may_be_freed-clause-step g c =
       done = ap (λ (s : Step). s.machine) so;
       made = made;
       calls = performs_whole (freed_if_done c.args.self.now.size c.args.slot (machine_of c.args.self.now)).calls old old made;
+      due = search rules;
       answers = refl;
       memory = search rules;
       account = c.requires.account;

@@ -12,7 +12,7 @@ use Rattle.sled_store.proofs.Traces.ScriptLemmas.{performs_whole}
 use Rattle.sled_store.proofs.Accounts.StabilIndex.{HasPlace, have_places}
 use Rattle.sled_store.proofs.Accounts.StabilSlots.{waits_at}
 use Rattle.sled_store.proofs.Accounts.StabilFirst.{first_has, first_taken, first_and_rest, none_first}
-use Rattle.sled_store.proofs.Accounts.StabilSteps.{made_same, calls_same, leads_itself, turn_on, turn_failed, turns_done}
+use Rattle.sled_store.proofs.Accounts.StabilSteps.{made_same, begun_same, leads_itself, turn_on, turn_failed, turns_done}
 use Rattle.sled_store.proofs.Marks.MovesMade.{ended_due, exit_failed, exit_moved, moves_same, none_moved, then_moved, whole_moved}
 use Rattle.sled_store.proofs.segment.accountant.SegmentAccountant.free_waiting.Goals as goal
 
@@ -104,11 +104,14 @@ returns-in_err-free-clause-step g c =
     let k : ℕ = c.in-Some.slot in
     let m : Machine = machine_of c.loop-slot.self in
     let first = listed size c.args.place k c.loop-slot.self c.loop-slot.invariant.account c.in-Some.ensures in
+    let begun = turn_failed (freed size) _ m _ _ _ c.loop-slot.invariant.leads k _ (g.D.Device.trace c.free.new.device) first
+    (begun_same (λ n. freed n k m) size c.loop-slot.self.size (g.D.Device.trace c.loop-slot.device) (g.D.Device.trace c.free.new.device)
+    c.loop-slot.invariant.account.size_is (record { calls = c.free.ensures.step.calls; due = c.in_err-free.ensures.step.due })) in
     record {
       done = search rules;
       made = search rules;
-      calls = turn_failed (freed size) _ m _ _ _ c.loop-slot.invariant.leads k _ (g.D.Device.trace c.free.new.device) first
-          (calls_same (λ n. freed n k m) size c.loop-slot.self.size (g.D.Device.trace c.loop-slot.device) (g.D.Device.trace c.free.new.device) c.loop-slot.invariant.account.size_is c.free.ensures.step.calls);
+      calls = begun.calls;
+      due = let told = begun.due in search rules;
       answers = let told = c.in_err-free.ensures.step.answers in search rules;
       memory = let told = c.in_err-free.ensures.step.memory in search rules;
       account = subst (λ n. IsAccountant n c.free.new.self) c.loop-slot.invariant.account.size_is c.free.ensures.step.account;
@@ -129,6 +132,7 @@ returns-clause-step g c =
       done = all.machine;
       made = all.trace;
       calls = performs_whole (waiting_freed size c.args.place (machine_of c.args.self.now)).calls old new all.trace;
+      due = search rules;
       answers = c.loop-slot.invariant.faults;
       memory = search rules;
       account = c.loop-slot.invariant.account;

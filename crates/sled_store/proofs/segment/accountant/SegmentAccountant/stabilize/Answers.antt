@@ -9,7 +9,7 @@ use Rattle.sled_store.specs.SegmentStates.{Machine, Step, active_among, deactiva
 use Rattle.sled_store.specs.Accounts.{IsAccountant, machine_of}
 use Rattle.sled_store.specs.Stabilizing.{MovesSlots}
 use Rattle.sled_store.proofs.Traces.ScriptLemmas.{performs_whole}
-use Rattle.sled_store.proofs.Accounts.StabilSteps.{IsMade, LeadsTo, leads_itself, made_same, calls_same, turn_on, turn_failed, turns_done}
+use Rattle.sled_store.proofs.Accounts.StabilSteps.{IsBegun, IsMade, LeadsTo, leads_itself, made_same, begun_same, turn_on, turn_failed, turns_done}
 use Rattle.sled_store.proofs.Accounts.StabilDue.{due_among, due_so, due_not, none_negative, first_there, first_active, first_small, due_first, due_none, fewer_active, due_left, due_nothing}
 use Rattle.sled_store.proofs.Marks.MovesMade.{Moved, exit_failed, exit_moved, moved_at, moves_same, none_moved, then_moved, whole_moved}
 use Rattle.sled_store.proofs.segment.accountant.SegmentAccountant.stabilize.Given.{Over}
@@ -211,8 +211,11 @@ loop-place-preserved g c =
       checksum = c.loop-place.invariant.checksum;
     }
 
-pub returns-in_err-deactivate-clause-calls : goal.returns-in_err-deactivate-clause-calls
-returns-in_err-deactivate-clause-calls g c =
+-- Where one fails, one of its calls was due.
+begun : (g : Over) (c : goal.After-from_residual g)
+    → IsBegun (stabilized c.args.config.now.config.segment_size c.args.mark (machine_of c.args.self.now)).calls (g.D.Device.trace c.args.config.now.device)
+    (g.D.Device.trace c.deactivate.new.device)
+begun g c =
     let size : ℕ = c.args.config.now.config.segment_size in
     let w : ℕ × ℕ = (c.in-Some.place, c.in-Some.slot) in
     let m : Machine = machine_of c.loop-place.self in
@@ -220,8 +223,16 @@ returns-in_err-deactivate-clause-calls g c =
     let at = goal.at.returns-in_err-deactivate-clause-calls g c in
     turn_failed (deactivated size) (due_among size c.args.mark (active_among m.slots)) m _ _ _ (leads g at.After-first) w _ after
     (list g at.In-Some (due g at.In-Some c.if-place-self.false))
-    (calls_same (λ n. deactivated n w m) size c.loop-place.self.size (g.D.Device.trace c.loop-place.config.device) after
-    c.loop-place.invariant.account.size_is c.deactivate.ensures.step.calls)
+    (begun_same (λ n. deactivated n w m) size c.loop-place.self.size (g.D.Device.trace c.loop-place.config.device) after
+    c.loop-place.invariant.account.size_is (record { calls = c.deactivate.ensures.step.calls; due = c.in_err-deactivate.ensures.step.due }))
+
+pub returns-in_err-deactivate-clause-calls : goal.returns-in_err-deactivate-clause-calls
+returns-in_err-deactivate-clause-calls g c = (begun g c).calls
+
+pub returns-in_err-deactivate-clause-due : goal.returns-in_err-deactivate-clause-due
+returns-in_err-deactivate-clause-due g c =
+    let due = (begun g c).due in
+    search rules
 
 pub returns-in_err-deactivate-clause-account : goal.returns-in_err-deactivate-clause-account
 returns-in_err-deactivate-clause-account g c =
