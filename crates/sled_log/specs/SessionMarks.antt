@@ -5,8 +5,8 @@ use Rattle.sled_codec.specs.declared.serialization.message.LogKind.{LogKind}
 use Rattle.sled_codec.specs.declared.serialization.message.LogKind.TheVariants as does
 use Rattle.sled_codec.specs.History.{History, Message}
 use Rattle.sled_codec.specs.declared.serialization.snapshot.PageState.{PageState}
-use Rattle.sled_codec.specs.Snapshots.{Entry, Free, Page, Present, Uninitialized, page_of}
-use Rattle.sled_store.specs.Marks.{info_of}
+use Rattle.sled_codec.specs.Snapshots.{Free, Page, Present, Uninitialized, page_of}
+use Rattle.sled_store.specs.Marks.{info_of, told_of}
 use Rattle.sled_store.specs.SegmentStates.{Machine, linked, replaced}
 use Rattle.sled_store.specs.declared.segment.slot.CacheInfo.{CacheInfo}
 use Rattle.sled_core.specs.Account.{Account}
@@ -23,16 +23,12 @@ abbrev pub told_by : ℕ → ℕ → LogKind → Message → CacheInfo
 told_by size floor does.Free m = record { lsn = pos m.place; pointer = m.pointer; log_size = free_length size floor m.page m.place }
 told_by size floor kind m = info_of m
 
-abbrev pub told_of : ℕ → ℕ → Message → CacheInfo
-told_of size floor m = told_by size floor m.kind m
-
--- the same of the entry of a table
-abbrev pub told_entry : Entry → CacheInfo
-told_entry e = record { lsn = e.0; pointer = e.1; log_size = e.2 }
+abbrev pub told_message : ℕ → ℕ → Message → CacheInfo
+told_message size floor m = told_by size floor m.kind m
 
 -- and of all that a page is
 abbrev pub told_page : ℕ → ℕ → ℕ → Page → List CacheInfo
-told_page size floor page (Present base frags) = told_entry base ∷ map told_entry frags
+told_page size floor page (Present base frags) = told_of base ∷ map told_of frags
 told_page size floor page (Free place pointer) =
     record { lsn = place; pointer = pointer; log_size = free_length size floor page (unsigned_abs place) } ∷ []
 told_page size floor page Uninitialized = []
@@ -50,7 +46,7 @@ replacing kind old = old
 -- the mark of a message that is completed
 abbrev pub mark_for : ℕ → ℕ → History → Message → DueMark
 mark_for size floor H m =
-    record { kind = m.kind; page = m.page; old = replacing m.kind (map (told_of size floor) (page_now H m.page)); new = info_of m }
+    record { kind = m.kind; page = m.page; old = replacing m.kind (map (told_message size floor) (page_now H m.page)); new = info_of m }
 
 -- what a mark of this kind makes of the slots
 abbrev pub slots_by : ℕ → LogKind → DueMark → Machine → Machine
