@@ -10,7 +10,7 @@ use Rattle.sled_codec.specs.Snapshots.{Entry}
 use Rattle.sled_store.specs.Device.{Trace}
 use Rattle.sled_core.specs.Marked.{BeginsMarked}
 use Rattle.sled_core.specs.declared.logger.Log.{Log}
-use Rattle.sled_core.specs.Fits.{device_of, given_up_of, pins_of, reserved_end, segment_size_of, start_of}
+use Rattle.sled_core.specs.Fits.{device_of, given_up_of, reserved_end, segment_size_of, start_of}
 use Rattle.sled_core.specs.Among.{AreAmong}
 use Rattle.sled_core.specs.Keeps.{KeepsWriting}
 use Rattle.sled_core.specs.ReadPointer.{place_read}
@@ -23,14 +23,13 @@ use Rattle.sled_log.specs.RunPhases.{HasHeads, Unstored, seen_log, traces}
 use Rattle.sled_log.specs.RunStates.{DeviceView, LogView, RunState, is_present, top, with_log, MarkAt, heads_at}
 use Rattle.sled_log.specs.ReadSteps.{FailsAt, ReadStep, ReadsAt, read_around, read_at}
 
--- A log fits what a session keeps in mind, with its pin out and no other, what it counts as given up was, its headers and fillings that aren't on the device
--- are those that were begun, and zeros pass as no header.
+-- A log fits what a session keeps in mind, what it counts as given up was, its headers and fillings that aren't on the device are those that were begun, and
+-- zeros pass as no header.
 pub record IsRead {D C : Type 0} (trace : D → Trace) (sum : List ℕ → ℕ) (log : Log D C) (k : Unstored) : Type 0 where
   pub made : IsMade k.history
   pub zeros : NoHeaderOfZeros sum
   pub unmarked : List Message
   pub fits : Fits trace sum log k.history k.acknowledged k.floor unmarked
-  pub pinned : pins_of log ≡ 1
   pub given_up : AreAmong (given_up_of log) k.given_up
   pub heads : HasHeads sum log k.heads
 
@@ -48,7 +47,7 @@ abbrev pub IsItem : {D C : Type 0} → (D → DeviceView) → (List ℕ → ℕ)
     → Result (Vec ℕ Global) Error → Type 0
 IsItem view sum old l m new l' (Ok item) =
     (item.items ≡ m.bytes) × (l.fault ≡ None) × (reads : ReadsAt sum (segment_size_of old) l (read_at m) (view (device_of old)) (view (device_of new)))
-    × (l' ≡ read_around size l (read_at m) reads.writes.buffers)
+    × (l' ≡ read_around (segment_size_of old) l (read_at m) reads.writes.buffers)
 IsItem view sum old l m new l' (Err e) =
     l.fault ≡ None → (a : RunState)
     → FailsAt sum (segment_size_of old) a l (read_at m) e (view (device_of old)) (view (device_of new)) (with_log a (view (device_of new)) (Some l'))

@@ -1,5 +1,5 @@
 -- The marks of a session: each message is marked once it is completed, in place of all that its page was; and each ticket has its pin until then.
-use Rattle.std.specs.Prelude.{◌≡◌, ◌+◌, ◌-◌, ◌/◌, ℕ, ℤ, pos, nat_lt, true, unsigned_abs, if◌then◌else◌, List, [], ◌∷◌, map, Option, None, Some}
+use Rattle.std.specs.Prelude.{◌≡◌, ◌+◌, ◌-◌, ◌/◌, ℕ, ℤ, pos, true, nat_lt, unsigned_abs, if◌then◌else◌, List, [], ◌∷◌, map, Option, None, Some}
 use Rattle.sled_codec.specs.declared.result.DiskPtr.{DiskPtr}
 use Rattle.sled_codec.specs.declared.serialization.message.LogKind.{LogKind}
 use Rattle.sled_codec.specs.declared.serialization.message.LogKind.TheVariants as does

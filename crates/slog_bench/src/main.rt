@@ -41,6 +41,7 @@ const FILES: [&str; 19] = [
     "marked.txt",
     "slog.txt",
     "runs.txt",
+    "reuse.txt",
     "own.txt",
     "accountant.txt",
     "accountant_blobs.txt",
@@ -99,7 +100,7 @@ fn run(alloc: Global, name: &str, text: &str, tally: &mut Tally<'_>) {
                 tally.case(0, "lines", why);
             }
         }
-        "slog.txt" | "runs.txt" => scripts::run(alloc, text, tally),
+        "slog.txt" | "runs.txt" | "reuse.txt" => scripts::run(alloc, text, tally),
         "accountant.txt" | "accountant_blobs.txt" | "accountant_start.txt" => {
             accountant::run(alloc, text, tally)
         }

@@ -1,6 +1,6 @@
 -- What a read leaves of a log, as it is seen.
 use Rattle.std.proofs.Common.{◌≡◌, ◌∙◌, ◌≤◌, ◌<◌, ◌+◌, ◌&&◌, ◌⊎◌, inl, inr, ℕ, ℤ, pos, Bool, true, false, nat_lt, nat_le, if◌then◌else◌, List, [], ◌∷◌, ◌++◌, length, map, Option, Some, None, Result, Ok, Err, OnErr, refl, sym, ap, subst, arith, append_assoc, get_or, to_z, of_z}
-use Rattle.std.specs.Prelude.{Vec, unsigned_abs}
+use Rattle.std.specs.Prelude.{Vec, take, unsigned_abs}
 use Rattle.std.specs.Int.{w64}
 use Rattle.std.specs.List.{All, Contains}
 use Rattle.std.specs.declared.alloc.Global.{Global}
@@ -22,42 +22,44 @@ use Rattle.sled_codec.specs.PageTables.{entry_of}
 use Rattle.sled_codec.specs.Snapshots.{Entry, Page, Present, Uninitialized, page_of}
 use Rattle.sled_store.specs.Device.{Event, Trace}
 use Rattle.sled_store.specs.Script.{Performs, after_all}
+use Rattle.sled_store.specs.SegmentStates.{Machine}
 use Rattle.sled_store.proofs.Segments.TableEntries.{from_table}
-use Rattle.sled_log.proofs.Sessions.BegunHeads.{heads_kept, heads_still, begun_with, only_begun}
-use Rattle.sled_core.specs.Account.{Account, account_behind, account_of}
+use Rattle.sled_log.proofs.Sessions.BegunHeads.{heads_kept, begun_with, only_begun}
+use Rattle.sled_core.specs.Account.{account_behind, account_of}
 use Rattle.sled_core.specs.Causes.{IsFault, IsFaultAt, IsHeld, OnDone}
 use Rattle.sled_core.specs.Reading.{GivesMessage, IsInline}
 use Rattle.sled_core.specs.ReadPointer.{GivesBlobOrWaits, IsKeptBlob, place_read}
 use Rattle.sled_core.specs.declared.logger.read_message.LogRead.{LogRead}
 use Rattle.sled_core.specs.declared.logger.Log.{Log}
 use Rattle.sled_core.specs.Begun.{segment_view}
-use Rattle.sled_core.specs.OpenBatches.{not_whole}
-use Rattle.sled_core.proofs.Line.LineEnds.{noted_still}
-use Rattle.sled_core.specs.Fits.{HasRecordOf, buffers_of, current_begin, current_of, device_of, fault_of, held_len, next_place, noted_in, pins_of, reserved_end, segment_size_of, start_of, synced_end, waiting_of}
+use Rattle.sled_core.specs.Fits.{HasRecordOf, buffers_of, current_begin, current_of, device_of, fault_of, held_len, ledger_of, ledger_sealed, machine_at, next_place, position_with, reserved_end, segment_size_of, start_of, synced_end, waiting_of}
+use Rattle.sled_core.specs.Freeing.{Ledger}
 use Rattle.sled_core.specs.Keeps.{KeepsWriting, SamePlace, start_sealed}
+use Rattle.sled_core.specs.Ledger.{ledger_behind, writings}
 use Rattle.sled_core.specs.OpenPlaces.{first_between}
-use Rattle.sled_core.specs.Fronts.{CameAround, syncs}
-use Rattle.sled_core.specs.ReadBuffer.{IsUsedUpAt, LeavesSealed, ReadAnswers, Settles, WritesAround, held_at, sealed_at, settling, start_at}
-use Rattle.sled_core.specs.SealedBuffers.{writing}
-use Rattle.sled_core.specs.Waiting.{BufferAt, BufferStart, HasLength, Span, has_place, held_around, one_around, span_of, spans, unless_held, without_around, write_around}
+use Rattle.sled_core.specs.Fronts.{CameAround, synced_writes}
+use Rattle.sled_core.specs.Positions.{Position}
+use Rattle.sled_core.specs.ReadBuffer.{IsUsedUpAt, LeavesSealed, ReadAnswers, Settles, WritesAround, held_at, ledger_at, position_at, sealed_at, settling, start_at}
+use Rattle.sled_core.specs.Waiting.{BufferAt, BufferStart, HasLength, Span, free_around, has_place, held_around, one_around, span_of, spans, unless_held, without_around}
 use Rattle.sled_core.proofs.Holds.BufferEnds.{written_behind}
-use Rattle.sled_core.proofs.Line.KeptCalls.{none_failed, writing_further, writing_pinned, writing_still}
+use Rattle.sled_core.proofs.Line.KeptCalls.{writing_further, writing_still}
 use Rattle.sled_core.proofs.Line.Entered.{filled_last}
 use Rattle.sled_core.proofs.Holds.Facts.{current_facts}
 use Rattle.sled_core.specs.WholeBuffers.{IsWholeBuffer}
 use Rattle.sled_core.proofs.Line.Shows.{buffers_add}
-use Rattle.sled_core.proofs.PublicLaws.{fits_reach, pinned_around, place_back, record_of_entry, reserved_small, shows_current, shows_empty, shows_long}
+use Rattle.sled_core.proofs.PublicLaws.{fits_reach, ledger_account, place_back, record_of_entry, reserved_small, shows_current, shows_empty, shows_long}
 use Rattle.sled_log.proofs.Sessions.MadeHistories.{of_page_same}
 use Rattle.sled_log.proofs.Sessions.MadePages.{page_present}
 use Rattle.sled_log.specs.Made.{HasBlobIn, IsMade}
 use Rattle.sled_log.specs.declared.session.Phase.TheVariants.{Open}
 use Rattle.sled_log.specs.declared.session.opened.Opened.{Opened}
-use Rattle.sled_log.proofs.Sessions.Accounts.{account_around, account_sealed, account_unsealed, is_out}
-use Rattle.sled_log.proofs.Sessions.Writing.{AreWhole, IsHeldBy, StaysPut, all_held, first_seen, flush_in, flush_out, if_held, next_start_seen, over, sealed_too, span_seen, kept_with, still_with, whole_seen}
+use Rattle.sled_log.proofs.Sessions.SlotsSeen.{around_seen, ledger_around_seen, over_seen, step_failed}
+use Rattle.sled_log.proofs.Sessions.Writing.{AreWhole, IsHeldBy, StaysPut, all_held, due_none, flush_in, flush_out, if_held, kept_with, left_alone, leaves as leaves_log, next_start_seen, over, put_writing, sealed_too, span_seen, still_with, whole_seen}
 use Rattle.sled_log.specs.Readings.{IsOfPage, IsRead, ReadsEntries, ReadsItem, page_told}
 use Rattle.sled_log.specs.RunPhases.{IsOpenAt, Unstored, seen, seen_log, stands, traces, HasHeads}
-use Rattle.sled_log.specs.RunStates.{DeviceView, EndsInReach, LogView, RunState, current_span, first_waiting, held, is_present, next_start, opens, page_now, sealed_around, spans_without, start_around, top, with_log, MarkAt, heads_at}
-use Rattle.sled_log.specs.ReadSteps.{FailsAt, ReadStep, ReadsAll, ReadsAt, held_around_place, holding_read, read_around, read_at, reading_around}
+use Rattle.sled_log.specs.RunStates.{DeviceView, EndsInReach, LogView, RunState, current_span, held, is_present, next_start, opens, page_now, sealed_around, spans_without, start_around, top, with_log, MarkAt, heads_at}
+use Rattle.sled_log.specs.RunSlots.{ledger_around, position_around, position_over}
+use Rattle.sled_log.specs.ReadSteps.{FailsAt, ReadStep, ReadsAll, ReadsAt, chosen_around, held_around_place, holding_read, read_around, read_at}
 use Rattle.sled_log.specs.WriteSteps.{IfHeld, IsWhy, ShowsBuffers, WritesSome, view_flushed, headed, fillings_seen}
 
 -- Buffers that have a place.
@@ -71,9 +73,9 @@ without_seen at (b ∷ bs) = by (without_seen at bs) (has_place at b) where
   by rest false = ap (λ (ss : List Span). span_of b ∷ ss) rest
 
 -- what holds that one up
-around_seen : (places : List ℕ) (at : ℕ) (bs : List BufferAt) → All (IsHeldBy places) bs → held_around at bs ≡ held_around_place places at (spans bs)
-around_seen places at [] all = refl
-around_seen places at (b ∷ bs) all = by (All-head (IsHeldBy places) b bs all) (around_seen places at bs (All-tail (IsHeldBy places) b bs all)) (has_place at b) where
+held_seen : (places : List ℕ) (at : ℕ) (bs : List BufferAt) → All (IsHeldBy places) bs → held_around at bs ≡ held_around_place places at (spans bs)
+held_seen places at [] all = refl
+held_seen places at (b ∷ bs) all = by (All-head (IsHeldBy places) b bs all) (held_seen places at bs (All-tail (IsHeldBy places) b bs all)) (has_place at b) where
   by : b.held ≡ first_between b.place b.end places → held_around at bs ≡ held_around_place places at (spans bs) → (o : Bool)
       → (if o then b.held else held_around at bs) ≡ (if o then held places (span_of b) else held_around_place places at (spans bs))
   by here rest true = here
@@ -86,9 +88,9 @@ not_behind at b far = by (nat_le b.place at) refl where
   by true is = absurd (grind (arith, nat_tests, far, is))
   by false is = refl
 
-write_front : (at : ℕ) (bs : List BufferAt) (b : BufferAt) → at < b.place → write_around at (bs ++ b ∷ []) ≡ write_around at bs
-write_front at [] b far = ap (λ (o : Bool). if o then unless_held b.held (writing b.lid b.bytes []) else []) (not_behind at b far)
-write_front at (x ∷ xs) b far = ap (λ (es : List Event). if has_place at x then unless_held x.held (writing x.lid x.bytes []) else es) (write_front at xs b far)
+free_front : (at : ℕ) (bs : List BufferAt) (b : BufferAt) → at < b.place → free_around at (bs ++ b ∷ []) ≡ free_around at bs
+free_front at [] b far = ap (λ (o : Bool). if o then unless_held b.held (b ∷ []) else []) (not_behind at b far)
+free_front at (x ∷ xs) b far = ap (λ (cs : List BufferAt). if has_place at x then unless_held x.held (x ∷ []) else cs) (free_front at xs b far)
 
 around_front : (at : ℕ) (bs : List BufferAt) (b : BufferAt) → at < b.place → held_around at (bs ++ b ∷ []) ≡ held_around at bs
 around_front at [] b far = ap (λ (o : Bool). if o then b.held else None) (not_behind at b far)
@@ -162,12 +164,23 @@ module _ {D C : Type 0} (log : Log D C) (sum : List ℕ → ℕ) (at begun : ℕ
         | inr none ↦ ap f (shows_empty sum log (omega (arith, none)))
       ]
 
-  calls_seen : 0 < pins_of log → settling sum log (pos at) ≡ reading_around l at (sealed_at sum at log)
-  calls_seen out = pinned_around log out sum (pos at) ∙ ap (λ (es : List Event). if nat_lt at l.synced then [] else es) (of_sealed (write_around at) (write_front at))
+  calls_seen : settling sum log (pos at) ≡ writings (segment_size_of log) (chosen_around l at (sealed_at sum at log)) (ledger_around at l)
+  calls_seen = by (nat_lt at l.synced) where
+    by : (o : Bool) → (if o then [] else writings (segment_size_of log) (free_around at (buffers_of sum log)) (ledger_at at log))
+        ≡ writings (segment_size_of log) (if o then [] else free_around at (sealed_at sum at log)) (ledger_around at l)
+    by true = refl
+    by false = ap (λ (bs : List BufferAt). writings (segment_size_of log) bs (ledger_at at log)) (of_sealed (free_around at) (free_front at))
 
   holding_seen : held_at sum log (pos at) ≡ holding_read l at
   holding_seen = ap (λ (o : Option ℕ). if nat_lt at l.synced then None else o)
-      (of_sealed (held_around at) (around_front at) ∙ around_seen (opens l) at (sealed_at sum at log) are_held ∙ ap (held_around_place (opens l) at) are_seen)
+      (of_sealed (held_around at) (around_front at) ∙ held_seen (opens l) at (sealed_at sum at log) are_held ∙ ap (held_around_place (opens l) at) are_seen)
+
+  -- what is sealed brings no mark to the device
+  marks_seen : (ledger_at at log).account ≡ account_of log
+  marks_seen = by (nat_le (current_begin log) at) where
+    by : (o : Bool) → (if o then ledger_sealed log else ledger_of log).account ≡ account_of log
+    by true = refl
+    by false = refl
 
 -- Its item is there: why it wasn't read is neither damage nor a blob that is missing.
 abbrev pub IsWhole : DiskPtr → Message → Option IoError → Error → Type 0
@@ -206,9 +219,13 @@ module _ {D C : Type 0} (trace : D → Trace) (sum : List ℕ → ℕ) (log : Lo
   is_whole (ptr.Inline lid) e points inline blob = inline tt
   is_whole (ptr.Blob lid at) e points inline blob = blob (kept_blob (ptr.Blob lid at) points (λ no. no))
 
+-- the log of a run, where one is open
+abbrev log_or : LogView → RunState → LogView
+log_or l a = elim a.log [ Some x ↦ x | None ↦ l ]
+
 -- One message is read.
 module _ {D C : Type 0} (view : D → DeviceView) (sum : List ℕ → ℕ) (old new : Log D C) (k : Unstored) (page : ℕ) (m : Message) (begun : ℕ) (of : IsOfPage k.history (reserved_end old) page m)
-    (records : fault_of old ≡ None → AreWhole sum old k.given_up k.heads) (position : StaysPut old new) (out : 0 < pins_of old) where
+    (records : fault_of old ≡ None → AreWhole sum old k.given_up k.heads) (keeps : KeepsWriting (traces view) sum old new) where
   abbrev at : ℕ
   at = read_at m
 
@@ -224,29 +241,24 @@ module _ {D C : Type 0} (view : D → DeviceView) (sum : List ℕ → ℕ) (old 
   abbrev new_view : DeviceView
   new_view = view (device_of new)
 
-  -- these buffers are left
-  leaves : (waiting : List Span) (start : BufferStart) (fault : Option IoError) (account : Account) → spans (waiting_of new) ≡ waiting → start_of new ≡ start → fault_of new ≡ fault → account_of new ≡ account
-      → after ≡ view_flushed before waiting start fault account
-  leaves waiting start fault account left first kept marks = λ i. record {
-    position = position.position i;
-    synced = (first_seen new ∙ λ j. first_waiting (left j) (first j)) i;
-    noted = (position.noted ∙ ap (λ n. not_whole n (noted_in old)) (first_seen new ∙ λ j. first_waiting (left j) (first j))) i;
-    end = position.reserved i;
-    waiting = left i;
-    start = first i;
-    begun = begun;
-    fault = kept i;
-    outstanding = position.opens i;
-    tickets = k.tickets;
-    given_up = k.given_up;
-    heads = heads_at before (first i);
-    pins = position.pins i;
-    account = marks i;
-  }
+  put : StaysPut (traces view) sum old new
+  put = put_writing (traces view) sum old new keeps
+
+  -- these buffers are left, with these slots and marks
+  leaves : (waiting : List Span) (start : BufferStart) (fault : Option IoError) (ledger : Ledger) (position : Machine → Position) → spans (waiting_of new) ≡ waiting → start_of new ≡ start → fault_of new ≡ fault
+      → ledger_of new ≡ ledger → ((m : Machine) → position_with new m ≡ position m) → after ≡ view_flushed before waiting start fault ledger position
+  leaves waiting start fault ledger position left first kept slots begins =
+      ap (log_or before)
+      (leaves_log old sum begun k.tickets k.given_up k.heads (traces view) new old_view new_view k.history k.acknowledged k.floor None put
+      k.acknowledged waiting start fault ledger position left first kept slots begins)
+
+  -- where the next record may begin, once the buffer of the place is sealed
+  begins_seen : ((m : Machine) → position_with new m ≡ position_at at old m) → (m : Machine) → position_with new m ≡ position_around (segment_size_of old) at before m
+  begins_seen is m = is m ∙ around_seen old begun k.tickets k.given_up k.heads at m
 
   -- the calls that bring its place to the device
-  settling_seen : settling sum old (place_read (pos m.place) m.pointer) ≡ reading_around before at (sealed_at sum at old)
-  settling_seen = ap (settling sum old) of.read ∙ calls_seen old sum at begun k of.read_below out
+  settling_seen : settling sum old (place_read (pos m.place) m.pointer) ≡ writings (segment_size_of old) (chosen_around before at (sealed_at sum at old)) (ledger_around at before)
+  settling_seen = ap (settling sum old) of.read ∙ calls_seen old sum at begun k of.read_below
 
   -- It failed, where the log kept no failure.
 
@@ -285,43 +297,69 @@ module _ {D C : Type 0} (view : D → DeviceView) (sum : List ℕ → ℕ) (old 
       → ReadAnswers {T = LogRead} sum blobs m.pointer (Err e) (pos at) (synced_end old) (reserved_end old) (held_at sum old (pos at)) (IsUsedUpAt old (pos at)) (fault_of old) (fault_of new) old_view.failures new_view.failures
       → IsWhole m.pointer m (fault_of old) e → fault_of old ≡ None → OnDone {T = LogRead} (Err e) (new_view.trace ≡ after_all (settling sum old (place_read (pos m.place) m.pointer)) old_view.trace)
       → (a : RunState) → FailsAt sum (segment_size_of old) a before at e old_view new_view (with_log a new_view (Some after))
-  failed_at blobs e held made came answers whole none done a =
+  failed_at blobs e seals made came answers whole none done a =
       let seen_so = shows old sum at begun k of.read_below (records none) in
-      let some : syncs new_view.trace ≡ syncs old_view.trace → (fault_of new ≡ None → new_view.trace ≡ old_view.trace) → WritesSome sum (segment_size_of old) before (sealed_around at before) (reading_around before at) 0 e (fault_of new) old_view new_view =
-      λ synced still. record {
+      let size : ℕ = segment_size_of old in
+      let ss : List Span = sealed_around at before in
+      let start : BufferStart = start_around at before in
+      let position : Machine → Position = position_around size at before in
+      let from : Ledger = ledger_around at before in
+      let some : (count : ℕ) → synced_writes new_view.trace ≡ count + synced_writes old_view.trace
+          → (fault_of new ≡ None → new_view.trace ≡ after_all (writings size (take count (chosen_around before at (sealed_at sum at old))) from) old_view.trace)
+          → WritesSome sum size before ss (chosen_around before at) from count e (fault_of new) old_view new_view =
+      λ count written whole. record {
         buffers = sealed_at sum at old;
         shown = seen_so;
         made = subst (λ (es : List Event). Performs es old_view.trace new_view.trace) settling_seen made;
-        synced = omega (arith, synced);
-        whole = still;
+        written = written;
+        whole = whole;
         held = if_held LogRead e _ _ (λ all. all ∙ ap (λ (es : List Event). after_all es old_view.trace) settling_seen) done;
       } in
       let over_it : LogView → RunState = λ x. with_log a new_view (Some x) in
-      let leaves_sealed : LeavesSealed sum at old new → with_log a new_view (Some after) ≡ with_log a new_view (Some (view_flushed before (sealed_around at before) (start_around at before) (fault_of new) (account_of old))) =
-      λ sealed. ap over_it (leaves (sealed_around at before) (start_around at before) (fault_of new) (account_of old) (ap spans sealed.0 ∙ seen_so.are) (sealed.1 ∙ start_seen old sum at begun k of.read_below) refl (account_sealed old new sum at sealed)) in
+      let started : start_of new ≡ start_at at old → start_of new ≡ start = λ is. is ∙ start_seen old sum at begun k of.read_below in
+      let left : waiting_of new ≡ without_around at (sealed_at sum at old) → spans (waiting_of new) ≡ spans_without at ss =
+      λ is. ap spans is ∙ without_around_seen old sum at begun k of.read_below in
+      let unheld : held_at sum old (pos at) ≡ None → holding_read before at ≡ None = λ free. sym (holding_seen old sum at begun k of.read_below) ∙ free in
+      let leaves_sealed : LeavesSealed sum at old new → with_log a new_view (Some after) ≡ with_log a new_view (Some (view_flushed before ss start (fault_of new) from position)) =
+      λ sealed. ap over_it (leaves ss start (fault_of new) from position (ap spans sealed.0 ∙ seen_so.are) (started sealed.1) refl sealed.2 (begins_seen sealed.3)) in
       record {
         sound = none;
         fault = fault_of new;
         why = why_at blobs e answers whole none;
         came = elim came [
           | inl same ↦ inl (
-            some (ap syncs same.1) (λ sound. same.1),
-            elim (was_sealed e held) [
-              | inl free ↦ inl (free, ap over_it (leaves (spans (waiting_of old)) (start_of old) (fault_of new) (account_of old) (ap spans same.0.0) same.0.1 refl (account_unsealed old new sum at same.0)), λ above. same.2 (omega (arith, ints, above)) ∙ none)
+            some 0 (let still = ap synced_writes same.1 in omega (arith, still)) (λ sound. same.1),
+            elim (was_sealed e seals) [
+              | inl free ↦ inl (
+                free,
+                ap over_it (leaves (spans (waiting_of old)) (start_of old) (fault_of new) (ledger_of old) (position_over size before) (ap spans same.0.0) same.0.1 refl same.0.2
+                    (λ slots. same.0.3 slots ∙ over_seen old begun k.tickets k.given_up k.heads slots)),
+                λ above. same.2 (omega (arith, ints, above)) ∙ none,
+              )
               | inr sealed ↦ inr (leaves_sealed sealed)
             ],
           )
-          | inr (inl sealed) ↦ inl (
-            some sealed.1.synced sealed.1.still,
-            inr (leaves_sealed sealed.0),
-          )
-          | inr (inr (inl written)) ↦ inr (
-            sym (holding_seen old sum at begun k of.read_below) ∙ written.2,
-            record { buffers = sealed_at sum at old; shown = seen_so; made = written.1 ∙ ap (λ (es : List Event). after_all es old_view.trace) (calls_seen old sum at begun k of.read_below out) },
-            (ap over_it (leaves (spans_without at (sealed_around at before)) (start_around at before) (fault_of new) (account_behind (one_around at (sealed_at sum at old)) (account_of old))
-                (ap spans written.0.0 ∙ without_around_seen old sum at begun k of.read_below) (written.0.1 ∙ start_seen old sum at begun k of.read_below) refl (account_around old new sum at written.0))),
-          )
-          | inr (inr (inr failing)) ↦ absurd (none_failed old new out failing.0.4)
+          | inr (inl sealed) ↦ inl (some 0 (let still = sealed.1.written in omega (arith, still)) sealed.1.still, inr (leaves_sealed sealed.0))
+          | inr (inr (inl written)) ↦ inr (inl (
+            unheld written.2,
+            record {
+              buffers = sealed_at sum at old;
+              shown = seen_so;
+              made = written.1 ∙ ap (λ (es : List Event). after_all es old_view.trace) (calls_seen old sum at begun k of.read_below);
+            },
+            ap over_it (leaves (spans_without at ss) start (fault_of new) (ledger_behind size (one_around at (sealed_at sum at old)) from) position
+                (left written.0.0) (started written.0.1) refl written.0.2 (begins_seen written.0.3)),
+          ))
+          | inr (inr (inr failing)) ↦ inr (inr (
+            unheld failing.1,
+            some 1 (let more = failing.2 in omega (arith, more)) (λ sound. absurd (let bad : None ≡ Some failing.0.4.fault = sym sound ∙ failing.0.4.kept in cc)),
+            account_of new,
+            failing.0.2 ∙ ledger_account size (one_around at (sealed_at sum at old)) (ledger_at at old) ∙ ap (account_behind (one_around at (sealed_at sum at old))) (marks_seen old sum at begun k of.read_below),
+            machine_at new,
+            step_failed old begun k.tickets k.given_up k.heads (traces view) new (ledger_at at old).machine from.machine new_view.trace (ap (λ (x : Ledger). x.machine) (ledger_around_seen old begun k.tickets k.given_up k.heads at)) keeps.position.size refl failing.0.4 failing.3,
+            ap over_it (leaves (spans_without at ss) start (fault_of new) (record { machine = machine_at new; account = account_of new }) position
+                (left failing.0.0) (started failing.0.1) refl refl (begins_seen failing.0.3)),
+          ))
         ];
       }
 
@@ -348,19 +386,22 @@ module _ {D C : Type 0} (view : D → DeviceView) (sum : List ℕ → ℕ) (old 
 
   -- It was read.
 
-  around : {T : Type 0} (r : T) → WritesAround sum (Ok r) (pos at) old new → fault_of new ≡ fault_of old → after ≡ read_around before at (sealed_at sum at old)
+  around : {T : Type 0} (r : T) → WritesAround sum (Ok r) (pos at) old new → fault_of new ≡ fault_of old → after ≡ read_around (segment_size_of old) before at (sealed_at sum at old)
   around r writes kept = by (nat_lt at (synced_end old)) refl where
-    by : (o : Bool) → nat_lt at (synced_end old) ≡ o → after ≡ (if o then before else view_flushed before (spans_without at (sealed_around at before)) (start_around at before) (fault_of old) (account_behind (one_around at (sealed_at sum at old)) (account_of old)))
+    by : (o : Bool) → nat_lt at (synced_end old) ≡ o
+        → after ≡ (if o then before else view_flushed before (spans_without at (sealed_around at before)) (start_around at before) (fault_of old)
+        (ledger_behind (segment_size_of old) (one_around at (sealed_at sum at old)) (ledger_around at before)) (position_around (segment_size_of old) at before))
     by true below =
         let low = writes.still (grind (arith, ints, nat_tests, below)) in
-        leaves (spans (waiting_of old)) (start_of old) (fault_of old) (account_of old) (ap spans low.0) low.1 kept (account_unsealed old new sum at low)
-        ∙ (λ i. record { position = before.position; synced = sym (first_seen old) i; noted = sym (noted_still old ∙ ap (λ n. not_whole n (noted_in old)) (first_seen old)) i; end = before.end; waiting = before.waiting; start = before.start; begun = begun; fault = before.fault; outstanding = before.outstanding; tickets = k.tickets; given_up = k.given_up; heads = heads_still before i; pins = before.pins; account = before.account })
+        ap (log_or before)
+        (left_alone old sum begun k.tickets k.given_up k.heads (traces view) new old_view new_view k.history k.acknowledged k.floor None put low.0 low.1 kept low.2 low.3)
     by false beyond =
         let high = writes.written (grind (arith, ints, nat_tests, beyond)) in
-        leaves (spans_without at (sealed_around at before)) (start_around at before) (fault_of old) (account_behind (one_around at (sealed_at sum at old)) (account_of old))
-        (ap spans high.0 ∙ without_around_seen old sum at begun k of.read_below) (high.1 ∙ start_seen old sum at begun k of.read_below) kept (account_around old new sum at high)
+        leaves (spans_without at (sealed_around at before)) (start_around at before) (fault_of old)
+        (ledger_behind (segment_size_of old) (one_around at (sealed_at sum at old)) (ledger_around at before)) (position_around (segment_size_of old) at before)
+        (ap spans high.0 ∙ without_around_seen old sum at begun k of.read_below) (high.1 ∙ start_seen old sum at begun k of.read_below) kept high.2 (begins_seen high.3)
 
-  pub was_read : (blobs : ℤ → Option (List ℕ)) (r : LogRead) (z : ℤ) (p : DiskPtr) → pos m.place ≡ z → m.pointer ≡ p → Told blobs (Ok r) z p → (before.fault ≡ None) × (reads : ReadsAt sum (segment_size_of old) before at old_view new_view) × (after ≡ read_around before at reads.writes.buffers)
+  pub was_read : (blobs : ℤ → Option (List ℕ)) (r : LogRead) (z : ℤ) (p : DiskPtr) → pos m.place ≡ z → m.pointer ≡ p → Told blobs (Ok r) z p → (before.fault ≡ None) × (reads : ReadsAt sum (segment_size_of old) before at old_view new_view) × (after ≡ read_around (segment_size_of old) before at reads.writes.buffers)
   was_read blobs r z p here points told =
       let own = told_own blobs (Ok r) z p here points told in
       let answers = own.1.1 in (
@@ -380,7 +421,8 @@ module _ {D C : Type 0} (view : D → DeviceView) (sum : List ℕ → ℕ) (old 
 -- Several messages are read, one behind another.
 
 -- one more
-reads_more : (sum : List ℕ → ℕ) (size : ℕ) (done : List Message) (m : Message) (l end : LogView) (old mid new : DeviceView) → ReadsAll sum size l done old mid end → (more : ReadsAt sum size end (read_at m) mid new) → ReadsAll sum size l (done ++ m ∷ []) old new (read_around end (read_at m) more.writes.buffers)
+reads_more : (sum : List ℕ → ℕ) (size : ℕ) (done : List Message) (m : Message) (l end : LogView) (old mid new : DeviceView) → ReadsAll sum size l done old mid end → (more : ReadsAt sum size end (read_at m) mid new)
+    → ReadsAll sum size l (done ++ m ∷ []) old new (read_around size end (read_at m) more.writes.buffers)
 reads_more sum size [] m l end old mid new is more = (
   new,
   record {
@@ -388,17 +430,17 @@ reads_more sum size [] m l end old mid new is more = (
     writes = record {
       buffers = more.writes.buffers;
       shown = subst (λ (x : LogView). ShowsBuffers sum size x (sealed_around (read_at m) x) more.writes.buffers) is.2 more.writes.shown;
-      made = more.writes.made ∙ (λ i. after_all (reading_around (is.2 i) (read_at m) more.writes.buffers) (is.0 i));
+      made = more.writes.made ∙ (λ i. after_all (writings size (chosen_around (is.2 i) (read_at m) more.writes.buffers) (ledger_around (read_at m) (is.2 i))) (is.0 i));
     };
     failures = more.failures ∙ is.1;
   },
-  (refl, refl, ap (λ (x : LogView). read_around x (read_at m) more.writes.buffers) is.2),
+  (refl, refl, ap (λ (x : LogView). read_around size x (read_at m) more.writes.buffers) is.2),
 )
-reads_more sum size (n ∷ done) m l end old mid new is more = (is.0, is.1, reads_more sum size done m (read_around l (read_at n) is.1.writes.buffers) end is.0 mid new is.2 more)
+reads_more sum size (n ∷ done) m l end old mid new is more = (is.0, is.1, reads_more sum size done m (read_around size l (read_at n) is.1.writes.buffers) end is.0 mid new is.2 more)
 
--- It comes to the same of segments of the same size.
-of_size : (sum : List ℕ → ℕ) (n size : ℕ) → n ≡ size → (l : LogView) (at : ℕ) (old new : DeviceView) (reads : ReadsAt sum n l at old new) → (same : ReadsAt sum size l at old new) × (same.writes.buffers ≡ reads.writes.buffers)
-of_size sum n size is l at old new reads = subst (λ x. (same : ReadsAt sum x l at old new) × (same.writes.buffers ≡ reads.writes.buffers)) is (reads, refl)
+-- a message was read, with segments of this size, which leads from one log to another
+abbrev WasRead : (List ℕ → ℕ) → ℕ → LogView → ℕ → DeviceView → DeviceView → LogView → Type 0
+WasRead sum size l at old new l' = (reads : ReadsAt sum size l at old new) × (l' ≡ read_around size l at reads.writes.buffers)
 
 -- what all have this one has
 all_at : (P : Message → Type 0) (done : List Message) (m : Message) (rest : List Message) → All P (done ++ m ∷ rest) → P m
@@ -429,9 +471,10 @@ first_there [] present = cc
 first_there (m ∷ ms) present = (m, ms, refl)
 
 -- a read keeps what failure is kept
-fault_around : (l : LogView) (at : ℕ) (bs : List BufferAt) → (read_around l at bs).fault ≡ l.fault
-fault_around l at bs = by (nat_lt at l.synced) where
-  by : (o : Bool) → (if o then l else view_flushed l (spans_without at (sealed_around at l)) (start_around at l) l.fault (account_behind (one_around at bs) l.account)).fault ≡ l.fault
+fault_around : (size : ℕ) (l : LogView) (at : ℕ) (bs : List BufferAt) → (read_around size l at bs).fault ≡ l.fault
+fault_around size l at bs = by (nat_lt at l.synced) where
+  by : (o : Bool) → (if o then l else view_flushed l (spans_without at (sealed_around at l)) (start_around at l) l.fault (ledger_behind size (one_around at bs) (ledger_around at l))
+      (position_around size at l)).fault ≡ l.fault
   by true = refl
   by false = refl
 
@@ -464,7 +507,6 @@ module _ {D C : Type 0} (view : D → DeviceView) (sum : List ℕ → ℕ) (old 
       zeros = is.zeros;
       unmarked = is.unmarked;
       fits = only.preserves.fits k.history k.acknowledged k.floor is.unmarked is.fits;
-      pinned = only.position.pins ∙ is.pinned;
       given_up = λ m given. is.given_up m (only.tickets.given_up m given);
       heads = among;
     }
@@ -509,7 +551,8 @@ module _ {D C : Type 0} (view : D → DeviceView) (sum : List ℕ → ℕ) (old 
           let l : LogView = seen_log old begun k.tickets k.given_up k.heads in
           let now : LogView = seen_log mid begun k.tickets k.given_up heads in
           let got = reads.item (begun_with k heads) one.message begun (is_read k heads so.1 some.only is) one.of one.place one.pointer in
-          let so_read = of_size sum (segment_size_of mid) (segment_size_of old) some.only.position.size now (read_at one.message) (view (device_of mid)) (view (device_of new)) got.2 in (
+          let end : LogView = seen_log new begun k.tickets k.given_up (heads_at now (start_of new)) in
+          let so_read = subst (λ n. WasRead sum n now (read_at one.message) (view (device_of mid)) (view (device_of new)) end) some.only.position.size (got.2, got.3) in (
             heads_at now (start_of new),
             heads_kept sum mid new begun k.tickets k.given_up heads (only_begun sum mid new reads.marked) so.1,
             record {
@@ -517,10 +560,10 @@ module _ {D C : Type 0} (view : D → DeviceView) (sum : List ℕ → ℕ) (old 
               left = one.later;
               split = one.split ∙ sym (append_assoc came.done (one.message ∷ []) one.later);
               entries = one.others;
-              reads = subst (λ (x : LogView). ReadsAll sum (segment_size_of old) l (came.done ++ one.message ∷ []) (view (device_of old)) (view (device_of new)) x) (sym (got.3 ∙ ap (read_around now (read_at one.message)) (sym so_read.1)))
+              reads = subst (λ (x : LogView). ReadsAll sum (segment_size_of old) l (came.done ++ one.message ∷ []) (view (device_of old)) (view (device_of new)) x) (sym so_read.1)
                   (reads_more sum (segment_size_of old) came.done one.message l now (view (device_of old)) (view (device_of mid)) (view (device_of new)) came.reads so_read.0);
               items_are = map-append (λ (v : Vec ℕ Global). v.items) items (item ∷ []) ∙ (λ i. came.items_are i ++ got.0 i ∷ []) ∙ sym (map-append (λ (m : Message). m.bytes) came.done (one.message ∷ []));
-              sound = ap (λ (x : LogView). x.fault) got.3 ∙ fault_around now (read_at one.message) got.2.writes.buffers ∙ came.sound;
+              sound = ap (λ (x : LogView). x.fault) so_read.1 ∙ fault_around (segment_size_of old) now (read_at one.message) so_read.0.writes.buffers ∙ came.sound;
             },
           );
     }
@@ -620,7 +663,7 @@ page_found states seen page s p same lt at is =
     subst (λ xs. get_or (map page_of xs) page Uninitialized ≡ p) same (get_or-map page_of seen page s Uninitialized lt ∙ ap page_of (sym at) ∙ is)
 
 -- The messages of a page that is present are read, and the log stays open.
-module _ {D C : Type 0} (view : D → DeviceView) (sum : List ℕ → ℕ) (opened : Opened D C) (page : ℕ) (k : Unstored) (at : IsOpenAt (traces view) sum opened k) (new : Log D C) (base : Entry) (frags : List Entry) (r : Result (Vec (Vec ℕ Global) Global) Error)
+module _ {D C : Type 0} (view : D → DeviceView) (sum : List ℕ → ℕ) (opened : Opened D C) (page : ℕ) (k : Unstored) (at : IsOpenAt (traces view) sum opened k) (none : opened.due ≡ None) (new : Log D C) (base : Entry) (frags : List Entry) (r : Result (Vec (Vec ℕ Global) Global) Error)
     (has : get_or (map page_of opened.pages.items) page Uninitialized ≡ Present base frags) (reads : ReadsEntries view sum opened.log page (base ∷ frags) new r) where
   -- what is kept in mind then
   abbrev pub read_with : List MarkAt → Unstored
@@ -630,11 +673,10 @@ module _ {D C : Type 0} (view : D → DeviceView) (sum : List ℕ → ℕ) (open
       × ReadStep sum (segment_size_of opened.log) (stands view (Open opened) k) (seen opened k.tickets k.given_up k.heads) (page_now k.history page) (page_told r) (view (device_of new)) (stands view (Open (over opened new)) (read_with heads))
   page_read =
       let present = page_present k.history (map page_of opened.pages.items) page base frags at.table has in
-      reads.step k (page_now k.history page) (length opened.pages.items) (stands view (Open opened) k) (record { made = at.made; zeros = at.zeros; unmarked = at.unmarked; fits = at.fits; pinned = at.pinned; given_up = at.given_up; heads = at.heads })
+      reads.step k (page_now k.history page) (length opened.pages.items) (stands view (Open opened) k) (record { made = at.made; zeros = at.zeros; unmarked = at.unmarked; fits = at.fits; given_up = at.given_up; heads = at.heads })
       (all_of_page k.history (reserved_end opened.log) page at.made at.ends) (sym present.entries) present.present refl refl
 
   pub open_still : IsOpenAt (traces view) sum (over opened new) (read_with page_read.0)
   open_still =
-      let keeps = writing_pinned (traces view) sum opened.log new (is_out opened.log at.pinned) reads.only in
-      still_with (traces view) sum opened new k k.acknowledged page_read.0 page_read.1 at keeps.tickets keeps.position keeps.preserves.goes_on.sound
-      keeps.preserves (keeps.preserves.fits k.history k.acknowledged k.floor at.unmarked at.fits)
+      still_with (traces view) sum opened new k k.acknowledged page_read.0 page_read.1 at (put_writing (traces view) sum opened.log new reads.only)
+      (due_none opened.log new k.history opened.due at.unmarked none at.due) (reads.only.preserves.fits k.history k.acknowledged k.floor at.unmarked at.fits)

@@ -1,19 +1,25 @@
 -- The slots of a log as they are seen: where its next record may begin with slots left as a machine has them, and what a call that writes begins with.
-use Rattle.std.proofs.Common.{◌≡◌, ◌≤◌, ◌<◌, ◌+◌, ◌*◌, nat_le, nat_lt, if◌then◌else◌, refl, arith, ℕ, Bool, true, false, List, length, map, Option}
+use Rattle.std.proofs.Common.{◌≡◌, ◌≢◌, ◌≤◌, ◌<◌, ◌+◌, ◌*◌, nat_le, nat_lt, if◌then◌else◌, refl, subst, arith, ℕ, Bool, true, false, List, [], length, map, Option}
+use Rattle.std.specs.Prelude.{Err}
 use Rattle.std.proofs.lemmas.Bool.Decides.{nat_tests}
+use Rattle.sled_codec.specs.declared.result.Error.TheVariants.{Io}
 use Rattle.sled_codec.specs.History.{Message}
-use Rattle.sled_store.specs.SegmentStates.{Machine, handed_out, next_slot}
+use Rattle.sled_store.specs.Device.{Trace}
+use Rattle.sled_store.specs.SegmentStates.{Machine, handed_out, next_slot, stabilized}
+use Rattle.sled_store.specs.Stabilizing.{MovesSlots}
+use Rattle.sled_core.specs.Account.{account_of}
 use Rattle.sled_core.specs.Begun.{SegmentView, begin_of, segment_view}
 use Rattle.sled_core.specs.declared.logger.Log.{Log}
-use Rattle.sled_core.specs.Fits.{current_begin, current_of, ledger_for, ledger_of, ledger_sealed, machine_at, position_of, position_sealed, position_with, reserved_end, segment_size_of}
-use Rattle.sled_core.specs.Freeing.{Ledger}
-use Rattle.sled_core.specs.Keeps.{position_for}
+use Rattle.sled_core.specs.Fits.{current_begin, current_of, device_of, fault_of, ledger_for, ledger_of, ledger_sealed, machine_at, position_sealed, position_with, reserved_end, segment_size_of}
+use Rattle.sled_core.specs.Fronts.{IsOnTheWay}
+use Rattle.sled_core.specs.Keeps.{FailedStep, position_for}
 use Rattle.sled_core.specs.Positions.{Position, is_short, next_segment_at, position_in}
 use Rattle.sled_core.specs.ReadBuffer.{ledger_at, position_at}
 use Rattle.sled_core.proofs.Line.Entered.{filled_last}
 use Rattle.sled_log.specs.RunPhases.{seen_log}
 use Rattle.sled_log.specs.RunSlots.{ledger_around, ledger_below, ledger_in, ledger_sealed_in, position_around, position_below, position_over, position_sealed_in}
 use Rattle.sled_log.specs.RunStates.{LogView, MarkAt}
+use Rattle.sled_log.specs.WriteSteps.{StepFailed}
 
 -- With other slots a position is where it was, but that a further segment takes the next one that is free.
 module _ (size : ℕ) (v : SegmentView) (old m : Machine) (some : begin_of v < size) where
@@ -90,3 +96,20 @@ module _ {D C : Type 0} (log : Log D C) (begun : ℕ) (tickets : List (Option Me
     by : (o : Bool) → (if o then ledger_sealed log else ledger_of log) ≡ (if o then ledger_sealed_in l else ledger_in l)
     by true = refl
     by false = refl
+
+  -- The step behind the write of a buffer failed that began with these slots.
+  pub step_failed : (trace : D → Trace) (new : Log D C) (slots from : Machine) (after : Trace) → slots ≡ from → segment_size_of new ≡ size → trace (device_of new) ≡ after → FailedStep log new → IsOnTheWay trace new slots
+      → StepFailed size l (account_of new).mark from (machine_at new) (fault_of new) after
+  step_failed trace new slots from after begins same came failed way =
+      let mark = (account_of new).mark in
+      let sized = subst (λ n. MovesSlots {T = Unit {0}} n mark (Err (Io way.fault)) slots (machine_at new) way.before (trace (device_of new))) same way.moved in
+      let begun_there = subst (λ (m : Machine). MovesSlots {T = Unit {0}} size mark (Err (Io way.fault)) m (machine_at new) way.before (trace (device_of new))) begins sized in
+      let moved = subst (λ (t : Trace). MovesSlots {T = Unit {0}} size mark (Err (Io way.fault)) from (machine_at new) way.before t) came begun_there in
+      record {
+        unpinned = failed.unpinned;
+        failure = failed.fault;
+        kept = failed.kept;
+        before = way.before;
+        moved = record { mid = moved.mid; between = moved.between; calls = moved.calls; moves = moved.moves; made = moved.made; end = moved.end; all = tt };
+        due = subst (λ (m : Machine). (stabilized size mark m).calls ≢ []) begins (subst (λ n. (stabilized n mark slots).calls ≢ []) same way.due);
+      }

@@ -1,7 +1,7 @@
 -- What writing buffers comes to in a session: what is seen of those that are written and of those that are left, what holds them up, and where the run stands then.
-use Rattle.std.proofs.Common.{◌≡◌, ◌∙◌, ◌≤◌, ◌<◌, ◌+◌, ◌-◌, ◌*◌, ◌/◌, ◌^◌, ◌==◌, ◌⊎◌, inl, inr, nat_lt, if◌then◌else◌, max, ℕ, pos, zero, suc, Bool, true, false, List, [], ◌∷◌, ◌++◌, length, map, take, drop, Option, None, Some, ap, sym, subst, refl, arith}
+use Rattle.std.proofs.Common.{◌≡◌, ◌∙◌, ◌≤◌, ◌<◌, ◌+◌, ◌-◌, ◌/◌, ◌^◌, ◌==◌, ◌⊎◌, inl, inr, nat_lt, if◌then◌else◌, max, ℕ, pos, zero, suc, Bool, true, false, List, [], ◌∷◌, ◌++◌, length, map, take, drop, Option, None, Some, ap, sym, subst, refl, arith}
 use Rattle.std.specs.Prelude.{Err}
-use Rattle.std.specs.List.{All, Contains}
+use Rattle.std.specs.List.{All, Contains, slice_get}
 use Rattle.std.specs.declared.io.Error.{Error as IoError}
 use Rattle.std.proofs.lemmas.Bool.Decides.{nat_tests}
 use Rattle.std.proofs.lemmas.Bool.{cases_lt}
@@ -13,64 +13,87 @@ use Rattle.sled_codec.specs.History.{Batch, History, Message}
 use Rattle.sled_codec.specs.Record.{short_record}
 use Rattle.sled_store.specs.Accounts.{machine_of}
 use Rattle.sled_store.specs.Blobs.{UnlessFault}
-use Rattle.sled_store.specs.Device.{Event, Trace}
+use Rattle.sled_store.specs.Device.{Event, Synced, Trace}
 use Rattle.sled_store.specs.Script.{Performs, after_all}
-use Rattle.sled_log.proofs.Sessions.Accounts.{account_above, account_front, front_short}
-use Rattle.sled_log.proofs.Sessions.BegunHeads.{HasOnlyBegun, heads_kept, heads_still}
-use Rattle.sled_core.specs.Account.{Account, account_behind, account_of}
-use Rattle.sled_core.specs.Fillings.{FillingAt}
-use Rattle.sled_core.specs.Heads.{HeadAt}
-use Rattle.sled_core.proofs.Line.Among.{among_behind}
+use Rattle.sled_store.specs.SegmentStates.{Machine}
+use Rattle.sled_core.specs.Account.{account_of}
+use Rattle.sled_core.specs.Among.{AreAmong}
 use Rattle.sled_core.specs.Begun.{begin_of, segment_view}
 use Rattle.sled_core.specs.Causes.{Answers, HeldAnswers, IsHeld, OnDone}
 use Rattle.sled_core.specs.declared.logger.Log.{Log}
-use Rattle.sled_core.specs.Fits.{FirstWaits, IsUsedUp, IsUsedUpBelow, KeepsTickets, buffers_of, current_begin, current_of, device_of, fault_of, given_up_of, held_len, holding_below, ledger_for, noted_in, open_places, pending_of, pins_of, position_of, reserved_end, sealing_end, segment_size_of, stable_end, start_of, synced_end, waiting_of, writing_below, fillings_of, heads_of}
+use Rattle.sled_core.specs.Fillings.{FillingAt}
+use Rattle.sled_core.specs.Fits.{FirstWaits, IsUsedUp, IsUsedUpBelow, KeepsTickets, buffers_of, current_begin, current_of, fault_of, fillings_of, given_up_of, heads_of, held_len, holding_below, ledger_for, ledger_of, machine_at, noted_in, open_places, pending_of, pins_of, position_of, position_with, reserved_end, sealing_end, segment_size_of, stable_end, start_of, synced_end, waiting_of, writing_below, writing_some, device_of}
 use Rattle.sled_core.specs.Freeing.{Ledger}
 use Rattle.sled_core.specs.Fronts.{CameTo, synced_writes, syncs}
-use Rattle.sled_core.specs.Among.{AreAmong}
-use Rattle.sled_core.specs.Keeps.{LeavesAbove, Preserves, SamePosition, sealed_for, start_for, start_sealed}
-use Rattle.sled_core.specs.OpenPlaces.{first_between}
-use Rattle.sled_core.specs.Positions.{next_segment_at, is_short}
-use Rattle.sled_core.specs.invariants.Running.{Fits}
-use Rattle.sled_core.specs.Running.{end_below}
-use Rattle.sled_core.specs.SealedBuffers.{writing}
+use Rattle.sled_core.specs.Heads.{HeadAt}
+use Rattle.sled_core.specs.Keeps.{KeepsWriting, LeavesAbove, Preserves, SamePosition, position_for, sealed_for, start_for, start_sealed}
+use Rattle.sled_core.specs.Ledger.{ledger_behind, writings}
 use Rattle.sled_core.specs.OpenBatches.{not_whole, stable_below}
-use Rattle.sled_core.specs.Waiting.{BufferAt, BufferStart, HasLength, Span, first_held, free_below, held_below, is_unheld, not_below, pending_in, spans, unless_held, without_pending, writes_below}
-use Rattle.sled_core.specs.inside.Waiting.{begun_below}
+use Rattle.sled_core.specs.OpenPlaces.{first_between}
+use Rattle.sled_core.specs.Positions.{Position, next_segment_at, is_short}
+use Rattle.sled_core.specs.invariants.Running.{Fits}
+use Rattle.sled_core.specs.Running.{IsStored, end_below}
+use Rattle.sled_core.specs.Waiting.{BufferAt, BufferStart, HasLength, Span, first_held, free_below, front_below, held_below, is_unheld, not_below, pending_in, spans, without_pending}
 use Rattle.sled_core.specs.WholeBuffers.{AreRecordsAmong, IsWholeBuffer, RecordParts}
-use Rattle.sled_core.proofs.Line.Entered.{filled_last}
+use Rattle.sled_core.proofs.Line.Among.{among_behind}
+use Rattle.sled_core.proofs.Line.Current.{current_free}
 use Rattle.sled_core.proofs.Holds.Facts.{current_facts}
+use Rattle.sled_core.proofs.Line.LineEnds.{noted_still}
 use Rattle.sled_core.proofs.Line.Positions.{end_seen, next_seen}
+use Rattle.sled_core.proofs.Line.Segments.{line_segments}
 use Rattle.sled_core.proofs.Line.Settles.{stable_up}
 use Rattle.sled_core.proofs.Line.Shows.{buffers_add}
-use Rattle.sled_core.proofs.PublicLaws.{buffers_held, buffers_whole, first_waits, fits_holds, pinned_at, pinned_below, pinned_some, pinned_synced, shows_current, shows_empty, shows_long}
+use Rattle.sled_core.proofs.PublicLaws.{buffers_held, buffers_whole, first_waits, fits_holds, shows_current, shows_empty, shows_long, synced_as_first}
 use Rattle.sled_core.proofs.Reached.OpenBatch.{whole_not}
 use Rattle.sled_log.specs.declared.session.opened.Opened.{Opened}
+use Rattle.sled_log.specs.declared.session.marking.Due.{Due}
 use Rattle.sled_log.specs.declared.session.command.Refusal.{Refusal}
 use Rattle.sled_log.specs.Refusals.{when}
-use Rattle.sled_log.specs.RunPhases.{HasHeads, IsOpenAt, IsTicketFor, Unstored, seen_log, seen}
-use Rattle.sled_log.specs.WriteSteps.{FailsTo, HasWrittenTo, IfHeld, IsWhy, KeepsFailing, ShowsBuffers, view_flushed, holding, left_from, stable_from, synced_from, writes_free, written_below, filled_by, fillings_seen, headed}
-use Rattle.sled_log.proofs.Sessions.SafeItems.{safe_on}
-use Rattle.sled_log.specs.RunStates.{DeviceView, EndsInReach, LogView, RunState, count_unheld, current_span, first_waiting, held, held_among, next_start, opens, pending_in_view, sealed_below, spans_below, spans_from, start_below, with_log, without_unheld, MarkAt, heads_at}
+use Rattle.sled_log.specs.RunPhases.{AreUnmarked, HasHeads, IsOpenAt, IsTicketFor, Unstored, seen_log, seen}
+use Rattle.sled_log.specs.RunSlots.{ledger_below, position_below}
+use Rattle.sled_log.specs.RunStates.{DeviceView, DueMark, EndsInReach, LogView, MarkAt, RunState, count_unheld, current_span, first_waiting, heads_at, held_among, next_start, open_messages, opens, pending_in_view, sealed_below, spans_below, spans_from, start_below, with_log, without_unheld}
+use Rattle.sled_log.specs.WriteSteps.{FailsTo, HasWrittenTo, IfHeld, IsWhy, KeepsFailing, ShowsBuffers, filled_by, fillings_seen, headed, holding, ledger_after, left_from, stable_from, synced_from, view_flushed}
+use Rattle.sled_log.proofs.Sessions.BegunHeads.{HasOnlyBegun, heads_kept, heads_still}
+use Rattle.sled_log.proofs.Sessions.SlotsSeen.{below_seen, filled, ledger_below_seen, step_failed}
 
--- The next record of a log begins where it did, what was reserved ends there, the same reservations are open, and as many pins are out.
-pub record StaysPut {D C : Type 0} (old new : Log D C) : Type 0 where
-  pub position : position_of new ≡ position_of old
+-- What was reserved of a log ends there, tickets are for what they were for, and as many pins are out. While one is no crash takes an item that none took.
+pub record StaysPut {D C : Type 0} (trace : D → Trace) (sum : List ℕ → ℕ) (old new : Log D C) : Type 0 where
+  pub tickets : KeepsTickets old new
   pub reserved : reserved_end new ≡ reserved_end old
   pub opens : open_places new ≡ open_places old
   -- of the batches those are left that aren't wholly on the device
   pub noted : noted_in new ≡ not_whole (synced_end new) (noted_in old)
   pub pins : pins_of new ≡ pins_of old
+  pub size : segment_size_of new ≡ segment_size_of old
+  -- a log that keeps no failure kept none
+  pub sound : fault_of new ≡ None → fault_of old ≡ None
+  pub items : fault_of new ≡ None → (m : Message) → 0 < pins_of old → IsStored trace sum old m → IsStored trace sum new m
 
-pub stays_put : {D C : Type 0} (trace : D → Trace) (sum : List ℕ → ℕ) (old new : Log D C) → KeepsTickets old new → SamePosition old new → Preserves trace sum old new → StaysPut old new
-stays_put trace sum old new tickets position keeps = record { position = position.position; reserved = position.reserved; opens = tickets.opens; noted = keeps.noted; pins = position.pins }
+-- So it is with a call that writes,
+pub put_writing : {D C : Type 0} (trace : D → Trace) (sum : List ℕ → ℕ) (old new : Log D C) → KeepsWriting trace sum old new → StaysPut trace sum old new
+put_writing trace sum old new keeps = record {
+  tickets = keeps.tickets;
+  reserved = keeps.position.reserved;
+  opens = keeps.tickets.opens;
+  noted = keeps.preserves.noted;
+  pins = keeps.position.pins;
+  size = keeps.position.size;
+  sound = keeps.preserves.goes_on.sound;
+  items = λ none m out. keeps.preserves.goes_on.items none m (inl out);
+}
 
--- a log that keeps no failure kept none, where one that does is left as it was
-pub was_free : {D C : Type 0} (old new : Log D C) → ((e : IoError) → fault_of old ≡ Some e → new ≡ old) → fault_of new ≡ None → fault_of old ≡ None
-was_free old new same none = by (fault_of old) refl where
-  by : (o : Option IoError) → fault_of old ≡ o → fault_of old ≡ None
-  by None is = is
-  by (Some e) is = absurd (let both : Some e ≡ None = sym is ∙ ap fault_of (sym (same e is)) ∙ none in cc)
+-- and with one that frees nothing.
+pub put_log : {D C : Type 0} (trace : D → Trace) (sum : List ℕ → ℕ) (old new : Log D C) → KeepsTickets old new → SamePosition old new → Preserves trace sum old new → StaysPut trace sum old new
+put_log trace sum old new tickets position keeps = record {
+  tickets = tickets;
+  reserved = position.reserved;
+  opens = tickets.opens;
+  noted = keeps.noted;
+  pins = position.pins;
+  size = position.size;
+  sound = keeps.goes_on.sound;
+  items = λ none m out. keeps.goes_on.items none m tt;
+}
 
 -- A buffer that is whole where these were given up is where more were.
 more_records : (sum : List ℕ → ℕ) (number : ℕ) (these all : List Message) → AreAmong these all → (place : ℕ) (rs : List RecordParts) → AreRecordsAmong sum number these place rs → AreRecordsAmong sum number all place rs
@@ -119,15 +142,7 @@ whole_of trace sum log given_up heads H A f U among has fits none =
 
 -- Buffers as they are seen.
 
--- those that begin below a place
-pub below_seen : (to : ℕ) (bs : List BufferAt) → spans (begun_below to bs) ≡ spans_below to (spans bs)
-below_seen to [] = refl
-below_seen to (b ∷ bs) = by (below_seen to bs) (nat_lt b.place to) where
-  by : spans (begun_below to bs) ≡ spans_below to (spans bs) → (o : Bool) → spans (if o then b ∷ begun_below to bs else []) ≡ (if o then record { place = b.place; end = b.end; lid = b.lid } ∷ spans_below to (spans bs) else [])
-  by rest true = ap (λ (l : List Span). record { place = b.place; end = b.end; lid = b.lid } ∷ l) rest
-  by rest false = refl
-
--- and the others
+-- those that begin at a place or behind it
 pub above_seen : (to : ℕ) (bs : List BufferAt) → spans (not_below to bs) ≡ spans_from to (spans bs)
 above_seen to [] = refl
 above_seen to (b ∷ bs) = by (above_seen to bs) (nat_lt b.place to) where
@@ -151,26 +166,10 @@ below_front to (x ∷ xs) s far = by (below_front to xs s far) (nat_lt x.place t
   by rest true = ap (λ (l : List Span). x ∷ l) rest
   by rest false = refl
 
--- what all buffers have those have that begin below a place
-pub below_all : (P : BufferAt → Type 0) (to : ℕ) (bs : List BufferAt) → All P bs → All P (begun_below to bs)
-below_all P to [] all = all
-below_all P to (b ∷ bs) all = by (nat_lt b.place to) (All-head P b bs all) (below_all P to bs (All-tail P b bs all)) where
-  by : (o : Bool) → P b → All P (begun_below to bs) → All P (if o then b ∷ begun_below to bs else [])
-  by true here rest = All-cons P b (begun_below to bs) here rest
-  by false here rest = All-nil P
-
--- and so have those in front of others
+-- what all buffers have those have in front of others
 pub all_front : (P : BufferAt → Type 0) (bs cs : List BufferAt) → All P (bs ++ cs) → All P bs
 all_front P [] cs all = All-nil P
 all_front P (b ∷ bs) cs all = All-cons P b bs (All-head P b (bs ++ cs) all) (all_front P bs cs (All-tail P b (bs ++ cs) all))
-
--- Those that begin below a place are written up to the first that is held up.
-pub below_writes : (to : ℕ) (bs : List BufferAt) → writes_below to bs ≡ writes_free (begun_below to bs)
-below_writes to [] = refl
-below_writes to (b ∷ bs) = by (below_writes to bs) (nat_lt b.place to) where
-  by : writes_below to bs ≡ writes_free (begun_below to bs) → (o : Bool) → (if o then unless_held b.held (writing b.lid b.bytes (writes_below to bs)) else []) ≡ writes_free (if o then b ∷ begun_below to bs else [])
-  by rest true = ap (λ (es : List Event). unless_held b.held (writing b.lid b.bytes es)) rest
-  by rest false = refl
 
 -- What holds them up.
 
@@ -228,20 +227,16 @@ module _ {D C : Type 0} (log : Log D C) (sum : List ℕ → ℕ) (begun : ℕ) (
   abbrev size : ℕ
   size = segment_size_of log
 
-  -- the current buffer begins within its segment, and what was reserved ends with its bytes at most
-  pub filled : (begin_of (current_of log) < size) × (reserved_end log ≤ (current_of log).parts.site.place + length (current_of log).parts.bytes)
-  filled = let is = filled_last size (reserved_end log) (segment_view log.segments.first) (map segment_view log.segments.behind.items) log.line.filled in (is.0, is.1)
-
   pub begins : begin_of (current_of log) ≤ length (current_of log).parts.bytes
   begins = (current_facts log).begins
 
   -- The current buffer, as the view has it.
 
   pub span_seen : record { place = current_begin log; end = sealing_end log; lid = (start_of log).lid } ≡ current_span l l.position
-  span_seen = ap (λ n. record { place = current_begin log; end = n; lid = (start_of log).lid }) (sym (end_seen size (current_of log) (machine_of log.accountant) filled.0 begins))
+  span_seen = ap (λ n. record { place = current_begin log; end = n; lid = (start_of log).lid }) (sym (end_seen size (current_of log) (machine_of log.accountant) (filled log).0 begins))
 
   pub next_start_seen : start_sealed log ≡ next_start l l.position
-  next_start_seen = sym (next_seen size (current_of log) (machine_of log.accountant) filled.0 begins)
+  next_start_seen = sym (next_seen size (current_of log) (machine_of log.accountant) (filled log).0 begins)
 
   -- A flush needs a further segment where the next record would begin one that isn't in reach.
   pub flush_out : IsUsedUp log → EndsInReach size l.position → ⊥
@@ -316,36 +311,92 @@ module _ {D C : Type 0} (log : Log D C) (sum : List ℕ → ℕ) (begun : ℕ) (
   pub pending_seen : pending_of log ≡ pending_in_view l
   pending_seen = count_seen (opens l) (waiting_of log) waiting_held
 
-  -- Where a run stands that goes on with another log in the same place, over a device that is seen so.
-  module _ (new : Log D C) (device now : DeviceView) (H : History) (A f : ℕ) (position : StaysPut log new) where
+  -- Where a run stands that goes on with another log, over a device that is seen so.
+  module _ (trace : D → Trace) (new : Log D C) (device now : DeviceView) (H : History) (A f : ℕ) (due : Option DueMark) (put : StaysPut trace sum log new) where
     abbrev pub before : RunState
-    before = record { device = device; history = H; acknowledged = A; floor = f; log = Some l }
+    before = record { device = device; history = H; acknowledged = A; floor = f; log = Some l; due = due }
 
     abbrev pub after : ℕ → RunState
-    after reached = record { device = now; history = H; acknowledged = reached; floor = f; log = Some (seen_log new begun tickets given_up (heads_at l (start_of new))) }
+    after reached = record { device = now; history = H; acknowledged = reached; floor = f; log = Some (seen_log new begun tickets given_up (heads_at l (start_of new))); due = due }
 
-    pub leaves : (waiting : List Span) (start : BufferStart) (fault : Option IoError) (account : Account) → spans (waiting_of new) ≡ waiting → start_of new ≡ start → fault_of new ≡ fault → account_of new ≡ account
-        → after A ≡ with_log before now (Some (view_flushed l waiting start fault account))
-    leaves waiting start fault account left from kept marks =
+    -- with these buffers left, these slots and marks, and the next record there
+    pub leaves : (reached : ℕ) (waiting : List Span) (start : BufferStart) (fault : Option IoError) (ledger : Ledger) (place : Machine → Position) → spans (waiting_of new) ≡ waiting → start_of new ≡ start → fault_of new ≡ fault
+        → ledger_of new ≡ ledger → ((m : Machine) → position_with new m ≡ place m)
+        → after reached ≡ record { device = now; history = H; acknowledged = reached; floor = f; log = Some (view_flushed l waiting start fault ledger place); due = due }
+    leaves reached waiting start fault ledger place left from kept slots lies =
         let synced : synced_end new ≡ first_waiting waiting start = first_seen new ∙ (λ i. first_waiting (left i) (from i)) in
-        let noted : noted_in new ≡ not_whole (first_waiting waiting start) (noted_in log) = position.noted ∙ ap (λ n. not_whole n (noted_in log)) synced in
+        let noted : noted_in new ≡ not_whole (first_waiting waiting start) (noted_in log) = put.noted ∙ ap (λ n. not_whole n (noted_in log)) synced in
+        let position : position_of new ≡ place ledger.machine = lies (machine_at new) ∙ ap (λ (x : Ledger). place x.machine) slots in
+        λ i. record {
+          device = now;
+          history = H;
+          acknowledged = reached;
+          floor = f;
+          log = Some (record { position = position i; synced = synced i; noted = noted i; end = put.reserved i; waiting = left i; start = from i; begun = begun; fault = kept i; outstanding = put.opens i; tickets = tickets; given_up = given_up; heads = heads_at l (from i); pins = put.pins i; machine = (slots i).machine; account = (slots i).account });
+          due = due;
+        }
+
+    -- or as it was
+    pub left_alone : waiting_of new ≡ waiting_of log → start_of new ≡ start_of log → fault_of new ≡ fault_of log → ledger_of new ≡ ledger_of log → ((m : Machine) → position_with new m ≡ position_with log m) → after A ≡ with_log before now (Some l)
+    left_alone left from kept slots lies =
+        let synced : synced_end new ≡ synced_end log = synced_as_first log new left from in
+        let noted : noted_in new ≡ noted_in log = put.noted ∙ ap (λ n. not_whole n (noted_in log)) synced ∙ sym (noted_still log) in
+        let position : position_of new ≡ position_of log = lies (machine_at new) ∙ ap (λ (x : Ledger). position_with log x.machine) slots in
+        let marks : heads_at l (start_of new) ≡ heads = ap (heads_at l) from ∙ heads_still l in
         λ i. record {
           device = now;
           history = H;
           acknowledged = A;
           floor = f;
-          log = Some (record { position = position.position i; synced = synced i; noted = noted i; end = position.reserved i; waiting = left i; start = from i; begun = begun; fault = kept i; outstanding = position.opens i; tickets = tickets; given_up = given_up; heads = heads_at l (from i); pins = position.pins i; account = marks i });
+          log = Some (record { position = position i; synced = synced i; noted = noted i; end = put.reserved i; waiting = spans (left i); start = from i; begun = begun; fault = kept i; outstanding = put.opens i; tickets = tickets; given_up = given_up; heads = marks i; pins = put.pins i; machine = (slots i).machine; account = (slots i).account });
+          due = due;
         }
 
   -- Once what begins below a place is sealed.
   module _ (to : ℕ) where
     -- so much was reserved
     pub some_reserved : to ≤ reserved_end log → current_begin log < to → 0 < held_len log
-    some_reserved le less = let is = filled in let low = begins in omega (arith, le, less, is.1, low)
+    some_reserved le less = let is = filled log in let low = begins in omega (arith, le, less, is.1, low)
 
     -- or nothing of that is in the current buffer
     pub some_stable : to ≤ synced_end log → current_begin log < to → 0 < held_len log
     some_stable le less = let up = stable_up log (pos (current_begin log)) (omega (arith, ints)) in absurd (omega (arith, ints, le, less, up))
+
+    -- the sealed buffers then, and the calls that write those of them that begin below the place
+    abbrev pub its_buffers : List BufferAt
+    its_buffers = sealed_for sum to log
+
+    abbrev pub its_writings : List Event
+    its_writings = writings size (free_below to its_buffers) (ledger_below to l)
+
+    sealed_all : (P : BufferAt → Type 0) → All P (buffers_of sum log) → All P its_buffers
+    sealed_all P all = by (nat_lt (current_begin log) to) where
+      by : (o : Bool) → All P (if o then buffers_of sum log else waiting_of log)
+      by true = all
+      by false = sealed_too P all
+
+    -- The current buffer is none of these where it begins at the place or behind it.
+    pub free_seen : free_below to (buffers_of sum log) ≡ free_below to its_buffers
+    free_seen = by (nat_lt (current_begin log) to) refl where
+      by : (o : Bool) → nat_lt (current_begin log) to ≡ o → free_below to (buffers_of sum log) ≡ free_below to (if o then buffers_of sum log else waiting_of log)
+      by true is = refl
+      by false is =
+          let far : to ≤ current_begin log = grind (arith, nat_tests, is) in
+          current_free sum size log.segments.first.site.place to (segment_view log.segments.first) (map segment_view log.segments.behind.items) (line_segments log) far
+
+    pub writes_seen : writing_below sum log to ≡ its_writings
+    writes_seen = λ i. writings size (free_seen i) (ledger_below_seen log begun tickets given_up heads to i)
+
+    pub made_seen : (old new : Trace) → new ≡ after_all (writing_below sum log to) old → new ≡ after_all its_writings old
+    made_seen old new made = subst (λ (es : List Event). new ≡ after_all es old) writes_seen made
+
+    -- so many of them at the front
+    pub some_seen : (count : ℕ) → writing_some count sum log to ≡ writings size (take count (free_below to its_buffers)) (ledger_below to l)
+    some_seen count = λ i. writings size (take count (free_seen i)) (ledger_below_seen log begun tickets given_up heads to i)
+
+    -- where the next record may begin then
+    pub lies_below : (new : Log D C) → ((m : Machine) → position_with new m ≡ position_for to log m) → (m : Machine) → position_with new m ≡ position_below size to l m
+    lies_below new position m = position m ∙ below_seen log begun tickets given_up heads to m
 
     module _ (some : current_begin log < to → 0 < held_len log) where
       -- The sealed buffers and where the current one begins, once it is sealed.
@@ -363,34 +414,26 @@ module _ {D C : Type 0} (log : Log D C) (sum : List ℕ → ℕ) (begun : ℕ) (
         by false = refl
 
       -- of all buffers those that begin below the place are seen, whether the current one is among them or not
-      pub flushed_seen : spans (begun_below to (buffers_of sum log)) ≡ spans_below to (sealed_below to l)
-      flushed_seen =
-          below_seen to (buffers_of sum log)
-          ∙ by (nat_lt (current_begin log) to) refl (cases_lt 0 (held_len log)) where
-            by : (o : Bool) → nat_lt (current_begin log) to ≡ o → (0 < held_len log) ⊎ (held_len log ≤ 0)
-                → spans_below to (spans (buffers_of sum log)) ≡ spans_below to (if o then spans (waiting_of log) ++ current_span l l.position ∷ [] else spans (waiting_of log))
-            by true is any = ap (spans_below to) (shows_current sum log (some (grind (arith, nat_tests, is))) ∙ ap (λ (s : Span). spans (waiting_of log) ++ s ∷ []) span_seen)
-            by false is (inl any) =
-                ap (spans_below to) (shows_current sum log any)
-                ∙ below_front to (spans (waiting_of log)) (record { place = current_begin log; end = sealing_end log; lid = (start_of log).lid }) (grind (arith, nat_tests, is))
-            by false is (inr none) = ap (λ (bs : List BufferAt). spans_below to (spans bs)) (shows_empty sum log (omega (arith, none)))
+      pub flushed_seen : spans_below to (spans (buffers_of sum log)) ≡ spans_below to (sealed_below to l)
+      flushed_seen = by (nat_lt (current_begin log) to) refl (cases_lt 0 (held_len log)) where
+        by : (o : Bool) → nat_lt (current_begin log) to ≡ o → (0 < held_len log) ⊎ (held_len log ≤ 0)
+            → spans_below to (spans (buffers_of sum log)) ≡ spans_below to (if o then spans (waiting_of log) ++ current_span l l.position ∷ [] else spans (waiting_of log))
+        by true is any = ap (spans_below to) (shows_current sum log (some (grind (arith, nat_tests, is))) ∙ ap (λ (s : Span). spans (waiting_of log) ++ s ∷ []) span_seen)
+        by false is (inl any) =
+            ap (spans_below to) (shows_current sum log any)
+            ∙ below_front to (spans (waiting_of log)) (record { place = current_begin log; end = sealing_end log; lid = (start_of log).lid }) (grind (arith, nat_tests, is))
+        by false is (inr none) = ap (λ (bs : List BufferAt). spans_below to (spans bs)) (shows_empty sum log (omega (arith, none)))
 
-      abbrev pub its_buffers : List BufferAt
-      its_buffers = begun_below to (buffers_of sum log)
-
-      pub shows_below : AreWhole sum log given_up heads → ShowsBuffers sum size l (written_below to l) its_buffers
+      pub shows_below : AreWhole sum log given_up heads → ShowsBuffers sum size l (sealed_below to l) its_buffers
       shows_below whole = record {
-        are = flushed_seen;
-        long = below_all HasLength to (buffers_of sum log) (shows_long sum log);
-        held = below_all (IsHeldBy (opens l)) to (buffers_of sum log) all_held;
-        whole = below_all SeenWhole to (buffers_of sum log) (whole_seen whole);
+        are = sealed_seen;
+        long = sealed_all HasLength (shows_long sum log);
+        held = sealed_all (IsHeldBy (opens l)) all_held;
+        whole = sealed_all SeenWhole (whole_seen whole);
       }
 
       pub holding_seen : holding_below sum log to ≡ holding to l
-      holding_seen = below_held (opens l) to (buffers_of sum log) all_held ∙ ap (held_among (opens l)) (sym (below_seen to (buffers_of sum log)) ∙ flushed_seen)
-
-      pub writes_seen : 0 < pins_of log → writing_below sum log to ≡ writes_free (begun_below to (buffers_of sum log))
-      writes_seen out = pinned_below log out sum to ∙ below_writes to (buffers_of sum log)
+      holding_seen = below_held (opens l) to (buffers_of sum log) all_held ∙ ap (held_among (opens l)) flushed_seen
 
       -- What is left of it.
       module _ (new : Log D C) where
@@ -401,23 +444,21 @@ module _ {D C : Type 0} (log : Log D C) (sum : List ℕ → ℕ) (begun : ℕ) (
         synced_seen above = let waiting = left_seen above in let first = above.start ∙ start_seen in first_seen new ∙ (λ i. first_waiting (waiting i) (first i))
 
         -- Where the run stands then.
-        module _ (device now : DeviceView) (H : History) (A f : ℕ) (position : StaysPut log new) where
-          noted_seen : LeavesAbove sum to log new → noted_in new ≡ not_whole (synced_from to l) (noted_in log)
-          noted_seen above = position.noted ∙ ap (λ n. not_whole n (noted_in log)) (synced_seen above)
-
+        module _ (trace : D → Trace) (device now : DeviceView) (H : History) (A f : ℕ) (due : Option DueMark) (put : StaysPut trace sum log new) where
           pub stable_seen : LeavesAbove sum to log new → stable_end new ≡ stable_from to l
-          stable_seen above = let ends = synced_seen above in let noted = noted_seen above in λ i. stable_below (ends i) (noted i)
+          stable_seen above =
+              let ends = synced_seen above in
+              let noted : noted_in new ≡ not_whole (synced_from to l) (noted_in log) = put.noted ∙ ap (λ n. not_whole n (noted_in log)) ends in
+              λ i. stable_below (ends i) (noted i)
 
-          pub has_written : AreWhole sum log given_up heads → (n : ℕ) → fault_of log ≡ None → fault_of new ≡ None → (IsUsedUpBelow log to → ⊥) → holding_below sum log to ≡ None → now.trace ≡ after_all (writes_free its_buffers) device.trace → now.failures ≡ device.failures
+          pub has_written : AreWhole sum log given_up heads → (n : ℕ) → fault_of log ≡ None → fault_of new ≡ None → (IsUsedUpBelow log to → ⊥) → holding_below sum log to ≡ None → now.trace ≡ after_all its_writings device.trace → now.failures ≡ device.failures
               → stable_end new ≡ stable_end log + n → to ≤ synced_end new → A ≤ stable_end log → LeavesAbove sum to log new
-              → HasWrittenTo sum size (before new device now H A f position) l to n now (after new device now H A f position (max A (end_below (stable_end new) H)))
+              → HasWrittenTo sum size (before trace new device now H A f due put) l to n now (after trace new device now H A f due put (max A (end_below (stable_end new) H)))
           has_written records n none still unused free made failures answer whole past above =
               let ends = synced_seen above in
-              let noted = noted_seen above in
               let stable = stable_seen above in
-              let waiting = left_seen above in
-              let first : start_of new ≡ start_below to l = above.start ∙ start_seen in
-              let marks = account_above log sum to new above in
+              let ledger : ledger_of new ≡ ledger_behind size (front_below to its_buffers) (ledger_below to l) =
+              above.ledger ∙ ap (ledger_behind size (front_below to its_buffers)) (ledger_below_seen log begun tickets given_up heads to) in
               record {
                 sound = none;
                 in_reach = λ less. flush_in (λ used. unused (less, used));
@@ -427,21 +468,18 @@ module _ {D C : Type 0} (log : Log D C) (sum : List ℕ → ℕ) (begun : ℕ) (
                 growth = sym answer ∙ stable;
                 reaches = omega (arith, whole, ends);
                 more = omega (arith, past, answer, stable);
-                leads = λ i. record {
-                  device = now;
-                  history = H;
-                  acknowledged = max A (end_below (stable i) H);
-                  floor = f;
-                  log = Some (record { position = position.position i; synced = ends i; noted = noted i; end = position.reserved i; waiting = waiting i; start = first i; begun = begun; fault = still i; outstanding = position.opens i; tickets = tickets; given_up = given_up; heads = heads_at l (first i); pins = position.pins i; account = marks i });
-                };
+                leads =
+                    leaves trace new device now H A f due put (max A (end_below (stable_end new) H)) (left_from to l) (start_below to l) None _ (position_below size to l) (left_seen above) (above.start ∙ start_seen) still ledger (lies_below new above.position)
+                    ∙ ap (λ reached. record { device = now; history = H; acknowledged = max A (end_below reached H); floor = f; log = Some (view_flushed l (left_from to l) (start_below to l) None (ledger_behind size (front_below to its_buffers) (ledger_below to l)) (position_below size to l)); due = due }) stable;
               }
 
           -- It failed.
-          pub fails_to : 0 < pins_of log → AreWhole sum log given_up heads → (trace : D → Trace) (e : Error) → device.trace ≡ trace (device_of log) → now.trace ≡ trace (device_of new) → fault_of log ≡ None
-              → IsWhy e (holding to l) ((current_begin log < to) × (EndsInReach size l.position → ⊥)) (fault_of new) device.failures now.failures → Performs (writes_free its_buffers) device.trace now.trace
-              → IfHeld e (now.trace ≡ after_all (writes_free its_buffers) device.trace) → (IsHeld {T = ℕ} (Err e) → to ≤ current_begin new) → CameTo trace sum to log new
-              → FailsTo sum size (before new device now H A f position) l to e now (after new device now H A f position A)
-          fails_to out records trace e was is none why made held sealed came = record {
+
+          pub fails_to : AreWhole sum log given_up heads → (e : Error) → device.trace ≡ trace (device_of log) → now.trace ≡ trace (device_of new) → fault_of log ≡ None
+              → IsWhy e (holding to l) ((current_begin log < to) × (EndsInReach size l.position → ⊥)) (fault_of new) device.failures now.failures → Performs its_writings device.trace now.trace
+              → IfHeld e (now.trace ≡ after_all its_writings device.trace) → (IsHeld {T = ℕ} (Err e) → to ≤ current_begin new) → CameTo trace sum to log new
+              → FailsTo sum size (before trace new device now H A f due put) l to e now (after trace new device now H A f due put A)
+          fails_to records e was is none why made held sealed came = record {
             sound = none;
             fault = fault_of new;
             why = why;
@@ -453,55 +491,73 @@ module _ {D C : Type 0} (log : Log D C) (sum : List ℕ → ℕ) (begun : ℕ) (
                       buffers = its_buffers;
                       shown = shows_below records;
                       made = made;
-                      synced = (let same_syncs : syncs now.trace ≡ syncs device.trace = ap syncs still in omega (arith, same_syncs));
+                      written = (let same_writes : synced_writes now.trace ≡ synced_writes device.trace = ap synced_writes still in omega (arith, same_writes));
                       whole = λ sound. still;
                       held = held;
                     },
-                    (let below : current_begin log < to = same.due none in inr (refl, below, not_held e (current_begin log) (current_begin new) to below (ap (λ (x : BufferStart). x.place) same.start) sealed, leaves new device now H A f position (spans (waiting_of log)) (start_of log) (fault_of new) (account_of log) (ap spans same.waiting) same.start refl (ap (λ (x : Ledger). x.account) same.ledger), same.fault ∙ none)),
+                    (let below : current_begin log < to = same.due none in
+                    inr (inr (
+                      refl,
+                      below,
+                      not_held e (current_begin log) (current_begin new) to below (ap (λ (x : BufferStart). x.place) same.start) sealed,
+                      left_alone trace new device now H A f due put same.waiting same.start same.fault same.ledger same.position,
+                      same.fault ∙ none,
+                    ))),
                   ))
               | inr front ↦ (
-                front.count,
-                record {
-                  buffers = its_buffers;
-                  shown = shows_below records;
-                  made = made;
-                  synced = pinned_synced (segment_size_of log) front.count (free_below to (buffers_of sum log)) (ledger_for to log) device.trace now.trace
-                      (pinned_at log out to).1
-                      (subst (λ (es : List Event). Performs es device.trace now.trace) (sym (writes_seen out)) made)
-                      (ap synced_writes is ∙ front.written ∙ ap (λ (t : Trace). front.count + synced_writes t) (sym was));
-                  whole = λ sound. is ∙ front.whole sound
-                      ∙ (λ i. after_all ((pinned_some log out sum to front.count ∙ ap (take (2 * front.count)) (below_writes to (buffers_of sum log))) i) (sym was i));
-                  held = held;
-                },
-                inl (
-                    let left = ap spans front.left ∙ drop_seen front.count (sealed_for sum to log) ∙ ap (λ (ss : List Span). drop front.count ss) sealed_seen in
-                    let start = front.start ∙ start_seen in (
-                      leaves new device now H A f position (drop front.count (sealed_below to l)) (start_below to l) (fault_of new) (account_behind (take front.count its_buffers) (account_of log)) left start refl
-                          (account_front log sum to new trace out some front),
-                      subst (λ n. n < to) (first_seen new ∙ (λ i. first_waiting (left i) (start i))) (front_short trace sum to log new out front),
-                    )),
-              )
+                let left : spans (waiting_of new) ≡ drop front.count (sealed_below to l) = ap spans front.left ∙ drop_seen front.count (sealed_for sum to log) ∙ ap (λ (ss : List Span). drop front.count ss) sealed_seen in
+                let start : start_of new ≡ start_below to l = front.start ∙ start_seen in
+                let lies = lies_below new front.position in
+                let seen = ledger_below_seen log begun tickets given_up heads to in
+                (
+                  front.count,
+                  record {
+                    buffers = its_buffers;
+                    shown = shows_below records;
+                    made = made;
+                    written = ap synced_writes is ∙ front.written ∙ ap (λ (t : Trace). front.count + synced_writes t) (sym was);
+                    whole = λ sound. is ∙ front.whole sound ∙ (λ i. after_all (some_seen front.count i) (sym was i));
+                    held = held;
+                  },
+                  elim front.ledger.1 [
+                    | inl all ↦ (
+                        let behind : ledger_of new ≡ ledger_behind size (take front.count its_buffers) (ledger_for to log) = λ i. record { machine = all.0 i; account = front.ledger.0 i } in
+                        inl (
+                          leaves trace new device now H A f due put A (drop front.count (sealed_below to l)) (start_below to l) (fault_of new) (ledger_after size to l its_buffers front.count) (position_below size to l) left start refl
+                              (behind ∙ ap (ledger_behind size (take front.count its_buffers)) seen) lies,
+                          subst (λ n. n < to) (first_seen new ∙ (λ i. first_waiting (left i) (start i))) all.1,
+                        ))
+                    | inr failed ↦ inr (inl (
+                      failed.1,
+                      account_of new,
+                      front.ledger.0 ∙ ap (λ (x : Ledger). (ledger_behind size (take front.count its_buffers) x).account) seen,
+                      machine_at new,
+                      step_failed log begun tickets given_up heads trace new _ _ now.trace (ap (λ (x : Ledger). (ledger_behind size (take (front.count - 1) its_buffers) x).machine) seen) put.size (sym is) failed.0 failed.2,
+                      leaves trace new device now H A f due put A (drop front.count (sealed_below to l)) (start_below to l) (fault_of new) (record { machine = machine_at new; account = account_of new }) (position_below size to l) left start refl refl lies,
+                    ))
+                  ],
+                ))
             ];
           }
 
 -- Why a call failed: the log kept a failure, or it kept none.
 pub kept_or_none : (T : Type 0) (e : Error) (held : Option ℕ) (used : Type 0) (old new : Option IoError) (before after : ℕ) → HeldAnswers {T = T} (Err e) held used old new before after
     → ((x : IoError) × (e ≡ error.Io x) × (old ≡ Some x)) ⊎ (old ≡ None)
-kept_or_none T (error.Io x) held used old new before after (inl kept) = inl (x, refl, kept.0)
-kept_or_none T (error.Io x) held used old new before after (inr failed) = inr failed.0
-kept_or_none T error.OutOfMemory held used old new before after answers = inr answers.1
-kept_or_none T error.PlacesUsedUp held used old new before after answers = inr answers.1
-kept_or_none T (error.Held at) held used old new before after answers = inr answers.2
-kept_or_none T _ held used old new before after answers = absurd answers
+kept_or_none T (error.Io x) held used old new _ _ (inl kept) = inl (x, refl, kept.0)
+kept_or_none T (error.Io x) held used old new _ _ (inr failed) = inr failed.0
+kept_or_none T error.OutOfMemory held used old new _ _ answers = inr answers.1
+kept_or_none T error.PlacesUsedUp held used old new _ _ answers = inr answers.1
+kept_or_none T (error.Held at) held used old new _ _ answers = inr answers.2
+kept_or_none T _ held used old new _ _ answers = absurd answers
 
 -- Where it kept none, this is why.
 pub why_of : (T : Type 0) (e : Error) (held up : Option ℕ) (used needs : Type 0) (old new : Option IoError) (before after : ℕ) → old ≡ None → held ≡ up → (used → needs) → ((used → ⊥) → needs → ⊥) → HeldAnswers {T = T} (Err e) held used old new before after → IsWhy e up needs new before after
-why_of T (error.Io x) held up used needs old new before after none same out back (inl kept) = absurd (let bad : None ≡ Some x = sym none ∙ kept.0 in cc)
-why_of T (error.Io x) held up used needs old new before after none same out back (inr failed) = (failed.1, failed.3, failed.2)
-why_of T error.OutOfMemory held up used needs old new before after none same out back answers = (back answers.0, answers.2, answers.3)
-why_of T error.PlacesUsedUp held up used needs old new before after none same out back answers = (out answers.0, answers.2, answers.3)
-why_of T (error.Held at) held up used needs old new before after none same out back answers = ((answers.0.0, sym same ∙ answers.0.1, answers.0.2), back answers.1, answers.3, answers.4)
-why_of T _ held up used needs old new before after none same out back answers = absurd answers
+why_of T (error.Io x) held up used needs old new _ _ none same out back (inl kept) = absurd (let bad : None ≡ Some x = sym none ∙ kept.0 in cc)
+why_of T (error.Io x) held up used needs old new _ _ none same out back (inr failed) = (failed.1, failed.3, failed.2)
+why_of T error.OutOfMemory held up used needs old new _ _ none same out back answers = (back answers.0, answers.2, answers.3)
+why_of T error.PlacesUsedUp held up used needs old new _ _ none same out back answers = (out answers.0, answers.2, answers.3)
+why_of T (error.Held at) held up used needs old new _ _ none same out back answers = ((answers.0.0, sym same ∙ answers.0.1, answers.0.2), back answers.1, answers.3, answers.4)
+why_of T _ held up used needs old new _ _ none same out back answers = absurd answers
 
 -- Where it was held up all was made that was to be.
 pub if_held : (T : Type 0) (e : Error) (P Q : Type 0) → (P → Q) → OnDone {T = T} (Err e) P → IfHeld e Q
@@ -510,35 +566,46 @@ if_held T _ P Q more done = tt
 
 -- A call that nothing holds up, and that needs no further segment.
 pub held_none : (T : Type 0) (e : Error) (old new : Option IoError) (before after : ℕ) → Answers {T = T} (Err e) old new before after → HeldAnswers {T = T} (Err e) None ⊥ old new before after
-held_none T (error.Io x) old new before after answers = answers
-held_none T error.OutOfMemory old new before after answers = (λ never. never, answers.0, answers.1, answers.2)
-held_none T _ old new before after answers = absurd answers
+held_none T (error.Io x) old new _ _ answers = answers
+held_none T error.OutOfMemory old new _ _ answers = (λ never. never, answers.0, answers.1, answers.2)
+held_none T _ old new _ _ answers = absurd answers
 
 -- it isn't held up
 pub never_held : (T : Type 0) (e : Error) (old new : Option IoError) (before after : ℕ) (P : Type 0) → Answers {T = T} (Err e) old new before after → IfHeld e P
-never_held T (error.Held at) old new before after P answers = absurd answers
-never_held T _ old new before after P answers = tt
+never_held T (error.Held at) old new _ _ P answers = absurd answers
+never_held T _ old new _ _ P answers = tt
 
 -- A write that was refused, and not for a failure of the device, asked nothing of it.
 pub spared : (T : Type 0) (e : Error) (old new : Option IoError) (before after : ℕ) (t now : Trace) → old ≡ None → new ≡ None → Answers {T = T} (Err e) old new before after → UnlessFault {T = T} (Err e) t now → now ≡ t
-spared T (error.Io x) old new before after t now none sound (inl kept) still = absurd (let bad : None ≡ Some x = sym none ∙ kept.0 in cc)
-spared T (error.Io x) old new before after t now none sound (inr failed) still = absurd (let bad : None ≡ Some x = sym sound ∙ failed.1 in cc)
-spared T error.OutOfMemory old new before after t now none sound answers still = still
-spared T _ old new before after t now none sound answers still = absurd answers
+spared T (error.Io x) old new _ _ t now none sound (inl kept) still = absurd (let bad : None ≡ Some x = sym none ∙ kept.0 in cc)
+spared T (error.Io x) old new _ _ t now none sound (inr failed) still = absurd (let bad : None ≡ Some x = sym sound ∙ failed.1 in cc)
+spared T error.OutOfMemory old new _ _ t now none sound answers still = still
+spared T _ old new _ _ t now none sound answers still = absurd answers
+
+-- Where nothing was synced no write was.
+syncs_more : (es : List Event) (t : Trace) → syncs t ≤ syncs (es ++ t)
+syncs_more [] t = omega arith
+syncs_more (Synced ∷ es) t = let more = syncs_more es t in omega (arith, more)
+syncs_more (_ ∷ es) t = syncs_more es t
+
+pub unsynced : (es : List Event) (t : Trace) → syncs (es ++ t) ≡ syncs t → synced_writes (es ++ t) ≡ synced_writes t
+unsynced [] t same = refl
+unsynced (Synced ∷ es) t same = absurd (let more = syncs_more es t in omega (arith, same, more))
+unsynced (_ ∷ es) t same = unsynced es t same
 
 -- A log that keeps a failure is as it was.
-pub keeps_failing : {D C : Type 0} (log new : Log D C) (begun : ℕ) (tickets : List (Option Message)) (given_up : List Message) (heads : List MarkAt) (device now : DeviceView) (H : History) (A f : ℕ) (e : Error) (x : IoError) → e ≡ error.Io x → fault_of log ≡ Some x → new ≡ log → now ≡ device
-    → KeepsFailing (record { device = device; history = H; acknowledged = A; floor = f; log = Some (seen_log log begun tickets given_up heads) }) (seen_log log begun tickets given_up heads) e now
-    (record { device = now; history = H; acknowledged = A; floor = f; log = Some (seen_log new begun tickets given_up (heads_at (seen_log log begun tickets given_up heads) (start_of new))) })
-keeps_failing log new begun tickets given_up heads device now H A f e x is kept same still =
+pub keeps_failing : {D C : Type 0} (log new : Log D C) (begun : ℕ) (tickets : List (Option Message)) (given_up : List Message) (heads : List MarkAt) (device now : DeviceView) (H : History) (A f : ℕ) (due : Option DueMark) (e : Error) (x : IoError) → e ≡ error.Io x → fault_of log ≡ Some x → new ≡ log → now ≡ device
+    → KeepsFailing (record { device = device; history = H; acknowledged = A; floor = f; log = Some (seen_log log begun tickets given_up heads); due = due }) (seen_log log begun tickets given_up heads) e now
+    (record { device = now; history = H; acknowledged = A; floor = f; log = Some (seen_log new begun tickets given_up (heads_at (seen_log log begun tickets given_up heads) (start_of new))); due = due })
+keeps_failing log new begun tickets given_up heads device now H A f due e x is kept same still =
     let l : LogView = seen_log log begun tickets given_up heads in
-    let a : RunState = record { device = device; history = H; acknowledged = A; floor = f; log = Some l } in
-    let b : RunState = record { device = now; history = H; acknowledged = A; floor = f; log = Some (seen_log new begun tickets given_up (heads_at l (start_of new))) } in
+    let a : RunState = record { device = device; history = H; acknowledged = A; floor = f; log = Some l; due = due } in
+    let b : RunState = record { device = now; history = H; acknowledged = A; floor = f; log = Some (seen_log new begun tickets given_up (heads_at l (start_of new))); due = due } in
     subst (λ (y : Error). KeepsFailing a l y now b) (sym is) (
       kept,
       still,
-      (λ i. record { device = still i; history = H; acknowledged = A; floor = f; log = Some (seen_log (same i) begun tickets given_up (heads_at l (start_of (same i)))) })
-          ∙ ap (λ (hs : List MarkAt). record { device = device; history = H; acknowledged = A; floor = f; log = Some (seen_log log begun tickets given_up hs) }) (heads_still l),
+      (λ i. record { device = still i; history = H; acknowledged = A; floor = f; log = Some (seen_log (same i) begun tickets given_up (heads_at l (start_of (same i)))); due = due })
+          ∙ ap (λ (hs : List MarkAt). record { device = device; history = H; acknowledged = A; floor = f; log = Some (seen_log log begun tickets given_up hs); due = due }) (heads_still l),
     )
 
 -- a command that isn't refused has an index that fits
@@ -549,9 +616,29 @@ index_fits false false w v free = refl
 
 -- what is open, with another log
 abbrev pub over : {D C : Type 0} → Opened D C → Log D C → Opened D C
-over opened log = record { alloc = opened.alloc; log = log; guard = opened.guard; pages = opened.pages; busy = opened.busy; batch = opened.batch; tickets = opened.tickets }
+over opened log = record { alloc = opened.alloc; log = log; origin = opened.origin; pages = opened.pages; busy = opened.busy; batch = opened.batch; tickets = opened.tickets; due = opened.due }
 
--- It stays open so, where that has the same tickets and the same position.
+-- messages are open where one has a ticket
+some_open : (ts : List (Option Message)) (n : ℕ) (m : Message) → slice_get ts n ≡ Some (Some m) → 0 < length (open_messages ts)
+some_open [] n m there = cc
+some_open (None ∷ ts) zero m there = cc
+some_open (Some x ∷ ts) zero m there = omega arith
+some_open (None ∷ ts) (suc n) m there = some_open ts n m there
+some_open (Some x ∷ ts) (suc n) m there = omega arith
+
+-- no mark is due, whatever the log has
+pub due_none : {D C : Type 0} (old new : Log D C) (H : History) (due : Option Due) (U : List Message) → due ≡ None → AreUnmarked old H due U → AreUnmarked new H due U
+due_none old new H None U none are = are
+due_none old new H (Some d) U none are = cc
+
+-- or one is due still, where the log keeps the failure that it kept, or none
+pub due_still : {D C : Type 0} (old new : Log D C) (H : History) (due : Option Due) (U : List Message) → fault_of new ≡ fault_of old → AreUnmarked old H due U → AreUnmarked new H due U
+due_still old new H None U same are = are
+due_still old new H (Some d) U same are =
+    let is = are.2 in
+    (are.0, are.1, record { there = is.there; is = is.is; kind = is.kind; newest = is.newest; beside = is.beside; former = is.former; sound = same ∙ is.sound })
+
+-- It stays open so, where that has the same tickets, and as many pins are out.
 module _ {D C : Type 0} (trace : D → Trace) (sum : List ℕ → ℕ) (opened : Opened D C) (log : Log D C) (k : Unstored) (A : ℕ) where
   -- with these buffers begun
   abbrev pub kept_with : List MarkAt → Unstored
@@ -560,49 +647,50 @@ module _ {D C : Type 0} (trace : D → Trace) (sum : List ℕ → ℕ) (opened :
   abbrev pub kept : Unstored
   kept = kept_with (heads_at (seen opened k.tickets k.given_up k.heads) (start_of log))
 
-  ticket_still : KeepsTickets opened.log log → SamePosition opened.log log → Preserves trace sum opened.log log → (n : ℕ) (m : Message) → IsTicketFor trace sum opened k.history n m → IsTicketFor trace sum (over opened log) k.history n m
-  ticket_still tickets position keeps n m is = record {
+  -- a ticket has its pin, so its item stays
+  ticket_still : StaysPut trace sum opened.log log → 0 < pins_of opened.log → (n : ℕ) (m : Message) → IsTicketFor trace sum opened k.history n m → IsTicketFor trace sum (over opened log) k.history n m
+  ticket_still put out n m is = record {
     ticket = is.ticket;
     there = is.there;
     kind = is.kind;
     page = is.page;
-    awaits = tickets.awaits is.ticket.reservation m is.awaits;
+    awaits = put.tickets.awaits is.ticket.reservation m is.awaits;
     own = is.own;
-    stored = safe_on trace sum opened.log log m keeps.goes_on is.stored;
+    stored = λ none. put.items none m out (is.stored (put.sound none));
     joins = is.joins;
     begins_batch = λ batch. let begun = is.begins_batch batch in
-        record { kind = begun.kind; inline = begun.inline; apart = λ b known. begun.apart b (whole_not (synced_end log) (noted_in opened.log) b (subst (λ (bs : List Batch). Contains bs b) keeps.noted known)).0 };
-    begins = (let low = is.begins in let same = position.reserved in omega (arith, low, same));
-    ends = (let low = is.ends in let same = position.reserved in omega (arith, low, same));
+        record { kind = begun.kind; inline = begun.inline; apart = λ b known. begun.apart b (whole_not (synced_end log) (noted_in opened.log) b (subst (λ (bs : List Batch). Contains bs b) put.noted known)).0 };
+    begins = (let low = is.begins in let same = put.reserved in omega (arith, low, same));
+    ends = (let low = is.ends in let same = put.reserved in omega (arith, low, same));
   }
 
-  pub still_with : (heads : List MarkAt) → HasHeads sum log heads → (at : IsOpenAt trace sum opened k) → KeepsTickets opened.log log → SamePosition opened.log log → (fault_of log ≡ None → fault_of opened.log ≡ None)
-      → Preserves trace sum opened.log log → Fits trace sum log k.history A k.floor at.unmarked → IsOpenAt trace sum (over opened log) (kept_with heads)
-  still_with heads has at tickets position free keeps fits = record {
+  pub still_with : (heads : List MarkAt) → HasHeads sum log heads → (at : IsOpenAt trace sum opened k) → StaysPut trace sum opened.log log → AreUnmarked log k.history opened.due at.unmarked → Fits trace sum log k.history A k.floor at.unmarked
+      → IsOpenAt trace sum (over opened log) (kept_with heads)
+  still_with heads has at put due fits = record {
     made = at.made;
     unmarked = at.unmarked;
+    due = due;
     fits = fits;
     zeros = at.zeros;
-    pinned = position.pins ∙ at.pinned;
-    joined = position.joined ∙ at.joined;
+    pinned = put.pins ∙ at.pinned;
+    origin = at.origin ∙ ap (λ (n : ℕ). record { size = n; floor = k.floor }) (sym put.size);
     table = at.table;
     tickets = record {
       as_many = at.tickets.as_many;
-      each = λ n m there. ticket_still tickets position keeps n m (at.tickets.each n m there);
+      each = λ n m there. ticket_still put (let out = some_open k.tickets n m there in let pins = at.pinned in omega (arith, out, pins)) n m (at.tickets.each n m there);
       gone = at.tickets.gone;
       apart = at.tickets.apart;
       rising = at.tickets.rising;
-      are_all = λ none. tickets.opens ∙ at.tickets.are_all (free none);
+      are_all = λ none. put.opens ∙ at.tickets.are_all (put.sound none);
       busy = at.tickets.busy;
       batch = at.tickets.batch;
     };
-    given_up = λ m there. at.given_up m (tickets.given_up m there);
+    given_up = λ m there. at.given_up m (put.tickets.given_up m there);
     heads = has;
-    ends = λ i d lt. let low = at.ends i d lt in let same = position.reserved in omega (arith, low, same);
+    ends = λ i d lt. let low = at.ends i d lt in let same = put.reserved in omega (arith, low, same);
   }
 
-  pub still_open : (at : IsOpenAt trace sum opened k) → KeepsTickets opened.log log → HasOnlyBegun sum opened.log log → SamePosition opened.log log → (fault_of log ≡ None → fault_of opened.log ≡ None)
-      → Preserves trace sum opened.log log → Fits trace sum log k.history A k.floor at.unmarked → IsOpenAt trace sum (over opened log) kept
-  still_open at tickets only position free keeps fits =
+  pub still_open : (at : IsOpenAt trace sum opened k) → HasOnlyBegun sum opened.log log → StaysPut trace sum opened.log log → opened.due ≡ None → Fits trace sum log k.history A k.floor at.unmarked → IsOpenAt trace sum (over opened log) kept
+  still_open at only put none fits =
       still_with (heads_at (seen opened k.tickets k.given_up k.heads) (start_of log)) (heads_kept sum opened.log log (length opened.pages.items) k.tickets k.given_up k.heads only at.heads)
-      at tickets position free keeps fits
+      at put (due_none opened.log log k.history opened.due at.unmarked none at.due) fits

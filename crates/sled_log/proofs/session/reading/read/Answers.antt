@@ -3,18 +3,16 @@ use Rattle.std.proofs.Common.{◌<◌, ◌∷◌, List, length, map, arith, subs
 use Rattle.std.proofs.lemmas.List.{length-map}
 use Rattle.sled_codec.specs.declared.serialization.snapshot.PageState.{PageState}
 use Rattle.sled_codec.specs.Snapshots.{Entry, Free, Page, Present, Uninitialized, page_of}
-use Rattle.sled_core.proofs.PublicLaws.{writing_pinned}
 use Rattle.sled_log.specs.Readings.{ReadsEntries}
 use Rattle.sled_log.specs.RunPhases.{view_by}
-use Rattle.sled_log.proofs.Sessions.Accounts.{is_out}
 use Rattle.sled_log.proofs.Sessions.MadePages.{page_free, page_not_nothing}
 use Rattle.sled_log.proofs.Sessions.Reading.{open_still, page_found, page_read, read_with}
-use Rattle.sled_log.proofs.Sessions.Within.{going_on, untouched}
+use Rattle.sled_log.proofs.Sessions.Within.{untouched}
 use Rattle.sled_log.proofs.session.reading.read.Goals as goal
 
 -- src/session/reading.rt:20:1
 pub returns-in-Ok-clause-step : goal.returns-in-Ok-clause-step
-returns-in-Ok-clause-step g c = λ k at free.
+returns-in-Ok-clause-step g c = λ none k at free.
     let view = view_by g.D.Device.trace g.D.Device.faults g.D.CrashDevice.is_stopped in
     let sum = g.C.Checksum.sum_of in
     let opened = c.args.opened.now in
@@ -24,19 +22,18 @@ returns-in-Ok-clause-step g c = λ k at free.
     let look = c.in-Some.ensures.lookup in
     let has = page_found opened.pages.items c.deref.result.now c.args.page c.in-Some.state.now (Present base frags) c.deref.ensures.value look.3.0 look.1 (ap page_of c.in-Present.is) in
     let reads = subst (λ l. ReadsEntries view sum opened.log c.args.page (base ∷ l) new (Ok c.in-Ok.items)) c.deref-in-Present.ensures.value c.in-Ok.ensures.reads in
-    let keeps = writing_pinned g.D.Device.trace sum opened.log new (is_out opened.log at.pinned) reads.only in
-    let read = page_read view sum opened c.args.page k at new base frags (Ok c.in-Ok.items) has reads in
+    let read = page_read view sum opened c.args.page k at none new base frags (Ok c.in-Ok.items) has reads in
     record {
       not_refused = refl;
-      next = read_with view sum opened c.args.page k at new base frags (Ok c.in-Ok.items) has reads read.0;
+      next = read_with view sum opened c.args.page k at none new base frags (Ok c.in-Ok.items) has reads read.0;
       step = read.2;
-      at = λ own. open_still view sum opened c.args.page k at new base frags (Ok c.in-Ok.items) has reads;
-      crash = λ own. going_on g.D.Device.trace sum opened k at new keeps.preserves.goes_on;
+      at = λ own. open_still view sum opened c.args.page k at none new base frags (Ok c.in-Ok.items) has reads;
+      crash = λ own. reads.only.preserves.goes_on.crash k.history k.acknowledged k.floor at.unmarked at.fits;
     }
 
 -- src/session/reading.rt:20:1
 pub returns-in-Err-clause-step : goal.returns-in-Err-clause-step
-returns-in-Err-clause-step g c = λ k at free.
+returns-in-Err-clause-step g c = λ none k at free.
     let view = view_by g.D.Device.trace g.D.Device.faults g.D.CrashDevice.is_stopped in
     let sum = g.C.Checksum.sum_of in
     let opened = c.args.opened.now in
@@ -46,19 +43,18 @@ returns-in-Err-clause-step g c = λ k at free.
     let look = c.in-Some.ensures.lookup in
     let has = page_found opened.pages.items c.deref.result.now c.args.page c.in-Some.state.now (Present base frags) c.deref.ensures.value look.3.0 look.1 (ap page_of c.in-Present.is) in
     let reads = subst (λ l. ReadsEntries view sum opened.log c.args.page (base ∷ l) new (Err c.in-Err.e)) c.deref-in-Present.ensures.value c.in-Err.ensures.reads in
-    let keeps = writing_pinned g.D.Device.trace sum opened.log new (is_out opened.log at.pinned) reads.only in
-    let read = page_read view sum opened c.args.page k at new base frags (Err c.in-Err.e) has reads in
+    let read = page_read view sum opened c.args.page k at none new base frags (Err c.in-Err.e) has reads in
     record {
       not_refused = refl;
-      next = read_with view sum opened c.args.page k at new base frags (Err c.in-Err.e) has reads read.0;
+      next = read_with view sum opened c.args.page k at none new base frags (Err c.in-Err.e) has reads read.0;
       step = read.2;
-      at = λ own. open_still view sum opened c.args.page k at new base frags (Err c.in-Err.e) has reads;
-      crash = λ own. going_on g.D.Device.trace sum opened k at new keeps.preserves.goes_on;
+      at = λ own. open_still view sum opened c.args.page k at none new base frags (Err c.in-Err.e) has reads;
+      crash = λ own. reads.only.preserves.goes_on.crash k.history k.acknowledged k.floor at.unmarked at.fits;
     }
 
 -- src/session/reading.rt:20:1
 pub returns-in-Free-clause-step : goal.returns-in-Free-clause-step
-returns-in-Free-clause-step g c = λ k at free.
+returns-in-Free-clause-step g c = λ none k at free.
     let opened = c.args.opened.now in
     let look = c.in-Some.ensures.lookup in
     let page : Page = Free c.in-Free.field-0 c.in-Free.field-1 in
@@ -74,7 +70,7 @@ returns-in-Free-clause-step g c = λ k at free.
 
 -- src/session/reading.rt:20:1
 pub returns-in-Uninitialized-clause-step : goal.returns-in-Uninitialized-clause-step
-returns-in-Uninitialized-clause-step g c = λ k at free.
+returns-in-Uninitialized-clause-step g c = λ none k at free.
     let opened = c.args.opened.now in
     let look = c.in-Some.ensures.lookup in
     let has = page_found opened.pages.items c.deref.result.now c.args.page c.in-Some.state.now Uninitialized c.deref.ensures.value look.3.0 look.1 (ap page_of c.in-Uninitialized.is) in

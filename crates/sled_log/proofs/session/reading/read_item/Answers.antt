@@ -8,10 +8,8 @@ use Rattle.sled_store.specs.Device.{state_of}
 use Rattle.sled_core.specs.declared.logger.read_message.LogRead.{LogRead}
 use Rattle.sled_core.specs.Fits.{device_of, reserved_end}
 use Rattle.sled_core.specs.Reading.{GivesMessage}
-use Rattle.sled_core.proofs.PublicLaws.{writing_pinned}
 use Rattle.sled_log.specs.RunPhases.{view_by}
-use Rattle.sled_log.proofs.Sessions.Accounts.{is_out}
-use Rattle.sled_log.proofs.Sessions.Writing.{stays_put, whole_of}
+use Rattle.sled_log.proofs.Sessions.Writing.{whole_of}
 use Rattle.sled_log.proofs.Sessions.Reading.{has_record, is_given, is_whole, read_failed, was_read}
 use Rattle.sled_log.proofs.session.reading.read_item.Goals as goal
 
@@ -36,8 +34,7 @@ returns-in_err-item-clause-reads g c =
           let whole = is_whole trace sum old k c.args.page m place is of at c.args.pointer e points
           (came.undamaged k.history k.acknowledged k.floor is.unmarked m is.fits of.there (has_record old k.history (reserved_end old) c.args.page m of) at points)
           (came.blob k.history k.acknowledged k.floor is.unmarked m is.fits is.zeros).kept in
-          let keeps = writing_pinned trace sum old new (is_out old is.pinned) c.read.ensures.keeps in
-          read_failed view sum old new k c.args.page m begun of (whole_of trace sum old k.given_up k.heads k.history k.acknowledged k.floor is.unmarked is.given_up is.heads is.fits) (stays_put trace sum old new keeps.tickets keeps.position keeps.preserves) (is_out old is.pinned) blobs e place c.args.pointer at points
+          read_failed view sum old new k c.args.page m begun of (whole_of trace sum old k.given_up k.heads k.history k.acknowledged k.floor is.unmarked is.given_up is.heads is.fits) c.read.ensures.keeps blobs e place c.args.pointer at points
           (came.calls, (came.buffers.1, came.answers, came.buffers.2)) whole none a;
     })
 
@@ -65,8 +62,7 @@ returns-in-Inline-clause-reads g c =
             | inl x ↦ (subst (GivesMessage m) x.2 gives).2
             | inr x ↦ (subst (GivesMessage m) x.3 gives).2
           ] in
-          let keeps = writing_pinned trace sum old new (is_out old is.pinned) c.read.ensures.keeps in
-          let read = was_read view sum old new k c.args.page m begun of (whole_of trace sum old k.given_up k.heads k.history k.acknowledged k.floor is.unmarked is.given_up is.heads is.fits) (stays_put trace sum old new keeps.tickets keeps.position keeps.preserves) (is_out old is.pinned) blobs r place c.args.pointer at points
+          let read = was_read view sum old new k c.args.page m begun of (whole_of trace sum old k.given_up k.heads k.history k.acknowledged k.floor is.unmarked is.given_up is.heads is.fits) c.read.ensures.keeps blobs r place c.args.pointer at points
           (came.calls, (came.buffers.1, came.answers, came.buffers.2)) in
           (bytes, read.0, read.1, read.2);
     }

@@ -1,26 +1,24 @@
 -- A buffer that nothing holds up is written, unless memory is wanting, the device fails, or the log keeps a failure.
-use Rattle.std.proofs.Common.{◌≡◌, ◌∙◌, ◌≤◌, ◌&&◌, inl, inr, nat_le, true, false, None, List, ap, refl, subst, arith, length}
+use Rattle.std.proofs.Common.{◌≡◌, ◌∙◌, ◌≤◌, ◌&&◌, inl, inr, nat_le, true, false, None, Some, ap, sym, refl, arith, length}
 use Rattle.std.proofs.lemmas.Bool.Decides.{nat_tests}
-use Rattle.sled_store.specs.Device.{Event}
-use Rattle.sled_store.specs.Script.{Performs, after_all}
-use Rattle.sled_core.specs.Fits.{device_of, fault_of, ledger_of, segment_size_of, synced_end, waiting_of}
-use Rattle.sled_core.specs.Fronts.{syncs}
-use Rattle.sled_core.specs.Account.{account_behind, account_of}
-use Rattle.sled_core.specs.Freeing.{Ledger}
-use Rattle.sled_core.proofs.PublicLaws.{ledger_account, none_failed, pinned_pending, writing_pinned}
+use Rattle.sled_store.specs.SegmentStates.{Machine}
+use Rattle.sled_core.specs.Account.{account_of}
+use Rattle.sled_core.specs.Fits.{fault_of, ledger_of, machine_at, position_with, segment_size_of, waiting_of}
+use Rattle.sled_core.specs.Fronts.{synced_writes, syncs}
+use Rattle.sled_core.specs.Ledger.{ledger_behind}
 use Rattle.sled_core.specs.Waiting.{one_pending, spans}
-use Rattle.sled_log.specs.RunPhases.{seen, view_by}
+use Rattle.sled_log.specs.RunPhases.{seen, shown_due, view_by}
+use Rattle.sled_log.specs.RunSlots.{position_over}
 use Rattle.sled_log.specs.RunStates.{LogView, opens, pending_in_view, without_unheld}
 use Rattle.sled_log.specs.declared.session.command.Refusal.TheVariants as why
-use Rattle.sled_log.proofs.Sessions.Accounts.{is_out}
-use Rattle.sled_log.proofs.Sessions.Writing.{held_none, index_fits, keeps_failing, kept_or_none, leaves, never_held, pending_seen, shows_waiting, spared, stays_put, still_open, waiting_held, was_free, whole_of, why_of, without_seen, kept}
-use Rattle.sled_log.proofs.Sessions.Within.{going_on}
-use Rattle.sled_log.proofs.session.writing.write.Goals as goal
 use Rattle.sled_log.proofs.Sessions.BegunHeads.{begun_none}
+use Rattle.sled_log.proofs.Sessions.SlotsSeen.{over_seen, step_failed}
+use Rattle.sled_log.proofs.Sessions.Writing.{held_none, index_fits, keeps_failing, kept, kept_or_none, leaves, never_held, pending_seen, put_writing, shows_waiting, spared, still_open, unsynced, waiting_held, whole_of, why_of, without_seen}
+use Rattle.sled_log.proofs.session.writing.write.Goals as goal
 
 -- an index that isn't refused fits
 pub returns-then-i-pending-clause-step : goal.returns-then-i-pending-clause-step
-returns-then-i-pending-clause-step g c = λ k at free.
+returns-then-i-pending-clause-step g c = λ none k at free.
     let opened = c.args.opened.now in
     let l : LogView = seen opened k.tickets k.given_up k.heads in
     let fits : nat_le (pending_in_view l) c.args.i ≡ false = index_fits (g.D.CrashDevice.is_stopped opened.log.config.device && true) (nat_le (pending_in_view l) c.args.i) why.Stopped why.Index free in
@@ -29,51 +27,50 @@ returns-then-i-pending-clause-step g c = λ k at free.
     absurd (grind (arith, nat_tests, fits, high))
 
 pub returns-in-Ok-clause-step : goal.returns-in-Ok-clause-step
-returns-in-Ok-clause-step g c = λ k at free.
+returns-in-Ok-clause-step g c = λ none k at free.
     let trace = g.D.Device.trace in
     let sum = g.C.Checksum.sum_of in
     let view = view_by g.D.Device.trace g.D.Device.faults g.D.CrashDevice.is_stopped in
     let opened = c.args.opened.now in
     let old = opened.log in
     let new = c.write_to_log.new.self in
-    let keeps = writing_pinned trace sum old new (is_out old at.pinned) c.write_to_log.ensures.keeps in
+    let put = put_writing trace sum old new c.write_to_log.ensures.keeps in
+    let begun = length opened.pages.items in
     let l : LogView = seen opened k.tickets k.given_up k.heads in
     let answers = c.in-Ok.ensures.answers in
-    let left : spans (waiting_of new) ≡ without_unheld (opens l) c.args.i l.waiting = ap spans c.in-Ok.ensures.written ∙ without_seen (opens l) c.args.i (waiting_of old) (waiting_held old sum (length opened.pages.items) k.tickets k.given_up k.heads) in
-    let marks : account_of new ≡ account_behind (one_pending c.args.i (waiting_of old)) (account_of old) = ap (λ (x : Ledger). x.account) c.in-Ok.ensures.ledger ∙ ledger_account (segment_size_of old) (one_pending c.args.i (waiting_of old)) (ledger_of old) in
+    let left : spans (waiting_of new) ≡ without_unheld (opens l) c.args.i l.waiting = ap spans c.in-Ok.ensures.written ∙ without_seen (opens l) c.args.i (waiting_of old) (waiting_held old sum begun k.tickets k.given_up k.heads) in
+    let lies : (m : Machine) → position_with new m ≡ position_over (segment_size_of old) l m = λ m. c.write_to_log.ensures.start.1 m ∙ over_seen old begun k.tickets k.given_up k.heads m in
     record {
       not_refused = refl;
       next = kept trace sum opened new k k.acknowledged;
       step = (
         answers.0,
-        record { buffers = waiting_of old; shown = shows_waiting old sum (length opened.pages.items) k.tickets k.given_up k.heads (whole_of trace sum old k.given_up k.heads k.history k.acknowledged k.floor at.unmarked at.given_up at.heads at.fits answers.0); made = c.in-Ok.ensures.calls ∙ ap (λ (es : List Event). after_all es (trace (device_of old))) (pinned_pending old (is_out old at.pinned) c.args.i) },
+        record { buffers = waiting_of old; shown = shows_waiting old sum begun k.tickets k.given_up k.heads (whole_of trace sum old k.given_up k.heads k.history k.acknowledged k.floor at.unmarked at.given_up at.heads at.fits answers.0); made = c.in-Ok.ensures.calls },
         answers.2,
-        leaves old sum (length opened.pages.items) k.tickets k.given_up k.heads new (view old.config.device) (view new.config.device) k.history k.acknowledged k.floor (stays_put trace sum old new keeps.tickets keeps.position keeps.preserves) _ _ _ _ left c.write_to_log.ensures.start.0 answers.1 marks,
+        leaves old sum begun k.tickets k.given_up k.heads trace new (view old.config.device) (view new.config.device) k.history k.acknowledged k.floor (shown_due opened.due) put k.acknowledged (without_unheld (opens l) c.args.i l.waiting) l.start None (ledger_behind (segment_size_of old) (one_pending c.args.i (waiting_of old)) (ledger_of old)) (position_over (segment_size_of old) l) left c.write_to_log.ensures.start.0 answers.1 c.in-Ok.ensures.ledger lies,
       );
-      at = λ own. still_open trace sum opened new k k.acknowledged at keeps.tickets (begun_none sum old new (record { heads = c.write_to_log.ensures.heads; fillings = c.write_to_log.ensures.fillings })) keeps.position (was_free old new c.write_to_log.ensures.faulty) keeps.preserves (keeps.preserves.fits k.history k.acknowledged k.floor at.unmarked at.fits);
-      crash = λ own. going_on trace sum opened k at new keeps.preserves.goes_on;
+      at = λ own. still_open trace sum opened new k k.acknowledged at (begun_none sum old new (record { heads = c.write_to_log.ensures.heads; fillings = c.write_to_log.ensures.fillings })) put none (c.write_to_log.ensures.keeps.preserves.fits k.history k.acknowledged k.floor at.unmarked at.fits);
+      crash = λ own. c.write_to_log.ensures.keeps.preserves.goes_on.crash k.history k.acknowledged k.floor at.unmarked at.fits;
     }
 
+-- It isn't written, or it is, and the step behind it failed.
 pub returns-in-Err-clause-step : goal.returns-in-Err-clause-step
-returns-in-Err-clause-step g c = λ k at free.
+returns-in-Err-clause-step g c = λ none k at free.
     let trace = g.D.Device.trace in
     let sum = g.C.Checksum.sum_of in
     let view = view_by g.D.Device.trace g.D.Device.faults g.D.CrashDevice.is_stopped in
     let opened = c.args.opened.now in
     let old = opened.log in
     let new = c.write_to_log.new.self in
-    let keeps = writing_pinned trace sum old new (is_out old at.pinned) c.write_to_log.ensures.keeps in
+    let keeps = c.write_to_log.ensures.keeps in
+    let put = put_writing trace sum old new keeps in
+    let later = keeps.preserves.goes_on.later in
+    let begun = length opened.pages.items in
     let l : LogView = seen opened k.tickets k.given_up k.heads in
-    let err : (synced_end new ≡ synced_end old) × (waiting_of new ≡ waiting_of old) × (syncs (trace (device_of new)) ≡ syncs (trace (device_of old)))
-    × (ledger_of new ≡ ledger_of old) = elim c.in-Err.ensures.err [
-      | inl none ↦ none
-      | inr wrote ↦ absurd (none_failed old new (is_out old at.pinned) wrote.failed)
-    ] in
-    let left : spans (waiting_of new) ≡ l.waiting = ap spans err.1 in
+    let due = shown_due opened.due in
     let device = view old.config.device in
     let now = view new.config.device in
-    let begun = length opened.pages.items in
-    let put = stays_put trace sum old new keeps.tickets keeps.position keeps.preserves in
+    let lies : (m : Machine) → position_with new m ≡ position_over (segment_size_of old) l m = λ m. c.write_to_log.ensures.start.1 m ∙ over_seen old begun k.tickets k.given_up k.heads m in
     let answers = held_none (Unit {0}) c.in-Err.e (fault_of old) (fault_of new) device.failures now.failures c.in-Err.ensures.answers in
     record {
       not_refused = refl;
@@ -81,24 +78,44 @@ returns-in-Err-clause-step g c = λ k at free.
       step = elim (kept_or_none (Unit {0}) c.in-Err.e None ⊥ (fault_of old) (fault_of new) device.failures now.failures answers) [
         | inl kept ↦ (
             let same = c.write_to_log.ensures.faulty kept.0 kept.2 in
-            inl (keeps_failing old new begun k.tickets k.given_up k.heads device now k.history k.acknowledged k.floor c.in-Err.e kept.0 kept.1 kept.2 same (ap (λ x. view x.config.device) same)))
-        | inr none ↦ inr (record {
-          sound = none;
-          fault = fault_of new;
-          why = why_of (Unit {0}) c.in-Err.e None None ⊥ ⊥ (fault_of old) (fault_of new) device.failures now.failures none refl (λ never. never) (λ free. free) answers;
-          came = (
-            record {
-              buffers = waiting_of old;
-              shown = shows_waiting old sum begun k.tickets k.given_up k.heads (whole_of trace sum old k.given_up k.heads k.history k.acknowledged k.floor at.unmarked at.given_up at.heads at.fits none);
-              made = subst (λ (es : List Event). Performs es device.trace now.trace) (pinned_pending old (is_out old at.pinned) c.args.i) c.write_to_log.ensures.at_most;
-              synced = (let same = err.2 in omega (arith, same));
-              whole = λ sound. spared (Unit {0}) c.in-Err.e (fault_of old) (fault_of new) device.failures now.failures device.trace now.trace none sound c.in-Err.ensures.answers c.in-Err.ensures.refused;
-              held = never_held (Unit {0}) c.in-Err.e (fault_of old) (fault_of new) device.failures now.failures _ c.in-Err.ensures.answers;
-            },
-            leaves old sum begun k.tickets k.given_up k.heads new device now k.history k.acknowledged k.floor put _ _ _ _ left c.write_to_log.ensures.start.0 refl (ap (λ (x : Ledger). x.account) err.3),
-          );
-        })
+            inl (keeps_failing old new begun k.tickets k.given_up k.heads device now k.history k.acknowledged k.floor due c.in-Err.e kept.0 kept.1 kept.2 same (ap (λ x. view x.config.device) same)))
+        | inr sound ↦ (
+            let shown = shows_waiting old sum begun k.tickets k.given_up k.heads (whole_of trace sum old k.given_up k.heads k.history k.acknowledged k.floor at.unmarked at.given_up at.heads at.fits sound) in
+            inr (record {
+              sound = sound;
+              fault = fault_of new;
+              why = why_of (Unit {0}) c.in-Err.e None None ⊥ ⊥ (fault_of old) (fault_of new) device.failures now.failures sound refl (λ never. never) (λ free. free) answers;
+              came = elim c.in-Err.ensures.err [
+                | inl not ↦ inl (
+                  record {
+                    buffers = waiting_of old;
+                    shown = shown;
+                    made = c.write_to_log.ensures.at_most;
+                    written = (let same : synced_writes now.trace ≡ synced_writes device.trace = ap synced_writes later.1 ∙ unsynced later.0 device.trace (sym (ap syncs later.1) ∙ not.2) in omega (arith, same));
+                    whole = λ fine. spared (Unit {0}) c.in-Err.e (fault_of old) (fault_of new) device.failures now.failures device.trace now.trace sound fine c.in-Err.ensures.answers c.in-Err.ensures.refused;
+                    held = never_held (Unit {0}) c.in-Err.e (fault_of old) (fault_of new) device.failures now.failures _ c.in-Err.ensures.answers;
+                  },
+                  leaves old sum begun k.tickets k.given_up k.heads trace new device now k.history k.acknowledged k.floor due put k.acknowledged l.waiting l.start (fault_of new) (ledger_of old) (position_over (segment_size_of old) l) (ap spans not.1) c.write_to_log.ensures.start.0 refl not.3 lies,
+                )
+                | inr wrote ↦ inr (
+                  record {
+                    buffers = waiting_of old;
+                    shown = shown;
+                    made = c.write_to_log.ensures.at_most;
+                    written = (let one = wrote.written in omega (arith, one));
+                    whole = λ fine. absurd (let both : None ≡ Some wrote.failed.fault = sym fine ∙ wrote.failed.kept in cc);
+                    held = never_held (Unit {0}) c.in-Err.e (fault_of old) (fault_of new) device.failures now.failures _ c.in-Err.ensures.answers;
+                  },
+                  account_of new,
+                  wrote.account,
+                  machine_at new,
+                  step_failed old begun k.tickets k.given_up k.heads trace new (machine_at old) (machine_at old) now.trace refl put.size refl wrote.failed wrote.way,
+                  leaves old sum begun k.tickets k.given_up k.heads trace new device now k.history k.acknowledged k.floor due put k.acknowledged (without_unheld (opens l) c.args.i l.waiting) l.start (fault_of new) (record { machine = machine_at new; account = account_of new }) (position_over (segment_size_of old) l)
+                      (ap spans wrote.waiting ∙ without_seen (opens l) c.args.i (waiting_of old) (waiting_held old sum begun k.tickets k.given_up k.heads)) c.write_to_log.ensures.start.0 refl refl lies,
+                )
+              ];
+            }))
       ];
-      at = λ own. still_open trace sum opened new k k.acknowledged at keeps.tickets (begun_none sum old new (record { heads = c.write_to_log.ensures.heads; fillings = c.write_to_log.ensures.fillings })) keeps.position (was_free old new c.write_to_log.ensures.faulty) keeps.preserves (keeps.preserves.fits k.history k.acknowledged k.floor at.unmarked at.fits);
-      crash = λ own. going_on trace sum opened k at new keeps.preserves.goes_on;
+      at = λ own. still_open trace sum opened new k k.acknowledged at (begun_none sum old new (record { heads = c.write_to_log.ensures.heads; fillings = c.write_to_log.ensures.fillings })) put none (keeps.preserves.fits k.history k.acknowledged k.floor at.unmarked at.fits);
+      crash = λ own. keeps.preserves.goes_on.crash k.history k.acknowledged k.floor at.unmarked at.fits;
     }
