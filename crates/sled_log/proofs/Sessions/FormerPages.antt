@@ -1,6 +1,6 @@
 -- What a message takes the place of, as a session tells the log: all that its page is, by the session's table, which is that of the history. It is the page's former state,
 -- but for the length of a Free from before a restart.
-use Rattle.std.proofs.Common.{⊎_elim, ◌≡◌, ◌∙◌, ◌<◌, ◌≤◌, ◌&&◌, ◌||◌, ◌==◌, ℕ, zero, suc, ℤ, pos, Bool, true, false, not, nat_lt, if◌then◌else◌, List, [], ◌∷◌, ◌++◌, length, map, get_or, filter, cond, sym, ap, subst, arith, refl, inl, inr, Option, None, Some, eq-eqb}
+use Rattle.std.proofs.Common.{⊎_elim, ◌≡◌, ◌∙◌, ◌<◌, ◌&&◌, ◌||◌, ℕ, zero, suc, pos, Bool, true, false, not, nat_lt, if◌then◌else◌, List, [], ◌∷◌, length, map, get_or, filter, cond, sym, ap, subst, arith, refl, Option, None, Some, eq-eqb}
 use Rattle.std.specs.List.{All, Contains, slice_get}
 use Rattle.std.proofs.lemmas.Bool.{false≢true, ne_eqb}
 use Rattle.std.proofs.lemmas.List.Elements.{All-contains, All-tail, Contains-append_cases}
