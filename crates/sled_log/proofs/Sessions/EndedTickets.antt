@@ -51,7 +51,7 @@ use Rattle.sled_log.specs.Refusals.{when}
 use Rattle.sled_log.specs.RunPhases.{AreRising, AreUnmarked, BeginsBatch, DoesHere, HasBatch, HasHeads, HasTickets, IsOpenAt, IsSafe, IsTicketFor, IsUnmarked, Unstored, device_in, seen, seen_log, shown_due, stands, traces}
 use Rattle.sled_log.specs.RunStates.{DeviceView, DueMark, RunState, has_message, has_ticket, open_messages, opens, page_now, places_without, top, with_log}
 use Rattle.sled_log.specs.Runs.{StaysWithin, StepBy}
-use Rattle.sled_log.specs.SessionMarks.{mark_for, marking, replacing, told_of, told_state, without_pin}
+use Rattle.sled_log.specs.SessionMarks.{mark_for, marking, replacing, told_message, told_state, without_pin}
 use Rattle.sled_log.specs.TicketActs.{RemoveActs, own_by}
 use Rattle.sled_log.specs.TicketSteps.{IsAnswerFor, own_of, spent}
 use Rattle.sled_log.proofs.Sessions.Endings.{one_there}
@@ -546,7 +546,7 @@ module _ {D C : Type 0} (view : D → DeviceView) (sum : List ℕ → ℕ) (old 
               (λ was. All-contains (λ z. z.place + z.size ≤ reserved_end old.log) k.history.messages x at.ends was) (came k.history H' m step x there_now))
 
           -- its mark takes the place of all that its page was
-          former_is : d.old.items ≡ replacing m.kind (map (told_of (segment_size_of old.log) k.floor) (page_now k.history m.page))
+          former_is : d.old.items ≡ replacing m.kind (map (told_message (segment_size_of old.log) k.floor) (page_now k.history m.page))
           former_is =
               d_old ∙ (λ i. replacing (of_kind i) (told_state (at.origin i).size (at.origin i).floor (of_page i) (slice_get old.pages.items (of_page i))))
               ∙ ap (replacing m.kind) (state_told (segment_size_of old.log) k.floor k.history old.pages.items m.page at.made at.table)
@@ -564,7 +564,7 @@ module _ {D C : Type 0} (view : D → DeviceView) (sum : List ℕ → ℕ) (old 
             is = (sym (d_page ∙ of_page), info_is);
             kind = d_kind ∙ of_kind;
             newest = λ x there_now page. may.later x (was_there k.history H' m step x there_now) page;
-            beside = λ link. former_is ∙ ap (λ (kind : LogKind). replacing kind (map (told_of (segment_size_of old.log) k.floor) (page_now k.history m.page))) link;
+            beside = λ link. former_is ∙ ap (λ (kind : LogKind). replacing kind (map (told_message (segment_size_of old.log) k.floor) (page_now k.history m.page))) link;
             former = λ begins. subst (IsFormerList (without (m ∷ []) H') m.page) (sym (former_is ∙ replacing_all m.kind _ begins)) (former_told k.history H' m step (segment_size_of old.log) k.floor at.made);
             sound = kept ∙ fault;
           }

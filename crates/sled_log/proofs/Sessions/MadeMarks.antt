@@ -1,8 +1,7 @@
 -- What it comes to where a session makes a mark: the log is as it was but for its slots and its pins, and so the session stands where it stood.
-use Rattle.std.proofs.Common.{⊎_elim, ◌≡◌, ◌∙◌, ◌≢◌, ◌<◌, ◌≤◌, ◌+◌, ◌-◌, ℕ, Bool, true, false, nat_lt, not, ◌==◌, ◌||◌, List, [], ◌∷◌, length, map, get_or, set, sym, ap, subst, arith, refl, inl, inr, Option, None, Some, Ok, Err, eq-eqb, eqb-true, filter, cond}
+use Rattle.std.proofs.Common.{⊎_elim, ◌≡◌, ◌∙◌, ◌<◌, ◌≤◌, ◌+◌, ◌-◌, ℕ, Bool, true, false, nat_lt, not, ◌==◌, ◌||◌, List, [], ◌∷◌, length, map, get_or, sym, ap, subst, arith, refl, Option, None, Some, Ok, Err, eq-eqb, eqb-true, cond}
 use Rattle.std.specs.Prelude.{is_some}
 use Rattle.std.specs.List.{All, Contains, slice_get}
-use Rattle.std.specs.declared.io.Error.{Error as IoError}
 use Rattle.std.proofs.lemmas.List.Elements.{All-contains}
 use Rattle.sled_codec.specs.declared.result.Error.TheVariants as error
 use Rattle.sled_codec.specs.declared.serialization.message.LogKind.{LogKind}
@@ -18,14 +17,14 @@ use Rattle.sled_store.specs.declared.config.RunningConfig.{RunningConfig}
 use Rattle.sled_store.proofs.Segments.Elements.{from_filter, in_filter, in_first}
 use Rattle.sled_core.specs.Begun.{SegmentView, line_in, segment_view}
 use Rattle.sled_core.specs.declared.logger.Log.{Log}
-use Rattle.sled_core.specs.Fits.{Awaits, AwaitsIn, KeepsTickets, config_of, current_of, fault_of, given_up_of, line_of, machine_at, noted_in, open_places, pins_of, position_of, position_with, reserved_end, segment_size_of, start_of, synced_end, waiting_of}
+use Rattle.sled_core.specs.Fits.{AwaitsIn, KeepsTickets, fault_of, given_up_of, line_of, machine_at, noted_in, pins_of, position_of, segment_size_of, synced_end}
 use Rattle.sled_core.specs.GivenUp.{given_up_along}
 use Rattle.sled_core.specs.Keeps.{GoesOn}
 use Rattle.sled_core.specs.Logged.{in_log}
-use Rattle.sled_core.specs.Marking.{IsOfMessage, TakesMark, but_for}
+use Rattle.sled_core.specs.Marking.{TakesMark, but_for}
 use Rattle.sled_core.specs.OpenBatches.{batch_of, not_whole}
 use Rattle.sled_core.specs.OpenPlaces.{open_places_along}
-use Rattle.sled_core.specs.Positions.{Position, position_in}
+use Rattle.sled_core.specs.Positions.{position_in}
 use Rattle.sled_core.specs.Unmarked.{is_among, without}
 use Rattle.sled_core.specs.Waiting.{last_of, spans, start_in, unwritten}
 use Rattle.sled_core.specs.invariants.Running.{Fits}
@@ -36,11 +35,11 @@ use Rattle.sled_log.specs.declared.session.opened.Opened.{Opened}
 use Rattle.sled_log.specs.declared.session.Phase.TheVariants.{Open}
 use Rattle.sled_log.specs.Made.{IsMade}
 use Rattle.sled_log.specs.Marking.{KeepsBeside, MakesDue, Settles, mark_of, with_due}
-use Rattle.sled_log.specs.RunPhases.{AreUnmarked, BeginsBatch, HasBatch, HasTickets, IsOpenAt, IsSafe, IsUnmarked, Unstored, seen_log, shown_due, stands, traces}
+use Rattle.sled_log.specs.RunPhases.{AreUnmarked, HasBatch, HasTickets, IsOpenAt, IsUnmarked, Unstored, seen_log, shown_due, stands, traces}
 use Rattle.sled_log.specs.RunSlots.{position_over}
-use Rattle.sled_log.specs.RunStates.{DeviceView, DueMark, LogView, MarkAt, RunState, open_messages, top}
-use Rattle.sled_log.specs.SessionMarks.{marking, slots_by, slots_marked, with_mark}
-use Rattle.sled_log.proofs.Sessions.BegunHeads.{HasNoOther, heads_left, other_same}
+use Rattle.sled_log.specs.RunStates.{DeviceView, DueMark, LogView, MarkAt, open_messages, top}
+use Rattle.sled_log.specs.SessionMarks.{marking, slots_by, slots_marked}
+use Rattle.sled_log.proofs.Sessions.BegunHeads.{heads_left, other_same}
 use Rattle.sled_log.proofs.Sessions.SafeItems.{safe_on}
 use Rattle.sled_log.proofs.Sessions.SharedBlobs.{none_shares}
 use Rattle.sled_log.proofs.Sessions.SlotsSeen.{over_seen}

@@ -1,7 +1,8 @@
-//! Marking what is completed, so that segments come free (`specs/SessionMarks.antt`).
+//! Marking what is completed, so that segments come free (`specs/SessionMarks.antt`, `specs/Marking.antt`).
 ghost use Rattle.std.specs.Prelude.{◌≡◌, ◌≢◌, ◌<◌, ◌-◌, ◌∷◌, ℕ, List, [], map, Some, IfOk, IsOkUnless};
 ghost use Rattle.std.specs.Option.{option_copied};
 ghost use Rattle.sled_codec.specs.History.{History, Message};
+ghost use Rattle.sled_store.specs.Marks.{told_of};
 ghost use Rattle.sled_core.specs.Fits.{config_of, fault_of, pins_of};
 ghost use Rattle.sled_core.specs.Keeps.{GoesOn};
 ghost use Rattle.sled_core.specs.Marking.{ChangesAccount};
@@ -9,7 +10,7 @@ ghost use Rattle.sled_core.specs.invariants.Running.{Fits};
 ghost use Rattle.sled_log.specs.Made.{IsMade};
 ghost use Rattle.sled_log.specs.Marking.{HasMarked, KeepsBeside, MakesDue, MakesMark, Settles};
 ghost use Rattle.sled_log.specs.RunPhases.{IsOpenAt, IsUnmarked, RunsOn, Unstored, view_by};
-ghost use Rattle.sled_log.specs.SessionMarks.{free_length, replacing, told_entry, told_state};
+ghost use Rattle.sled_log.specs.SessionMarks.{free_length, replacing, told_state};
 
 use crate::session::opened::{Opened, Origin};
 use sled_codec::result::{Error, PageId, Result};
@@ -85,7 +86,7 @@ pub(crate) fn replaced_by(
 
 /// What the log is told of a page that is present: its Replace, and the Links on that.
 fn all_of(alloc: Global, base: &Entry, frags: &[Entry]) -> Result<Vec<CacheInfo>>
-    ensures list { IfOk result (λ old. old.items ≡ told_entry base.now ∷ map told_entry frags.now) }
+    ensures list { IfOk result (λ old. old.items ≡ told_of base.now ∷ map told_of frags.now) }
     ensures err { IsOkUnless result Error.OutOfMemory }
 {
     let mut old = Vec::with_capacity(alloc, frags.len() + 1)?;
@@ -98,7 +99,7 @@ fn all_of(alloc: Global, base: &Entry, frags: &[Entry]) -> Result<Vec<CacheInfo>
 
 /// What the log is told of an entry of the table.
 fn told(entry: &Entry) -> CacheInfo
-    ensures { result ≡ told_entry entry.now }
+    ensures { result ≡ told_of entry.now }
 {
     CacheInfo {
         lsn: entry.0,

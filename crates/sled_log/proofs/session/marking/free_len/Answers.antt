@@ -1,6 +1,6 @@
 -- The segment's number is the quotient, and each number has nine bytes at most.
 use native.Mathlib.Nat.{div-zero}
-use Rattle.std.proofs.Common.{◌≡◌, ◌∙◌, ◌<◌, ◌+◌, ◌/◌, ℕ, zero, suc, Bool, true, false, if◌then◌else◌, nat_lt, length, Option, None, Some, ap, sym, refl, arith}
+use Rattle.std.proofs.Common.{◌≡◌, ◌∙◌, ◌<◌, ◌+◌, ◌/◌, ℕ, zero, suc, Bool, false, if◌then◌else◌, nat_lt, length, Option, None, Some, ap, sym, refl, arith}
 use Rattle.std.specs.Prelude.{SomeIff, unwrap_or}
 use Rattle.std.proofs.lemmas.Bool.Decides.{nat_tests}
 use Rattle.sled_codec.specs.Spelling.{short_number}

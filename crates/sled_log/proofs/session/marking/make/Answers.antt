@@ -1,9 +1,9 @@
-use Rattle.std.proofs.Common.{◌≡◌, ◌∙◌, ◌∷◌, [], rules, List, ap, sym, subst, Result, Ok, Err}
+use Rattle.std.proofs.Common.{◌≡◌, ◌∙◌, ◌∷◌, [], rules, ap, sym, subst, Result, Ok, Err}
 use Rattle.std.specs.Prelude.{OnOk}
 use Rattle.sled_codec.specs.declared.serialization.message.LogKind.TheVariants as does
 use Rattle.sled_store.specs.Outdated.{NoneShares}
 use Rattle.sled_store.specs.Marks.{IsFormerList}
-use Rattle.sled_store.specs.SegmentStates.{Machine, replaced}
+use Rattle.sled_store.specs.SegmentStates.{replaced}
 use Rattle.sled_core.specs.Fits.{machine_at, segment_size_of}
 use Rattle.sled_core.specs.Unmarked.{without}
 use Rattle.sled_core.proofs.PublicLaws.{goes_on_still}

@@ -1,4 +1,4 @@
-use Rattle.std.proofs.Common.{◌≡◌, ◌∙◌, ◌∷◌, List, [], Option, None, Some, ap, sym, subst, refl}
+use Rattle.std.proofs.Common.{◌∙◌, sym}
 use Rattle.sled_log.specs.RunPhases.{view_by}
 use Rattle.sled_log.proofs.Sessions.MadeMarks.{due_kept, due_made}
 use Rattle.sled_log.proofs.session.marking.make_due.Goals as goal
