@@ -79,12 +79,12 @@ module _ (sum : List ℕ → ℕ) (size : ℕ) (a : RunState) (c : Command) (new
 
 -- a test that passes, or not, by its opposite
 pub not_true : (b : Bool) → not b ≡ true → b ≡ false
-not_true true no = sym no
-not_true false yes = refl
+not_true true is = sym is
+not_true false is = refl
 
 pub not_false : (b : Bool) → not b ≡ false → b ≡ true
-not_false true no = refl
-not_false false yes = sym yes
+not_false true is = refl
+not_false false is = sym is
 
 -- What stays recoverable within a command that calls the log, which is no opening.
 module _ (sum : List ℕ → ℕ) (size : ℕ) where
@@ -142,7 +142,7 @@ module _ {D C : Type 0} (view : D → DeviceView) (sum : List ℕ → ℕ) (old 
       → ((calls_log c ≡ true → mid.due ≡ None) → CarriesHere view sum (Open mid) c result) → CarriesOut view sum (Open old) c result
   due_first result makes carries = λ k at free.
       let made = makes k at in
-      let does = carries (λ yes. made.1) k made.0 (free_first result k made.0 made.2 free) in
+      let does = carries (λ asks. made.1) k made.0 (free_first result k made.0 made.2 free) in
       record {
         not_refused = does.not_refused;
         next = does.next;
@@ -179,7 +179,7 @@ module _ {D C : Type 0} (view : D → DeviceView) (sum : List ℕ → ℕ) (old 
 pub carried_plain : {D C : Type 0} (view : D → DeviceView) (sum : List ℕ → ℕ) (old : Opened D C) (c : Command) (result : Phase D C × Reply) → calls_log c ≡ false
     → ((calls_log c ≡ true → old.due ≡ None) → CarriesHere view sum (Open old) c result) → CarriesOut view sum (Open old) c result
 carried_plain view sum old c result plain carries = λ k at free.
-    let does = carries (λ yes. (let clash : true ≡ false = sym yes ∙ plain in cc)) k at free in
+    let does = carries (λ asks. (let clash : true ≡ false = sym asks ∙ plain in cc)) k at free in
     record {
       not_refused = does.not_refused;
       next = does.next;

@@ -211,10 +211,10 @@ module _ (sum : List ℕ → ℕ) (size : ℕ) (device : DeviceView) (H : Histor
 
     -- Tickets are spent.
 
-    comes : (t : ℕ) (m : Message) (event : HistoryEvent) (H' : History) (log : LogView) (then : Option DueMark) (new : DeviceView) (b : RunState)
+    comes : (t : ℕ) (m : Message) (event : HistoryEvent) (H' : History) (log : LogView) (mark : Option DueMark) (new : DeviceView) (b : RunState)
         → slice_get l.tickets t ≡ Some (Some m) → Step H event H' → log.tickets ≡ set l.tickets t None
-        → b ≡ record a { device = new; history = H'; log = Some log; due = then } → Comes a t m event b × Led a new b
-    comes t m event H' log then new b there step spends leads = (
+        → b ≡ record a { device = new; history = H'; log = Some log; due = mark } → Comes a t m event b × Led a new b
+    comes t m event H' log mark new b there step spends leads = (
       (
         there,
         subst (λ (x : RunState). Step H event x.history) (sym leads) step,
@@ -228,7 +228,7 @@ module _ (sum : List ℕ → ℕ) (size : ℕ) (device : DeviceView) (H : Histor
     complete t (reply.Done place pointer) new b has =
         let spends : has.log.tickets ≡ set l.tickets t None = ap (λ (x : LogView). x.tickets) has.is in
         let mark : DueMark = mark_for size f H has.message in
-        let came = elim has.leads [
+        let came : Comes a t has.message (Completed has.message) b × Led a new b = elim has.leads [
           | inl now ↦ comes t has.message (Completed has.message) has.history (marking size mark has.log) due new b has.reserved has.step spends now
           | inr late ↦ comes t has.message (Completed has.message) has.history has.log (Some mark) new b has.reserved has.step spends late
         ] in
@@ -491,7 +491,7 @@ module _ (sum : List ℕ → ℕ) (size : ℕ) where
   answered a c (reply.Refused w) new b ends own is =
       let kept = same sum size a.device a.history a.acknowledged a.floor a.due a.log new b is.1 in
       tells (λ r. Moves sum size a c r b) new.is_stopped (reply.Refused w) (refused_moves a b c w kept.0) (λ e no. cc)
-  answered a c came new b ends own step = from_due a c came new b ends own (calls_log c) (λ yes. yes) a.due step
+  answered a c came new b ends own step = from_due a c came new b ends own (calls_log c) (λ asks. asks) a.due step
 
   -- So a run comes to what the headline says.
   pub recovers : {D C : Type 0} (view : D → DeviceView) (Leads : RunState → Type 0) → (a : RunState) (cs : List Command) (rs : List Reply)

@@ -633,11 +633,11 @@ run_over view k log begun due = record {
 }
 
 -- no room was made for a place, for want of memory, or since the log keeps a failure
-pub roomless_step : (T : Type 0) (segment : ℕ) (run : RunState) (log : LogView) (at : Position) (e : Error) (b : RunState) → FaultOrMemory {T = T} (Err e) ⊥ log.fault → b ≡ run → RefusedStep segment run log at e b
-roomless_step T segment run log at (error.Io x) b whole is = (whole, is)
-roomless_step T segment run log at error.OutOfMemory b whole is = (whole.1, is)
-roomless_step T segment run log at error.PlacesUsedUp b whole is = absurd whole.0
-roomless_step T segment run log at _ b whole is = absurd whole
+pub roomless_step : (segment : ℕ) (run : RunState) (log : LogView) (at : Position) (e : Error) (b : RunState) → FaultOrMemory {T = Unit {0}} (Err e) ⊥ log.fault → b ≡ run → RefusedStep segment run log at e b
+roomless_step segment run log at (error.Io x) b whole is = (whole, is)
+roomless_step segment run log at error.OutOfMemory b whole is = (whole.1, is)
+roomless_step segment run log at error.PlacesUsedUp b whole is = absurd whole.0
+roomless_step segment run log at _ b whole is = absurd whole
 
 pub room_tried : {D C : Type 0} (view : D → DeviceView) (sum : List ℕ → ℕ) (old mid new : Opened D C) (kind : LogKind) (page : ℕ) (bytes : List ℕ) (result : Reply) (k : Unstored) → MakesRoom old mid
     → HasTried view sum mid kind page bytes new result k → HasTried view sum old kind page bytes new result k
@@ -658,16 +658,16 @@ pub room_stands : {D C : Type 0} (view : D → DeviceView) (old new : Opened D C
 room_stands view old new k room = λ i. run_over view k (room.log i) (length (room.pages i).items) (room.due i)
 
 -- without room for a ticket, or where the log keeps a failure
-pub roomless_tried : (T : Type 0) {D C : Type 0} (view : D → DeviceView) (sum : List ℕ → ℕ) (old new : Opened D C) (kind : LogKind) (page : ℕ) (bytes : List ℕ) (k : Unstored) (e : Error) → MakesRoom old new
-    → FaultOrMemory {T = T} (Err e) ⊥ (fault_of old.log) → IsOpenAt (traces view) sum old k → HasTried view sum old kind page bytes new (reply.Failed e) k
-roomless_tried T view sum old new kind page bytes k e room whole at =
+pub roomless_tried : {D C : Type 0} (view : D → DeviceView) (sum : List ℕ → ℕ) (old new : Opened D C) (kind : LogKind) (page : ℕ) (bytes : List ℕ) (k : Unstored) (e : Error) → MakesRoom old new
+    → FaultOrMemory {T = Unit {0}} (Err e) ⊥ (fault_of old.log) → IsOpenAt (traces view) sum old k → HasTried view sum old kind page bytes new (reply.Failed e) k
+roomless_tried view sum old new kind page bytes k e room whole at =
     let size : ℕ = segment_size_of old.log in
     let l : LogView = seen old k.tickets k.given_up k.heads in
     record {
       not_refused = refl;
       acts = acts_same sum size l kind page bytes (device_in view (phase.Open old)) (device_in view (phase.Open new)) e (ap (λ x. view x.config.device) room.log);
       tickets = k;
-      step = inl (roomless_step T size (stands view (phase.Open old) k) l (target_in size l page (body_length old.log (length bytes))) e (stands view (phase.Open new) k) whole (room_stands view old new k room));
+      step = inl (roomless_step size (stands view (phase.Open old) k) l (target_in size l page (body_length old.log (length bytes))) e (stands view (phase.Open new) k) whole (room_stands view old new k room));
       at = room_at (traces view) sum old new k room at;
       crash = untouched (traces view) sum old k at (traces view (device_of new.log)) (ap (λ x. traces view x.config.device) room.log);
     }

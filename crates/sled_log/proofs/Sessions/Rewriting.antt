@@ -183,15 +183,15 @@ module _ {D C : Type 0} (view : D → DeviceView) (sum : List ℕ → ℕ) (old 
       }
 
   -- Without room, or where the log keeps a failure, nothing is done.
-  pub roomless_again : (T : Type 0) (e : Error) → FaultOrMemory {T = T} (Err e) ⊥ (fault_of old.log) → HasTriedAgain view sum old page mid (reply.Failed e) k
-  roomless_again T e whole =
+  pub roomless_again : (e : Error) → FaultOrMemory {T = Unit {0}} (Err e) ⊥ (fault_of old.log) → HasTriedAgain view sum old page mid (reply.Failed e) k
+  roomless_again e whole =
       let size : ℕ = segment_size_of old.log in
       let l : LogView = seen old k.tickets k.given_up k.heads in
       record {
         not_refused = refl;
         device = ap (λ x. view x.config.device) room.log;
         tickets = k;
-        step = roomless_step T size (stands view (Open old) k) l (target_in size l page 8) e (stands view (Open mid) k) whole (room_stands view old mid k room);
+        step = roomless_step size (stands view (Open old) k) l (target_in size l page 8) e (stands view (Open mid) k) whole (room_stands view old mid k room);
         at = room_at (traces view) sum old mid k room at;
       }
 

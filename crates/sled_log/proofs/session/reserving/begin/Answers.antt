@@ -22,7 +22,7 @@ returns-in-Err-clause-step g c = λ none k at asked.
     let old = c.args.opened.now in
     let mid = c.room_for_ticket.new.opened in
     begin_does view sum old k mid _
-    (roomless_tried _ view sum old mid does.Skip manifest_page blank_manifest k c.in-Err.e c.room_for_ticket.ensures.room c.in-Err.ensures.whole at)
+    (roomless_tried view sum old mid does.Skip manifest_page blank_manifest k c.in-Err.e c.room_for_ticket.ensures.room c.in-Err.ensures.whole at)
 
 -- The place that the log kept has a ticket.
 pub returns-in-Ok-clause-step : goal.returns-in-Ok-clause-step

@@ -9,7 +9,7 @@ use Rattle.sled_log.proofs.session.reserving.reserve.Goals as goal
 -- Without room for a ticket nothing is done.
 pub returns-in-Err-clause-step : goal.returns-in-Err-clause-step
 returns-in-Err-clause-step g c = λ none k at may.
-    roomless_tried _ (view_by g.D.Device.trace g.D.Device.faults g.D.CrashDevice.is_stopped) g.C.Checksum.sum_of c.args.opened.now c.room_for.new.opened c.args.kind c.args.page
+    roomless_tried (view_by g.D.Device.trace g.D.Device.faults g.D.CrashDevice.is_stopped) g.C.Checksum.sum_of c.args.opened.now c.room_for.new.opened c.args.kind c.args.page
     (g.T.Serialize.short (g.T.Serialize.meaning c.args.item.now)) k c.in-Err.e c.room_for.ensures.room c.in-Err.ensures.whole at
 
 pub hold-requires-clause-message : goal.hold-requires-clause-message

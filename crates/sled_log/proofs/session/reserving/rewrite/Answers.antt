@@ -14,7 +14,7 @@ returns-in-Err-clause-step g c = λ none k at asked.
     let view = view_by g.D.Device.trace g.D.Device.faults g.D.CrashDevice.is_stopped in
     let old = c.args.opened.now in
     let mid = c.room_for.new.opened in
-    rewrite_does view g.C.Checksum.sum_of old c.args.page mid _ k at (roomless_again view g.C.Checksum.sum_of old mid k c.args.page c.room_for.ensures.room at _ c.in-Err.e c.in-Err.ensures.whole)
+    rewrite_does view g.C.Checksum.sum_of old c.args.page mid _ k at (roomless_again view g.C.Checksum.sum_of old mid k c.args.page c.room_for.ensures.room at c.in-Err.e c.in-Err.ensures.whole)
 
 pub hold-requires-clause-message : goal.hold-requires-clause-message
 hold-requires-clause-message g c = noted_page c.room_for.new.opened.busy c.args.page c.in_default-room_for.ensures.enough.2
