@@ -19,7 +19,6 @@ use Rattle.sled_log.specs.declared.session.command.Command.TheVariants as comman
 use Rattle.sled_log.specs.declared.session.command.Refusal.{Refusal}
 use Rattle.sled_log.specs.declared.session.command.Refusal.TheVariants as why
 use Rattle.sled_log.specs.declared.session.command.Reply.{Reply}
-use Rattle.sled_log.specs.declared.session.command.Reply.TheVariants as reply
 use Rattle.sled_log.specs.Refusals.{is_absent, is_busy, refusal_for, when}
 use Rattle.sled_log.specs.Reservations.{HasTried, MayReserve}
 use Rattle.sled_log.specs.RunStates.{DeviceView, LogView, RunState, body_in, in_batch, is_present, page_now, target_in}

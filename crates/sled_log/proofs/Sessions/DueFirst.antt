@@ -77,15 +77,6 @@ module _ (sum : List ℕ → ℕ) (size : ℕ) (a : RunState) (c : Command) (new
     by None none = cc
     by (Some d) one = inl (same, is)
 
--- a test that passes, or not, by its opposite
-pub not_true : (b : Bool) → not b ≡ true → b ≡ false
-not_true true is = sym is
-not_true false is = refl
-
-pub not_false : (b : Bool) → not b ≡ false → b ≡ true
-not_false true is = refl
-not_false false is = sym is
-
 -- What stays recoverable within a command that calls the log, which is no opening.
 module _ (sum : List ℕ → ℕ) (size : ℕ) where
   within_log : (a : RunState) (c : Command) (new : DeviceView) (b : RunState) → calls_log c ≡ true → StaysRecoverable sum size a a.device.trace new.trace → StaysWithin sum size a c new b

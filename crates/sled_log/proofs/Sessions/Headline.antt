@@ -1,5 +1,5 @@
 -- The headline of a run follows from what each of its commands comes to.
-use Rattle.std.proofs.Common.{◌≡◌, ◌∙◌, ◌⊎◌, ◌+◌, ◌≤◌, ◌<◌, ◌==◌, nat_lt, if◌then◌else◌, arith, ℕ, ℤ, pos, max, Bool, true, false, List, [], ◌∷◌, length, Option, None, Some, refl, sym, ap, subst, inl, inr}
+use Rattle.std.proofs.Common.{◌≡◌, ◌∙◌, ◌⊎◌, ◌+◌, ◌≤◌, ◌<◌, nat_lt, if◌then◌else◌, arith, ℕ, ℤ, pos, max, Bool, true, false, List, [], ◌∷◌, length, Option, None, Some, refl, sym, ap, subst, inl, inr}
 use Rattle.std.specs.List.{Contains}
 use Rattle.std.specs.Prelude.{◌≤ℤ◌, ◌<ℤ◌, IsTrue, set, slice_get}
 use Rattle.std.specs.declared.io.Error.{Error as IoError}

@@ -1,9 +1,8 @@
 //! Keeping places for messages, and beginning batches.
-ghost use Rattle.std.specs.Prelude.{[], ◌≡◌, ◌≢◌, ◌<◌, ◌≤◌, ◌-◌, ◌^◌, false, get_or, length, vec_capacity, vec_len, None, OnErr, OnOk};
+ghost use Rattle.std.specs.Prelude.{[], ◌≡◌, ◌≢◌, ◌<◌, ◌-◌, ◌^◌, length, vec_capacity, vec_len, None, OnOk};
 ghost use Rattle.sled_codec.specs.History.{ChangesPage};
 ghost use Rattle.sled_codec.specs.declared.serialization.message.LogKind.TheVariants.{Free, Skip};
 ghost use Rattle.sled_core.specs.Manifests.{manifest_page};
-ghost use Rattle.sled_core.specs.Tickets.{place_of, pointer_of};
 ghost use Rattle.sled_log.specs.declared.session.command.Command.TheVariants as told;
 ghost use Rattle.sled_log.specs.Reservations.{GivesBack, HoldsTicket, MakesRoom, Reserves};
 ghost use Rattle.sled_log.specs.RunPhases.{CarriesHere, RunsOn, view_by};
@@ -33,7 +32,8 @@ pub(crate) fn reserve<D: CrashDevice, C: Checksum, T: Serialize>(
     requires fits { T.fits (T.meaning item.now) }
     requires kind { ChangesPage kind }
     requires plain { kind ≡ Free → T.short (T.meaning item.now) ≡ [] }
-    ensures step { opened.old.due ≡ None → Reserves (view_by D.trace D.faults D.is_stopped) C.sum_of opened.old kind page (T.short (T.meaning item.now)) opened.new result }
+    ensures step { opened.old.due ≡ None → Reserves (view_by D.trace D.faults D.is_stopped) C.sum_of
+        opened.old kind page (T.short (T.meaning item.now)) opened.new result }
     ensures on { RunsOn D.trace (config_of opened.old.log) (config_of opened.new.log) }
 {
     if let Err(e) = room_for(opened, page) {

@@ -1,21 +1,18 @@
 -- A log that is started goes on where the recovered table ends, and a start that fails leaves what can be recovered.
-use Rattle.std.proofs.Common.{◌≡◌, ◌≤◌, ◌<◌, ◌+◌, ◌∙◌, ℕ, List, [], None, Some, length, nat_lt, true, ℤ, refl, sym, ap, subst, arith, rules, ◌∷◌, ◌-ℤ◌, pos}
+use Rattle.std.proofs.Common.{◌≡◌, ◌≤◌, ◌<◌, ◌+◌, ◌∙◌, ℕ, List, [], Some, length, refl, sym, ap, subst, arith, rules, ◌∷◌, ◌-ℤ◌, pos}
 use Rattle.std.proofs.lemmas.List.{length-map}
 use Rattle.sled_codec.specs.Snapshots.{SnapshotModel, model_of, stable_place}
 use Rattle.sled_store.specs.Device.{Trace, state_of}
-use Rattle.sled_store.specs.Moments.{LeavesOnly}
 use Rattle.sled_codec.specs.Record.{short_header}
 use Rattle.sled_log.specs.RunStates.{MarkAt, heads_on}
 use Rattle.sled_log.specs.WriteSteps.{headed}
 use Rattle.sled_store.proofs.Segments.Elements.{in_first, in_nothing}
-use Rattle.sled_core.specs.Account.{Account, account_of}
 use Rattle.sled_core.specs.OpenBatches.{stable_below}
 use Rattle.sled_core.specs.Starts.{start_from}
 use Rattle.sled_core.specs.Heads.{HeadAt}
-use Rattle.sled_core.specs.declared.logger.Log.{Log}
 use Rattle.sled_store.proofs.Traces.MomentLemmas.{at_last}
-use Rattle.sled_core.specs.Fits.{fault_of, given_up_of, noted_in, open_places, pins_of, position_of, reserved_end, start_of, synced_end, waiting_of, current_begin, heads_of, stable_end, fillings_of}
-use Rattle.sled_core.specs.Recoverable.{LeavesRecoverable, RecoverableIfOwn}
+use Rattle.sled_core.specs.Fits.{noted_in, open_places, reserved_end, synced_end, waiting_of, current_begin, stable_end}
+use Rattle.sled_core.specs.Recoverable.{LeavesRecoverable}
 use Rattle.sled_core.specs.Waiting.{spans}
 use Rattle.sled_log.proofs.Sessions.RunLemmas.{start_cause}
 use Rattle.sled_log.proofs.Sessions.RunLogs.{starts_at}

@@ -1,8 +1,7 @@
 -- A place is kept for a message, or nothing is done but that room is made.
-use Rattle.std.proofs.Common.{◌≡◌, ◌∙◌, length, subst, Ok, Err}
-use Rattle.sled_core.specs.Fits.{body_length, in_blob_of, machine_at}
+use Rattle.std.proofs.Common.{◌∙◌, length, Ok, Err}
+use Rattle.sled_core.specs.Fits.{body_length, in_blob_of}
 use Rattle.sled_log.specs.RunPhases.{view_by}
-use Rattle.sled_log.proofs.Sessions.KeptPlaces.{slots_behind}
 use Rattle.sled_log.proofs.Sessions.Reserving.{came_pinned, failed_tried, given_tried, held_tried, kind_some, none_inline, noted_page, pin_taken, room_at, room_may, room_tried, roomless_tried, went_back}
 use Rattle.sled_log.proofs.session.reserving.reserve.Goals as goal
 

@@ -1,5 +1,5 @@
 -- A place is kept for the message of a page again whose item stays in its blob, or nothing is done but that room is made.
-use Rattle.std.proofs.Common.{◌≡◌, ◌∙◌, List, SFits, rules, subst, sym, ℕ}
+use Rattle.std.proofs.Common.{◌∙◌, List, SFits, rules, subst, sym, ℕ}
 use Rattle.std.specs.Int.{w64}
 use Rattle.std.proofs.lemmas.Int.{to_z-of_z}
 use Rattle.sled_core.specs.Fits.{Awaits, message_rewriting}

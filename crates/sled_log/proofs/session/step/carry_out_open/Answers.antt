@@ -3,7 +3,7 @@ use Rattle.std.proofs.Common.{◌∙◌, sym}
 use Rattle.sled_log.specs.declared.session.command.Reply.TheVariants as reply
 use Rattle.sled_log.specs.RunPhases.{view_by}
 use Rattle.sled_log.proofs.Sessions.DeviceLemmas.{went_on}
-use Rattle.sled_log.proofs.Sessions.DueFirst.{carried_plain, due_first, due_touches, not_false, not_true, postponed}
+use Rattle.sled_log.proofs.Sessions.DueFirst.{carried_plain, due_first, due_touches, postponed}
 use Rattle.sled_log.proofs.Sessions.RunLemmas.{runs_on_both}
 use Rattle.sled_log.proofs.session.step.carry_out_open.Goals as goal
 
@@ -12,13 +12,13 @@ pub returns-then-not-calls_log-clause-step : goal.returns-then-not-calls_log-cla
 returns-then-not-calls_log-clause-step g c =
     let view = view_by g.D.Device.trace g.D.Device.faults g.D.CrashDevice.is_stopped in
     carried_plain view g.C.Checksum.sum_of c.args.opened c.args.command.now c.carry_out_marked.result
-    (sym c.calls_log.ensures ∙ not_true c.calls_log.result c.if-not-calls_log.true) c.carry_out_marked.ensures.step
+    (sym c.calls_log.ensures ∙ c.if-not-calls_log.true) c.carry_out_marked.ensures.step
 
 -- The mark was made.
 pub returns-in-Ok-clause-step : goal.returns-in-Ok-clause-step
 returns-in-Ok-clause-step g c =
     let view = view_by g.D.Device.trace g.D.Device.faults g.D.CrashDevice.is_stopped in
-    due_first view g.C.Checksum.sum_of c.args.opened c.make_due.new.opened c.args.command.now (sym c.calls_log.ensures ∙ not_false c.calls_log.result c.if-not-calls_log.false)
+    due_first view g.C.Checksum.sum_of c.args.opened c.make_due.new.opened c.args.command.now (sym c.calls_log.ensures ∙ c.if-not-calls_log.false)
     c.in-Ok.ensures.same c.carry_out_marked-in-Ok.result
     (λ k at. (let made = c.in-Ok.ensures.makes k at in (made.at, made.none, made.made))) c.carry_out_marked-in-Ok.ensures.step
 
@@ -26,21 +26,21 @@ returns-in-Ok-clause-step g c =
 pub returns-in-Err-clause-step : goal.returns-in-Err-clause-step
 returns-in-Err-clause-step g c =
     let view = view_by g.D.Device.trace g.D.Device.faults g.D.CrashDevice.is_stopped in
-    postponed view g.C.Checksum.sum_of c.args.opened c.make_due.new.opened c.args.command.now (sym c.calls_log.ensures ∙ not_false c.calls_log.result c.if-not-calls_log.false)
+    postponed view g.C.Checksum.sum_of c.args.opened c.make_due.new.opened c.args.command.now (sym c.calls_log.ensures ∙ c.if-not-calls_log.false)
     c.in-Err.ensures.same c.in-Err.e c.in-Err.ensures.err
     (λ k at. (let made = c.in-Err.ensures.makes k at in (made.at, made.some, made.kept)))
 
 pub returns-in-Ok-clause-device : goal.returns-in-Ok-clause-device
 returns-in-Ok-clause-device g c =
     let view = view_by g.D.Device.trace g.D.Device.faults g.D.CrashDevice.is_stopped in
-    due_touches view g.C.Checksum.sum_of c.args.opened c.make_due.new.opened c.args.command.now (sym c.calls_log.ensures ∙ not_false c.calls_log.result c.if-not-calls_log.false)
+    due_touches view g.C.Checksum.sum_of c.args.opened c.make_due.new.opened c.args.command.now (sym c.calls_log.ensures ∙ c.if-not-calls_log.false)
     c.in-Ok.ensures.same c.carry_out_marked-in-Ok.result.0 c.carry_out_marked-in-Ok.result.1 c.carry_out_marked-in-Ok.ensures.device
 
 pub returns-in-Err-clause-device : goal.returns-in-Err-clause-device
 returns-in-Err-clause-device g c =
     let view = view_by g.D.Device.trace g.D.Device.faults g.D.CrashDevice.is_stopped in
     went_on view g.C.Checksum.sum_of c.args.opened c.make_due.new.opened c.args.command.now (reply.Failed c.in-Err.e)
-    (sym c.calls_log.ensures ∙ not_false c.calls_log.result c.if-not-calls_log.false) c.in-Err.ensures.on
+    (sym c.calls_log.ensures ∙ c.if-not-calls_log.false) c.in-Err.ensures.on
 
 pub returns-in-Ok-clause-on : goal.returns-in-Ok-clause-on
 returns-in-Ok-clause-on g c = runs_on_both g.D.Device.trace _ _ _ c.in-Ok.ensures.on c.carry_out_marked-in-Ok.ensures.on
