@@ -1,5 +1,5 @@
 -- What stands in each phase of a session.
-use Rattle.std.specs.Prelude.{◌≡◌, ◌≢◌, ◌+◌, ◌≤◌, ◌<◌, ℕ, pos, Bool, true, false, List, [], ◌∷◌, length, map, get_or, slice_get, Option, None, Some}
+use Rattle.std.specs.Prelude.{◌≡◌, ◌≢◌, ◌+◌, ◌≤◌, ◌<◌, ℕ, Bool, true, false, List, [], ◌∷◌, length, map, get_or, slice_get, Option, None, Some}
 use Rattle.std.specs.List.{All, Contains}
 use Rattle.sled_codec.specs.declared.serialization.message.LogKind.TheVariants.{Link, Skip}
 use Rattle.sled_codec.specs.History.{Batch, Message, History, begins_page}
