@@ -5,10 +5,12 @@ pub mod DeviceLemmas
 pub mod EndedBatches
 pub mod EndedTickets
 pub mod Endings
+pub mod FormerPages
 pub mod Headline
 pub mod KeptPlaces
 pub mod MadeBatches
 pub mod MadeHistories
+pub mod MadeMarks
 pub mod MadePages
 pub mod MadeStable
 pub mod MadeTables

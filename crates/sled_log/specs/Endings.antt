@@ -7,10 +7,12 @@ use Rattle.sled_codec.specs.declared.serialization.message.LogKind.TheVariants a
 use Rattle.sled_codec.specs.declared.serialization.snapshot.PageState.{PageState}
 use Rattle.sled_codec.specs.declared.serialization.snapshot.PageState.TheVariants as state
 use Rattle.sled_codec.specs.Snapshots.{Entry, Free, Page, Present, Uninitialized, page_of}
+use Rattle.sled_store.specs.declared.segment.slot.CacheInfo.{CacheInfo}
 use Rattle.sled_core.specs.Fits.{IsOpen}
 use Rattle.sled_core.specs.Manifests.{manifest_page}
 use Rattle.sled_log.specs.declared.session.opened.Opened.{Opened}
 use Rattle.sled_log.specs.declared.session.opened.Ticket.{Ticket}
+use Rattle.sled_log.specs.SessionMarks.{replacing, told_state}
 
 -- The table.
 
@@ -61,6 +63,11 @@ pub record KeepsPages {D C : Type 0} (old new : Opened D C) : Type 0 where
 -- there is room for the entry of the message of a ticket
 abbrev pub HasRoomFor : {D C : Type 0} → Opened D C → ℕ → Type 0
 HasRoomFor opened number = (ticket : Ticket) → slice_get opened.tickets.items number ≡ Some (Some ticket) → HasRoomToApply opened.pages ticket.kind ticket.page
+
+-- the message of a ticket takes the place of these
+abbrev pub IsFormerFor : {D C : Type 0} → Opened D C → ℕ → List CacheInfo → Type 0
+IsFormerFor opened number old = (ticket : Ticket) → slice_get opened.tickets.items number ≡ Some (Some ticket)
+    → old ≡ replacing ticket.kind (told_state opened.origin.size opened.origin.floor ticket.page (slice_get opened.pages.items ticket.page))
 
 -- the number of the open manifest's ticket, once a ticket of this page is taken
 abbrev pub batch_left : ℕ → Option ℕ → Option ℕ

@@ -3,6 +3,7 @@ pub mod Endings
 pub mod Headline
 pub mod IteratorBegins
 pub mod Made
+pub mod Marking
 pub mod OpenSteps
 pub mod Openings
 pub mod Ordering

@@ -5,12 +5,13 @@ use Rattle.sled_codec.specs.declared.serialization.message.LogKind.{LogKind}
 use Rattle.sled_codec.specs.declared.serialization.message.LogKind.TheVariants as does
 use Rattle.sled_codec.specs.History.{History, Message}
 use Rattle.sled_codec.specs.declared.serialization.snapshot.PageState.{PageState}
-use Rattle.sled_codec.specs.Snapshots.{Entry, Free, Page, Present, Uninitialized, page_of}
-use Rattle.sled_store.specs.Marks.{info_of}
+use Rattle.sled_codec.specs.Snapshots.{Free, Page, Present, Uninitialized, page_of}
+use Rattle.sled_store.specs.Marks.{info_of, told_of}
 use Rattle.sled_store.specs.SegmentStates.{Machine, linked, replaced}
 use Rattle.sled_store.specs.declared.segment.slot.CacheInfo.{CacheInfo}
 use Rattle.sled_core.specs.Account.{Account}
 use Rattle.sled_core.specs.Buffers.{record_size}
+use Rattle.sled_log.specs.RunSlots.{position_over}
 use Rattle.sled_log.specs.RunStates.{DueMark, LogView, RunState, page_now}
 
 -- How long the record of a Free is: a header alone. Of one from before a restart a recovery doesn't tell, and it counts as 32.
@@ -22,16 +23,12 @@ abbrev pub told_by : ℕ → ℕ → LogKind → Message → CacheInfo
 told_by size floor does.Free m = record { lsn = pos m.place; pointer = m.pointer; log_size = free_length size floor m.page m.place }
 told_by size floor kind m = info_of m
 
-abbrev pub told_of : ℕ → ℕ → Message → CacheInfo
-told_of size floor m = told_by size floor m.kind m
-
--- the same of the entry of a table
-abbrev pub told_entry : Entry → CacheInfo
-told_entry e = record { lsn = e.0; pointer = e.1; log_size = e.2 }
+abbrev pub told_message : ℕ → ℕ → Message → CacheInfo
+told_message size floor m = told_by size floor m.kind m
 
 -- and of all that a page is
 abbrev pub told_page : ℕ → ℕ → ℕ → Page → List CacheInfo
-told_page size floor page (Present base frags) = told_entry base ∷ map told_entry frags
+told_page size floor page (Present base frags) = told_of base ∷ map told_of frags
 told_page size floor page (Free place pointer) =
     record { lsn = place; pointer = pointer; log_size = free_length size floor page (unsigned_abs place) } ∷ []
 told_page size floor page Uninitialized = []
@@ -49,7 +46,7 @@ replacing kind old = old
 -- the mark of a message that is completed
 abbrev pub mark_for : ℕ → ℕ → History → Message → DueMark
 mark_for size floor H m =
-    record { kind = m.kind; page = m.page; old = replacing m.kind (map (told_of size floor) (page_now H m.page)); new = info_of m }
+    record { kind = m.kind; page = m.page; old = replacing m.kind (map (told_message size floor) (page_now H m.page)); new = info_of m }
 
 -- what a mark of this kind makes of the slots
 abbrev pub slots_by : ℕ → LogKind → DueMark → Machine → Machine
@@ -67,9 +64,9 @@ with_pin l = record l { pins = l.pins + 1; account = record l.account { pinned =
 abbrev pub without_pin : LogView → LogView
 without_pin l = record l { pins = l.pins - 1; account = record l.account { pinned = nat_lt 0 (l.pins - 1) } }
 
--- a log once a mark is made, whose pin goes back
+-- A log once a mark is made, whose pin goes back. Where its next record may begin has the slots behind it, and so those that the mark left.
 abbrev pub marking : ℕ → DueMark → LogView → LogView
-marking size d l = without_pin (record l { machine = slots_marked size d l.machine })
+marking size d l = let m = slots_marked size d l.machine in without_pin (record l { position = position_over size l m; machine = m })
 
 -- the run goes on from there, with none due
 abbrev pub marking_in : ℕ → DueMark → Option LogView → Option LogView

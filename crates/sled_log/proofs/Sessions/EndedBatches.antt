@@ -12,7 +12,7 @@ use Rattle.sled_core.specs.declared.logger.Log.{Log}
 use Rattle.sled_core.specs.declared.reservation.Reservation.{Reservation}
 use Rattle.sled_core.specs.Batches.{EndsBatch, MayEndAt, NotesBatchOf, batch_for, with_batch_for}
 use Rattle.sled_core.specs.Causes.{FaultAnswers}
-use Rattle.sled_core.specs.Fits.{Awaits, KeepsBuffers, config_of, device_of, fault_of, given_up_of, noted_in, open_places, reserved_end}
+use Rattle.sled_core.specs.Fits.{Awaits, KeepsBuffers, config_of, device_of, fault_of, given_up_of, machine_at, noted_in, open_places, reserved_end}
 use Rattle.sled_core.specs.Among.{AreAmong}
 use Rattle.sled_core.specs.Keeps.{SamePosition}
 use Rattle.sled_core.specs.Manifests.{is_manifest, manifest_page}
@@ -29,10 +29,11 @@ use Rattle.sled_log.specs.declared.session.command.Refusal.TheVariants as why
 use Rattle.sled_log.specs.declared.session.command.Reply.TheVariants as reply
 use Rattle.sled_log.specs.Endings.{TakesTicket}
 use Rattle.sled_log.specs.Refusals.{when}
-use Rattle.sled_log.specs.RunPhases.{Does, HasBatch, IsOpenAt, IsSafe, IsTicketFor, Unstored, seen, traces}
+use Rattle.sled_log.specs.RunPhases.{DoesHere, HasBatch, IsOpenAt, IsSafe, IsTicketFor, Unstored, seen, seen_log, shown_due, traces}
+use Rattle.sled_log.specs.SessionMarks.{without_pin}
 use Rattle.sled_log.specs.RunStates.{DeviceView, LogView, in_batch, opens, places_without, top}
 use Rattle.sled_log.specs.TicketSteps.{HasBegun, IsAnswerFor, batch_of, noting, spent}
-use Rattle.sled_log.proofs.Sessions.EndedTickets.{awaits_it, ended_open, failed_leads, failed_open, left, now, outstanding}
+use Rattle.sled_log.proofs.Sessions.EndedTickets.{after, awaits_it, back_beside, back_pinned, failed_leads, failed_open, given_back, keeps_beside, keeps_ended, left, left_open, none_left, outstanding}
 use Rattle.sled_log.proofs.Sessions.MadeBatches.{joins_still, made_still, table_still}
 use Rattle.sled_log.proofs.Sessions.Within.{untouched}
 use Rattle.sled_log.proofs.Sessions.BegunHeads.{HasNoOther}
@@ -101,74 +102,94 @@ module _ {D C : Type 0} (view : D → DeviceView) (sum : List ℕ → ℕ) (old 
     by true is = refl
     by false is = absurd (let low = behind in grind (arith, ints, is, low))
 
-  -- Where the log keeps a failure the ticket is spent.
-  pub end_fails : (log : Log D C) (T : Type 0) (e : Error) → FaultAnswers {T = T} (Err e) (fault_of old.log) → log ≡ old.log
-      → Does view sum (Open old) command.EndBatch (Open (now view sum old k at n m there mid ticket takes log mid.pages), reply.Failed e) k
-  end_fails log T (error.Io x) answers is =
-      let pages = ap (λ p. map page_of p.items) takes.pages in
-      record {
-        not_refused = refl;
-        next = left view sum old k at n m there mid ticket takes k.history;
-        step = (ap (λ (y : Log D C). view (config_of y).device) is, (answers, (begun, failed_leads view sum old k at n m there mid ticket takes log mid.pages is pages x answers)));
-        at = λ own. failed_open view sum old k at n m there mid ticket takes log mid.pages is pages x answers;
-        crash = λ own. untouched (traces view) sum old k at (traces view (device_of log)) (ap (λ (y : Log D C). traces view (device_of y)) is);
-      }
-  end_fails log T _ answers is = absurd answers
-
-  -- Where it keeps none, the batch comes to the history, and is noted.
-  module _ (log : Log D C) (notes : NotesBatchOf ticket.reservation peg old.log log) (position : SamePosition old.log log) (buffers : KeepsBuffers old.log log) (fault : fault_of old.log ≡ None)
-      (others : (t : Reservation) (x : Message) → Awaits old.log t x → place_of t ≢ place_of ticket.reservation → Awaits log t x) (safe : (j : ℕ) (x : Message) → (x.place ≡ m.place → ⊥) → IsTicketFor (traces view) sum old k.history j x → IsSafe (traces view) sum log x) (opens_left : TakesOut m.place (open_places old.log) (open_places log)) (among : AreAmong (given_up_of log) (given_up_of old.log)) (heads : HasNoOther old.log log) where
-    ended_view : seen (now view sum old k at n m there mid ticket takes log mid.pages) (set k.tickets n None) k.given_up k.heads ≡ noting (batch_of l m) (spent l n (places_without m.place (opens l)) (length old.pages.items))
-    ended_view i = record {
-      position = position.position i;
-      synced = notes.synced i;
-      noted = (notes.noted ∙ noted_one (noted_in old.log)) i;
-      end = position.reserved i;
-      waiting = buffers.waiting i;
-      start = buffers.start i;
-      begun = length (takes.pages i).items;
-      fault = notes.fault i;
-      outstanding = outstanding view sum old k at n m there mid ticket takes log mid.pages notes.pins position fault others safe opens_left i;
-      tickets = set k.tickets n None;
-      given_up = k.given_up;
-      heads = k.heads;
-      pins = notes.pins i;
-      account = notes.account i;
-    }
-
-    step_from : (H' : History) → EndsBatch k.history ticket.reservation peg H' → Step k.history (Batched (batch_of l m)) H'
-    step_from H' ends = ⊎_elim
-        (λ canceled. absurd (let low = behind in let same = canceled.0 in omega (arith, ints, low, same)))
-        (λ step. subst (λ b. Step k.history (Batched b) H') batch_is step.1) ends
-
-    messages_stay : (H' : History) → Step k.history (Batched (batch_of l m)) H' → H'.messages ≡ k.history.messages
-    unfolding Step
-    messages_stay H' step = step.messages
-
-    pub ends_batch : (place : ℤ) (pointer : DiskPtr) → IsAnswerFor m place pointer → (H' : History) → EndsBatch k.history ticket.reservation peg H' → Fits (traces view) sum log H' k.acknowledged k.floor at.unmarked
-        → Does view sum (Open old) command.EndBatch (Open (now view sum old k at n m there mid ticket takes log mid.pages), reply.Done place pointer) k
-    ends_batch place pointer answer H' ends fits =
-        let step = step_from H' ends in
-        let same = messages_stay H' step in
+  -- Where no mark is due.
+  module _ (none : old.due ≡ None) where
+    -- Where the log keeps a failure the ticket is spent, with its pin.
+    pub end_fails : (log : Log D C) (T : Type 0) (e : Error)
+        → ((H : History) → Fits (traces view) sum log H k.acknowledged k.floor at.unmarked → Fits (traces view) sum (given_back view sum old k at n m there mid ticket takes none log mid.pages) H k.acknowledged k.floor at.unmarked)
+        → FaultAnswers {T = T} (Err e) (fault_of old.log) → log ≡ old.log
+        → DoesHere view sum (Open old) command.EndBatch (Open (after view sum old k at n m there mid ticket takes none log mid.pages), reply.Failed e) k
+    end_fails log T (error.Io x) back answers is =
+        let pages = ap (λ p. map page_of p.items) takes.pages in
         record {
           not_refused = refl;
-          next = left view sum old k at n m there mid ticket takes H';
-          step = (
-            ap (λ c. view c.device) notes.config,
-            record {
-              begun = begun;
-              fault = fault;
-              answer = answer;
-              history = H';
-              step = step;
-              leads = λ i. record { device = view (config_of log).device; history = H'; acknowledged = k.acknowledged; floor = k.floor; log = Some (ended_view i) };
-            },
-          );
-          at = λ own. ended_open view sum old k at n m there mid ticket takes log mid.pages notes.pins position fault others safe opens_left H' at.unmarked k.given_up (λ x given. at.given_up x (among x given)) heads
-              (made_still k.history H' same at.made) fits
-              (subst (λ p. IsTable (map page_of p.items) H' top) (sym takes.pages) (table_still k.history H' same (map page_of old.pages.items) top at.table))
-              (λ x ne may. joins_still k.history H' same x may)
-              (λ x of ne was. absurd (ne (manifest ∙ sym of)))
-              (subst (λ ms. All (λ x. x.place + x.size ≤ reserved_end old.log) ms) (sym same) at.ends);
-          crash = λ own. untouched (traces view) sum old k at (traces view (device_of log)) (ap (λ c. traces view c.device) notes.config);
+          next = left view sum old k at n m there mid ticket takes k.history;
+          step = (ap (λ (y : Log D C). view (config_of y).device) is, (answers, (begun, failed_leads view sum old k at n m there mid ticket takes none log mid.pages back is pages x answers)));
+          at = λ own. failed_open view sum old k at n m there mid ticket takes none log mid.pages back is pages x answers;
+          crash = λ own. untouched (traces view) sum old k at (traces view (device_of log)) (ap (λ (y : Log D C). traces view (device_of y)) is);
         }
+    end_fails log T _ back answers is = absurd answers
+
+    -- Where it keeps none, the batch comes to the history, and is noted.
+    module _ (log : Log D C) (notes : NotesBatchOf ticket.reservation peg old.log log) (machine : machine_at log ≡ machine_at old.log) (position : SamePosition old.log log)
+        (buffers : KeepsBuffers old.log log) (fault : fault_of old.log ≡ None)
+        (others : (t : Reservation) (x : Message) → Awaits old.log t x → place_of t ≢ place_of ticket.reservation → Awaits log t x)
+        (safe : (j : ℕ) (x : Message) → (x.place ≡ m.place → ⊥) → IsTicketFor (traces view) sum old k.history j x → IsSafe (traces view) sum log x)
+        (opens_left : TakesOut m.place (open_places old.log) (open_places log)) (among : AreAmong (given_up_of log) (given_up_of old.log)) (heads : HasNoOther old.log log) where
+      ended_view : seen_log log (length mid.pages.items) (set k.tickets n None) k.given_up k.heads ≡ noting (batch_of l m) (spent l n (places_without m.place (opens l)) (length old.pages.items))
+      ended_view i = record {
+        position = position.position i;
+        synced = notes.synced i;
+        noted = (notes.noted ∙ noted_one (noted_in old.log)) i;
+        end = position.reserved i;
+        waiting = buffers.waiting i;
+        start = buffers.start i;
+        begun = length (takes.pages i).items;
+        fault = notes.fault i;
+        outstanding = outstanding view sum old k at n m there mid ticket takes log position fault others safe opens_left i;
+        tickets = set k.tickets n None;
+        given_up = k.given_up;
+        heads = k.heads;
+        pins = notes.pins i;
+        machine = machine i;
+        account = notes.account i;
+      }
+
+      step_from : (H' : History) → EndsBatch k.history ticket.reservation peg H' → Step k.history (Batched (batch_of l m)) H'
+      step_from H' ends = ⊎_elim
+          (λ canceled. absurd (let low = behind in let same = canceled.0 in omega (arith, ints, low, same)))
+          (λ step. subst (λ b. Step k.history (Batched b) H') batch_is step.1) ends
+
+      messages_stay : (H' : History) → Step k.history (Batched (batch_of l m)) H' → H'.messages ≡ k.history.messages
+      unfolding Step
+      messages_stay H' step = step.messages
+
+      pub ends_batch : (place : ℤ) (pointer : DiskPtr) → IsAnswerFor m place pointer → (H' : History) → EndsBatch k.history ticket.reservation peg H'
+          → Fits (traces view) sum (given_back view sum old k at n m there mid ticket takes none log mid.pages) H' k.acknowledged k.floor at.unmarked
+          → DoesHere view sum (Open old) command.EndBatch (Open (after view sum old k at n m there mid ticket takes none log mid.pages), reply.Done place pointer) k
+      ends_batch place pointer answer H' ends fits =
+          let step = step_from H' ends in
+          let same = messages_stay H' step in
+          let back : Log D C = given_back view sum old k at n m there mid ticket takes none log mid.pages in
+          record {
+            not_refused = refl;
+            next = left view sum old k at n m there mid ticket takes H';
+            step = (
+              ap (λ c. view c.device) notes.config,
+              record {
+                begun = begun;
+                fault = fault;
+                answer = answer;
+                history = H';
+                step = step;
+                leads = λ i. record {
+                  device = view (config_of log).device;
+                  history = H';
+                  acknowledged = k.acknowledged;
+                  floor = k.floor;
+                  log = Some (without_pin (ended_view i));
+                  due = shown_due (takes.due i);
+                };
+              },
+            );
+            at = λ own. left_open view sum old k at n m there mid ticket takes back mid.pages mid.due
+                (keeps_beside view sum old k at n m there mid ticket takes log back (back_beside view sum old k at n m there mid ticket takes none log mid.pages)
+                (keeps_ended view sum old k at n m there mid ticket takes log position fault others safe opens_left heads (λ x of ne was. absurd (ne (manifest ∙ sym of)))))
+                H' at.unmarked k.given_up (none_left view sum old k at n m there mid ticket takes none back H') fits
+                (back_pinned view sum old k at n m there mid ticket takes none log mid.pages notes.pins) (λ x given. at.given_up x (among x given))
+                (made_still k.history H' same at.made)
+                (subst (λ p. IsTable (map page_of p.items) H' top) (sym takes.pages) (table_still k.history H' same (map page_of old.pages.items) top at.table))
+                (λ x ne may. joins_still k.history H' same x may)
+                (subst (λ ms. All (λ x. x.place + x.size ≤ reserved_end old.log) ms) (sym same) at.ends);
+            crash = λ own. untouched (traces view) sum old k at (traces view (device_of log)) (ap (λ c. traces view c.device) notes.config);
+          }

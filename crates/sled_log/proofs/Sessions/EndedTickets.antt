@@ -1,5 +1,5 @@
 -- What it comes to where a ticket is ended: its message is completed, or given up.
-use Rattle.std.proofs.Common.{⊎_elim, ◌≡◌, ◌∙◌, ◌≢◌, ◌==◌, ◌&&◌, not, ◌<◌, ◌≤◌, ◌+◌, ℕ, ℤ, pos, Bool, true, false, if◌then◌else◌, is_some, List, [], ◌∷◌, ◌++◌, length, map, get_or, set, sym, ap, subst, arith, refl, inl, inr, Option, None, Some, Result, Ok, Err, Vec, Global}
+use Rattle.std.proofs.Common.{⊎_elim, ◌≡◌, ◌⊎◌, ◌∙◌, ◌≢◌, ◌==◌, ◌&&◌, not, ◌<◌, ◌≤◌, ◌+◌, ◌-◌, ℕ, ℤ, pos, Bool, true, false, if◌then◌else◌, is_some, List, [], ◌∷◌, ◌++◌, length, map, get_or, set, sym, ap, subst, arith, refl, inl, inr, Option, None, Some, Result, Ok, Err, Vec, Global}
 use Rattle.std.specs.Prelude.{IsSome, OnErr}
 use Rattle.std.specs.List.{All, Contains, slice_get}
 use Rattle.std.specs.declared.io.Error.{Error as IoError}
@@ -17,42 +17,51 @@ use Rattle.sled_codec.specs.PageTables.{IsTable, entry_of}
 use Rattle.sled_codec.specs.Snapshots.{Entry, Page, page_of}
 use Rattle.sled_store.specs.Script.{Performs, after_all}
 use Rattle.sled_store.proofs.Segments.Elements.{all_from_in, in_cases, in_first, in_rest}
-use Rattle.sled_core.specs.Account.{account_of}
+use Rattle.sled_store.specs.Marks.{IsFormerList, info_of}
 use Rattle.sled_core.specs.declared.logger.Log.{Log}
 use Rattle.sled_core.specs.declared.reservation.Reservation.{Reservation}
 use Rattle.sled_core.specs.Causes.{FaultAnswers}
-use Rattle.sled_core.specs.Fits.{Awaits, KeepsBuffers, KeepsTickets, config_of, device_of, fault_of, given_up_of, noted_in, open_places, pins_of, position_of, reserved_end, segment_size_of, line_of}
+use Rattle.sled_core.specs.Fits.{Awaits, KeepsBuffers, KeepsTickets, config_of, device_of, fault_of, given_up_of, line_of, machine_at, noted_in, open_places, pins_of, reserved_end, segment_size_of}
 use Rattle.sled_core.specs.Among.{AreAmong}
 use Rattle.sled_core.specs.Keeps.{KeepsSeen, SamePosition}
 use Rattle.sled_core.specs.Logged.{in_log}
 use Rattle.sled_core.specs.OpenPlaces.{TakesOut}
+use Rattle.sled_core.specs.Unmarked.{without}
 use Rattle.sled_core.specs.OwnBlobs.{AreBeside, IsBeside, PreservesWithout, RemovedAnswers, RemovesBlob, removing}
 use Rattle.sled_core.specs.Manifests.{is_manifest, manifest_page}
 use Rattle.sled_core.specs.invariants.Running.{Fits}
 use Rattle.sled_core.specs.Tickets.{is_manifest_of, own_blob, place_of}
+use Rattle.sled_core.proofs.Line.Among.{among_further}
 use Rattle.sled_core.proofs.PublicLaws.{awaited, fits_apart, fits_holds}
 use Rattle.sled_core.proofs.Read.FoundLemmas.{pos_injective}
+use Rattle.sled_log.specs.declared.session.marking.Due.{Due}
 use Rattle.sled_log.specs.declared.session.opened.Opened.{Opened}
 use Rattle.sled_log.specs.declared.session.opened.Ticket.{Ticket}
 use Rattle.sled_log.specs.declared.session.Phase.{Phase}
 use Rattle.sled_log.specs.declared.session.Phase.TheVariants.{Open}
+use Rattle.sled_log.specs.declared.session.command.Command.{Command}
 use Rattle.sled_log.specs.declared.session.command.Command.TheVariants as command
 use Rattle.sled_log.specs.declared.session.command.Refusal.TheVariants as why
 use Rattle.sled_log.specs.declared.session.command.Reply.{Reply}
 use Rattle.sled_log.specs.declared.session.command.Reply.TheVariants as reply
 use Rattle.sled_log.specs.Endings.{KeepsPages, TakesTicket, applied_to, batch_left, put_at}
 use Rattle.sled_log.specs.Made.{IsMade, MayJoin}
+use Rattle.sled_log.specs.Marking.{IsMarked, KeepsBeside, Settles, StaysUnmarked, mark_of}
 use Rattle.sled_log.specs.Refusals.{when}
-use Rattle.sled_log.specs.RunPhases.{AreRising, BeginsBatch, Does, HasBatch, HasTickets, IsOpenAt, IsSafe, IsTicketFor, Unstored, device_in, seen, seen_log, stands, traces, HasHeads}
-use Rattle.sled_log.specs.RunStates.{DeviceView, RunState, has_message, has_ticket, open_messages, opens, places_without, top, with_log}
-use Rattle.sled_log.specs.Runs.{IsStep, StaysWithin}
+use Rattle.sled_log.specs.RunPhases.{AreRising, AreUnmarked, BeginsBatch, DoesHere, HasBatch, HasHeads, HasTickets, IsOpenAt, IsSafe, IsTicketFor, IsUnmarked, Unstored, device_in, seen, seen_log, shown_due, stands, traces}
+use Rattle.sled_log.specs.RunStates.{DeviceView, DueMark, RunState, has_message, has_ticket, open_messages, opens, page_now, places_without, top, with_log}
+use Rattle.sled_log.specs.Runs.{StaysWithin, StepBy}
+use Rattle.sled_log.specs.SessionMarks.{mark_for, marking, replacing, told_message, told_state, without_pin}
 use Rattle.sled_log.specs.TicketActs.{RemoveActs, own_by}
 use Rattle.sled_log.specs.TicketSteps.{IsAnswerFor, own_of, spent}
 use Rattle.sled_log.proofs.Sessions.Endings.{one_there}
-use Rattle.sled_log.proofs.Sessions.MadeHistories.{came, join_still, made_completed}
+use Rattle.sled_log.proofs.Sessions.FormerPages.{former_told, replacing_all, state_told, was_there}
+use Rattle.sled_log.proofs.Sessions.MadeHistories.{came, join_still, made_completed, new_there}
+use Rattle.sled_log.proofs.Sessions.MadeMarks.{goes_beside, line_same, noted_same, seen_marked, seen_same, size_same, tickets_same, unmarked_beside}
 use Rattle.sled_log.proofs.Sessions.MadeTables.{page_of_replace, table_completed}
 use Rattle.sled_log.proofs.Sessions.OpenApart.{all_beside, inline_none, none_there, ticket_beside}
-use Rattle.sled_log.proofs.Sessions.SpentTickets.{spent_places, spent_tickets, taken_out, ticket_there}
+use Rattle.sled_log.proofs.Sessions.SafeItems.{safe_on}
+use Rattle.sled_log.proofs.Sessions.SpentTickets.{spent_count, spent_places, spent_tickets, taken_out, ticket_there}
 use Rattle.sled_log.proofs.Sessions.TicketsSeen.{message_there}
 use Rattle.sled_log.proofs.Sessions.Within.{untouched}
 use Rattle.sled_log.proofs.Sessions.BegunHeads.{HasNoOther, heads_left, other_same}
@@ -136,6 +145,10 @@ module _ {D C : Type 0} (view : D → DeviceView) (sum : List ℕ → ℕ) (old 
   abbrev pub had : IsTicketFor (traces view) sum old k.history n m
   had = at.tickets.each n m there
 
+  -- its pin is out
+  pub is_pinned : 0 < pins_of old.log
+  is_pinned = let out = at.pinned in let less = spent_count k.tickets n m there in omega (arith, out, less)
+
   -- it is taken
   pub takes_it : (mid : Opened D C) (result : Option Ticket) → TakesTicket old n mid result → result ≡ Some had.ticket
   takes_it mid result takes = takes.taken had.ticket had.there (m, had.awaits)
@@ -197,153 +210,250 @@ module _ {D C : Type 0} (view : D → DeviceView) (sum : List ℕ → ℕ) (old 
     abbrev pub left_with : History → List Message → Unstored
     left_with H given = record { history = H; acknowledged = k.acknowledged; floor = k.floor; tickets = set k.tickets n None; given_up = given; heads = k.heads }
 
-    module _ (log : Log D C) (pages : Vec PageState Global) where
-      abbrev pub now : Opened D C
-      now = record { alloc = mid.alloc; log = log; guard = mid.guard; pages = pages; busy = mid.busy; batch = mid.batch; tickets = mid.tickets }
+    -- the session with this log then, with these pages and this mark due
+    abbrev pub now : Log D C → Vec PageState Global → Option Due → Opened D C
+    now log pages due = record { alloc = mid.alloc; log = log; origin = mid.origin; pages = pages; busy = mid.busy; batch = mid.batch; tickets = mid.tickets; due = due }
 
-      -- what is noted stays, so a manifest that is open begins its batch behind it
-      begun_still : noted_in log ≡ noted_in old.log → (x : Message) → BeginsBatch old.log x → BeginsBatch log x
-      begun_still noted x begun = record { kind = begun.kind; inline = begun.inline; apart = λ b known. begun.apart b (subst (λ (bs : List Batch). Contains bs b) noted known) }
+    -- What the log keeps of the other tickets.
+    pub record Keeps (log : Log D C) : Type 0 where
+      pub size : segment_size_of log ≡ segment_size_of old.log
+      pub reserved : reserved_end log ≡ reserved_end old.log
+      pub others : (t : Ticket) (x : Message) → Awaits old.log t.reservation x → (x.place ≡ m.place → ⊥) → Awaits log t.reservation x
+      pub safe : (j : ℕ) (x : Message) → (x.place ≡ m.place → ⊥) → IsTicketFor (traces view) sum old k.history j x → IsSafe (traces view) sum log x
+      pub begun : (x : Message) → x.page ≡ manifest_page → (m.page ≡ x.page → ⊥) → BeginsBatch old.log x → BeginsBatch log x
+      pub are_all : fault_of log ≡ None → open_places log ≡ map (λ x. x.place) (open_messages (set k.tickets n None))
+      pub heads : HasNoOther old.log log
 
-      -- as many pages are begun
-      as_many : map page_of pages.items ≡ map page_of old.pages.items → length pages.items ≡ length old.pages.items
-      as_many pages_are = sym (length-map pages.items page_of) ∙ ap length pages_are ∙ length-map old.pages.items page_of
+    -- what is noted stays, so a manifest that is open begins its batch behind it
+    begun_still : (log : Log D C) → noted_in log ≡ noted_in old.log → (x : Message) → BeginsBatch old.log x → BeginsBatch log x
+    begun_still log noted x begun = record { kind = begun.kind; inline = begun.inline; apart = λ b known. begun.apart b (subst (λ (bs : List Batch). Contains bs b) noted known) }
 
-      -- Where the log keeps a failure its reservations stay open, and no item has to be safe from a crash.
-      kept_open : (e : IoError) → fault_of log ≡ Some e → KeepsTickets old.log log → HasNoOther old.log log → noted_in log ≡ noted_in old.log → SamePosition old.log log → map page_of pages.items ≡ map page_of old.pages.items
-          → Fits (traces view) sum log k.history k.acknowledged k.floor at.unmarked → IsOpenAt (traces view) sum now (left k.history)
-      kept_open e fault kept heads noted position pages_are fits =
-          let failed : fault_of log ≡ None → ⊥ = λ none. let both : None ≡ Some e = sym none ∙ fault in cc in
-          record {
-            made = at.made;
-            unmarked = at.unmarked;
-            fits = fits;
-            zeros = at.zeros;
-            pinned = position.pins ∙ at.pinned;
-            joined = position.joined ∙ at.joined;
-            table = subst (λ (ps : List Page). IsTable ps k.history top) (sym pages_are) at.table;
-            tickets = spent_tickets (traces view) sum old now k.history k.history k.tickets n m there at.tickets takes.tickets busy batch position.reserved
-                (λ t x awaits apart. kept.awaits t.reservation x awaits) (λ j x apart open_yet none. absurd (failed none)) (λ x ne may. may)
-                (λ x of ne begun. begun_still noted x begun) (λ none. absurd (failed none));
-            given_up = λ x given. at.given_up x (kept.given_up x given);
-            heads = heads_left sum old.log log k.heads heads at.heads;
-            ends = subst (λ e. All (λ x. x.place + x.size ≤ e) k.history.messages) (sym position.reserved) at.ends;
-          }
-
-      -- Where it kept one before nothing but the ticket is another.
-      module _ (is : log ≡ old.log) (pages_are : map page_of pages.items ≡ map page_of old.pages.items) (e : IoError) (fault : fault_of old.log ≡ Some e) where
-        pub failed_open : IsOpenAt (traces view) sum now (left k.history)
-        failed_open = kept_open e (ap fault_of is ∙ fault)
-            (record { awaits = λ t x awaits. subst (λ (y : Log D C). Awaits y t x) (sym is) awaits; opens = ap open_places is; given_up = λ x given. subst (λ (y : Log D C). Contains (given_up_of y) x) is given }) (other_same old.log log (ap line_of is)) (ap noted_in is)
-            (record { position = ap position_of is; reserved = ap reserved_end is; pins = ap pins_of is; joined = ap (λ (y : Log D C). (account_of y).mark) is; size = ap segment_size_of is }) pages_are
-            (subst (λ (x : Log D C). Fits (traces view) sum x k.history k.acknowledged k.floor at.unmarked) (sym is) at.fits)
-
-        pub failed_leads : stands view (Open now) (left k.history) ≡ with_log (stands view (Open old) k) (view (config_of log).device) (Some (spent (seen old k.tickets k.given_up k.heads) n (opens (seen old k.tickets k.given_up k.heads)) (length old.pages.items)))
-        failed_leads i = record {
-          device = view (config_of log).device;
-          history = k.history;
-          acknowledged = k.acknowledged;
-          floor = k.floor;
-          log = Some (seen_log (is i) (as_many pages_are i) (set k.tickets n None) k.given_up k.heads);
+    -- Where the log keeps a failure its reservations stay open, and no item has to be safe from a crash.
+    keeps_failed : (log : Log D C) (e : IoError) → fault_of log ≡ Some e → KeepsTickets old.log log → HasNoOther old.log log → noted_in log ≡ noted_in old.log
+        → reserved_end log ≡ reserved_end old.log → segment_size_of log ≡ segment_size_of old.log → Keeps log
+    keeps_failed log e fault kept heads noted reserved size =
+        let failed : fault_of log ≡ None → ⊥ = λ none. let both : None ≡ Some e = sym none ∙ fault in cc in
+        record {
+          size = size;
+          reserved = reserved;
+          others = λ t x awaits apart. kept.awaits t.reservation x awaits;
+          safe = λ j x apart open_yet none. absurd (failed none);
+          begun = λ x of ne begun. begun_still log noted x begun;
+          are_all = λ none. absurd (failed none);
+          heads = heads;
         }
 
-      -- The blob that its reservation made is that of its message.
-      removes_own : (r : Reply) (fault : Option IoError) (before after : DeviceView) → RemoveActs (own_blob ticket.reservation) fault before r after → RemoveActs (own_by (slice_get k.tickets n)) fault before r after
-      removes_own r fault before after acts = subst (λ (o : Option ℤ). RemoveActs o fault before r after) (sym (ap own_by there ∙ own_is)) acts
+    -- Where it keeps none, the reservation is ended.
+    module _ (log : Log D C) (position : SamePosition old.log log) (fault : fault_of old.log ≡ None)
+        (others : (t : Reservation) (x : Message) → Awaits old.log t x → place_of t ≢ place_of ticket.reservation → Awaits log t x)
+        (safe : (j : ℕ) (x : Message) → (x.place ≡ m.place → ⊥) → IsTicketFor (traces view) sum old k.history j x → IsSafe (traces view) sum log x)
+        (opens_left : TakesOut m.place (open_places old.log) (open_places log)) where
+      pub outstanding : open_places log ≡ places_without m.place (open_places old.log)
+      outstanding = taken_out m.place (open_places old.log) (open_places log) (subst AreRising (sym (at.tickets.are_all fault)) at.tickets.rising) opens_left
 
-      -- Its message isn't given up where the log kept a failure, or the device fails to remove its blob, which the log keeps now: the reservation stays open.
-      pub abort_fails : (T : Type 0) (e : Error) → GivesUp {T = T} view sum (Err e) (own_blob ticket.reservation) old.log log → map page_of pages.items ≡ map page_of old.pages.items
-          → Does view sum (Open old) (command.Abort n) (Open now, reply.Failed e) k
-      abort_fails T (error.Io x) did pages_are =
-          let before : DeviceView = view (config_of old.log).device in
-          let after : DeviceView = view (config_of log).device in
-          let fault : fault_of log ≡ Some x = failure_kept x (own_blob ticket.reservation) (fault_of old.log) (fault_of log) before.failures after.failures did.answers in
-          let cause : RemovedAnswers {T = Unit {0}} (Err (error.Io x)) (own_blob ticket.reservation) (fault_of old.log) (Some x) before.failures after.failures =
-          subst (λ (o : Option IoError). RemovedAnswers {T = Unit {0}} (Err (error.Io x)) (own_blob ticket.reservation) (fault_of old.log) o before.failures after.failures) fault did.answers in
-          record {
+      pub keeps_ended : HasNoOther old.log log → ((x : Message) → x.page ≡ manifest_page → (m.page ≡ x.page → ⊥) → BeginsBatch old.log x → BeginsBatch log x) → Keeps log
+      keeps_ended heads begun = record {
+        size = position.size;
+        reserved = position.reserved;
+        others = λ t x awaits apart. others t.reservation x awaits (other_place t.reservation x awaits apart);
+        safe = safe;
+        begun = begun;
+        are_all = λ none. outstanding ∙ ap (places_without m.place) (at.tickets.are_all fault) ∙ sym (spent_places k.tickets n m there at.tickets.rising);
+        heads = heads;
+      }
+
+    -- So it is behind a mark, and once a pin went back.
+    pub keeps_beside : (log new : Log D C) → KeepsBeside log new → Keeps log → Keeps new
+    keeps_beside log new beside keeps =
+        let kept = tickets_same log new beside in
+        let on = goes_beside log new beside (traces view) sum in
+        record {
+          size = size_same log new beside ∙ keeps.size;
+          reserved = beside.reserved ∙ keeps.reserved;
+          others = λ t x awaits apart. kept.awaits t.reservation x (keeps.others t x awaits apart);
+          safe = λ j x apart had_it. safe_on (traces view) sum log new x on (keeps.safe j x apart had_it);
+          begun = λ x of ne was. let begins = keeps.begun x of ne was in record {
+            kind = begins.kind;
+            inline = begins.inline;
+            apart = λ b known. begins.apart b (subst (λ (bs : List Batch). Contains bs b) (noted_same log new beside) known);
+          };
+          are_all = λ none. kept.opens ∙ keeps.are_all (on.sound none);
+          heads = record {
+            heads = among_further _ _ _ (other_same log new (line_same log new beside)).heads keeps.heads.heads;
+            fillings = among_further _ _ _ (other_same log new (line_same log new beside)).fillings keeps.heads.fillings;
+          };
+        }
+
+    -- A session is open with it.
+    pub left_open : (log : Log D C) (pages : Vec PageState Global) (due : Option Due) → Keeps log → (H' : History) (U given : List Message) → AreUnmarked log H' due U
+        → Fits (traces view) sum log H' k.acknowledged k.floor U → pins_of log ≡ length (open_messages (set k.tickets n None)) + length U
+        → AreAmong (given_up_of log) given → IsMade H' → IsTable (map page_of pages.items) H' top
+        → ((x : Message) → (m.page ≡ x.page → ⊥) → MayJoin k.history x → MayJoin H' x) → All (λ x. x.place + x.size ≤ reserved_end old.log) H'.messages
+        → IsOpenAt (traces view) sum (now log pages due) (left_with H' given)
+    left_open log pages due keeps H' U given unmarked fits pinned among made table joins ends = record {
+      made = made;
+      unmarked = U;
+      due = unmarked;
+      fits = fits;
+      zeros = at.zeros;
+      pinned = pinned;
+      origin = takes.origin ∙ at.origin ∙ (λ i. record { size = sym keeps.size i; floor = k.floor });
+      table = table;
+      tickets = spent_tickets (traces view) sum old (now log pages due) k.history H' k.tickets n m there at.tickets takes.tickets busy batch keeps.reserved
+          keeps.others keeps.safe joins keeps.begun keeps.are_all;
+      given_up = among;
+      heads = heads_left sum old.log log k.heads keeps.heads at.heads;
+      ends = subst (λ e. All (λ x. x.place + x.size ≤ e) H'.messages) (sym keeps.reserved) ends;
+    }
+
+    -- its ticket is spent
+    fewer : length (open_messages k.tickets) ≡ length (open_messages (set k.tickets n None)) + 1
+    fewer = spent_count k.tickets n m there
+
+    -- as many pages are begun
+    as_many : (pages : Vec PageState Global) → map page_of pages.items ≡ map page_of old.pages.items → length pages.items ≡ length old.pages.items
+    as_many pages pages_are = sym (length-map pages.items page_of) ∙ ap length pages_are ∙ length-map old.pages.items page_of
+
+    -- Where no mark is due.
+    module _ (none : old.due ≡ None) where
+      pub all_marked : at.unmarked ≡ []
+      all_marked = subst (λ (d : Option Due). AreUnmarked old.log k.history d at.unmarked) none at.due
+
+      pub none_left : (log : Log D C) (H : History) → AreUnmarked log H mid.due at.unmarked
+      none_left log H = subst (λ (d : Option Due). AreUnmarked log H d at.unmarked) (sym (takes.due ∙ none)) all_marked
+
+      module _ (log : Log D C) (pages : Vec PageState Global) where
+        -- the log with the pin of the ticket back
+        abbrev pub given_back : Log D C
+        given_back = record log { pins = pins_of log - 1 }
+
+        -- and the session with it
+        abbrev pub after : Opened D C
+        after = now given_back pages mid.due
+
+        pub back_beside : KeepsBeside log given_back
+        back_beside = record { config = refl; segments = refl; reserved = refl; fault = refl; pins = refl; marks = refl; batches = refl }
+
+        -- what the log fitted it fits
+        pub back_pinned : pins_of log ≡ pins_of old.log → pins_of log - 1 ≡ length (open_messages (set k.tickets n None)) + length at.unmarked
+        back_pinned pins = let out = at.pinned in let less = fewer in let all = ap (λ (U : List Message). length U) all_marked in omega (arith, pins, out, less, all)
+
+        -- whatever gave it back
+        pub back_from : (new : Log D C) → new ≡ given_back
+            → ((H : History) (A f : ℕ) (U : List Message) → Fits (traces view) sum log H A f U → (U ≢ [] → 1 < pins_of log) → Fits (traces view) sum new H A f U)
+            → (H : History) → Fits (traces view) sum log H k.acknowledged k.floor at.unmarked → Fits (traces view) sum given_back H k.acknowledged k.floor at.unmarked
+        back_from new is fits H had_fits =
+            subst (λ (x : Log D C). Fits (traces view) sum x H k.acknowledged k.floor at.unmarked) is (fits H k.acknowledged k.floor at.unmarked had_fits (λ some. absurd (some all_marked)))
+
+        pub does_back : (new : Log D C) → new ≡ given_back → (c : Command) (r : Reply) → DoesHere view sum (Open old) c (Open after, r) k
+            → DoesHere view sum (Open old) c (Open (now new pages mid.due), r) k
+        does_back new is c r does = subst (λ (x : Log D C). DoesHere view sum (Open old) c (Open (now x pages mid.due), r) k) (sym is) does
+
+        -- Where the log keeps a failure, the reservation stays open.
+        module _ (back_fits : (H : History) → Fits (traces view) sum log H k.acknowledged k.floor at.unmarked → Fits (traces view) sum given_back H k.acknowledged k.floor at.unmarked) where
+          kept_open : Keeps log → pins_of log ≡ pins_of old.log → AreAmong (given_up_of log) (given_up_of old.log) → map page_of pages.items ≡ map page_of old.pages.items
+              → Fits (traces view) sum log k.history k.acknowledged k.floor at.unmarked → IsOpenAt (traces view) sum after (left k.history)
+          kept_open keeps pins among pages_are fits =
+              left_open given_back pages mid.due (keeps_beside log given_back back_beside keeps) k.history at.unmarked k.given_up (none_left given_back k.history) (back_fits k.history fits)
+              (back_pinned pins) (λ x given. at.given_up x (among x given)) at.made (subst (λ (ps : List Page). IsTable ps k.history top) (sym pages_are) at.table) (λ x ne may. may) at.ends
+
+          -- Where it kept one before nothing but the ticket and its pin is another.
+          module _ (is : log ≡ old.log) (pages_are : map page_of pages.items ≡ map page_of old.pages.items) (e : IoError) (fault : fault_of old.log ≡ Some e) where
+            pub failed_open : IsOpenAt (traces view) sum after (left k.history)
+            failed_open = kept_open
+                (keeps_failed log e (ap fault_of is ∙ fault)
+                (record { awaits = λ t x awaits. subst (λ (y : Log D C). Awaits y t x) (sym is) awaits; opens = ap open_places is; given_up = λ x given. subst (λ (y : Log D C). Contains (given_up_of y) x) is given })
+                (other_same old.log log (ap line_of is)) (ap noted_in is) (ap reserved_end is) (ap segment_size_of is))
+                (ap pins_of is) (λ x given. subst (λ (y : Log D C). Contains (given_up_of y) x) is given) pages_are
+                (subst (λ (x : Log D C). Fits (traces view) sum x k.history k.acknowledged k.floor at.unmarked) (sym is) at.fits)
+
+            pub failed_leads : stands view (Open after) (left k.history)
+                ≡ with_log (stands view (Open old) k) (view (config_of log).device) (Some (without_pin (spent (seen old k.tickets k.given_up k.heads) n (opens (seen old k.tickets k.given_up k.heads)) (length old.pages.items))))
+            failed_leads i = record {
+              device = view (config_of log).device;
+              history = k.history;
+              acknowledged = k.acknowledged;
+              floor = k.floor;
+              log = Some (without_pin (seen_log (is i) (as_many pages pages_are i) (set k.tickets n None) k.given_up k.heads));
+              due = shown_due (takes.due i);
+            }
+
+          -- The blob that its reservation made is that of its message.
+          removes_own : (r : Reply) (fault : Option IoError) (before after : DeviceView) → RemoveActs (own_blob ticket.reservation) fault before r after → RemoveActs (own_by (slice_get k.tickets n)) fault before r after
+          removes_own r fault before after acts = subst (λ (o : Option ℤ). RemoveActs o fault before r after) (sym (ap own_by there ∙ own_is)) acts
+
+          -- Its message isn't given up where the log kept a failure, or the device fails to remove its blob, which the log keeps now: the reservation stays open.
+          pub abort_fails : (T : Type 0) (e : Error) → GivesUp {T = T} view sum (Err e) (own_blob ticket.reservation) old.log log → machine_at log ≡ machine_at old.log → map page_of pages.items ≡ map page_of old.pages.items
+              → DoesHere view sum (Open old) (command.Abort n) (Open after, reply.Failed e) k
+          abort_fails T (error.Io x) did machine pages_are =
+              let before : DeviceView = view (config_of old.log).device in
+              let behind : DeviceView = view (config_of log).device in
+              let fault : fault_of log ≡ Some x = failure_kept x (own_blob ticket.reservation) (fault_of old.log) (fault_of log) before.failures behind.failures did.answers in
+              let cause : RemovedAnswers {T = Unit {0}} (Err (error.Io x)) (own_blob ticket.reservation) (fault_of old.log) (Some x) before.failures behind.failures =
+              subst (λ (o : Option IoError). RemovedAnswers {T = Unit {0}} (Err (error.Io x)) (own_blob ticket.reservation) (fault_of old.log) o before.failures behind.failures) fault did.answers in
+              record {
+                not_refused = refl;
+                next = left k.history;
+                step = (
+                  removes_own (reply.Failed (error.Io x)) (fault_of old.log) before behind (removal_failed (own_blob ticket.reservation) (fault_of old.log) before behind x
+                      (λ none. ap (λ c. view c.device) (did.removes.none none)) did.removes.calls cause (λ some. ap (λ (y : Log D C). view (config_of y).device) (did.err.1 some))),
+                  record {
+                    message = m;
+                    reserved = there;
+                    cause = subst (λ (o : Option ℤ). RemovedAnswers {T = Unit {0}} (Err (error.Io x)) o (fault_of old.log) (Some x) before.failures behind.failures) (sym own_is) cause;
+                    leads = λ i. record {
+                      device = behind;
+                      history = k.history;
+                      acknowledged = k.acknowledged;
+                      floor = k.floor;
+                      log = Some (without_pin (record {
+                        position = did.position.position i;
+                        synced = did.seen.synced i;
+                        noted = did.seen.noted i;
+                        end = did.position.reserved i;
+                        waiting = did.buffers.waiting i;
+                        start = did.buffers.start i;
+                        begun = as_many pages pages_are i;
+                        fault = fault i;
+                        outstanding = did.err.0.opens i;
+                        tickets = set k.tickets n None;
+                        given_up = k.given_up;
+                        heads = k.heads;
+                        pins = did.seen.pins i;
+                        machine = machine i;
+                        account = did.seen.account i;
+                      }));
+                      due = shown_due (takes.due i);
+                    };
+                  },
+                );
+                at = λ own. kept_open (keeps_failed log x fault did.err.0 did.heads did.seen.noted did.position.reserved did.position.size) did.seen.pins did.err.0.given_up pages_are
+                    (did.keeps.fits k.history k.acknowledged k.floor at.unmarked at.fits beside_history);
+                crash = λ own. did.keeps.crash k.history k.acknowledged k.floor at.unmarked at.fits beside_history;
+              }
+          abort_fails T _ did machine pages_are = absurd did.answers
+
+          -- Its message isn't completed where the log keeps a failure.
+          pub complete_fails : (T : Type 0) (e : Error) → FaultAnswers {T = T} (Err e) (fault_of old.log) → log ≡ old.log → map page_of pages.items ≡ map page_of old.pages.items
+              → DoesHere view sum (Open old) (command.Complete n) (Open after, reply.Failed e) k
+          complete_fails T (error.Io x) answers is pages_are = record {
             not_refused = refl;
             next = left k.history;
-            step = (
-              removes_own (reply.Failed (error.Io x)) (fault_of old.log) before after (removal_failed (own_blob ticket.reservation) (fault_of old.log) before after x
-                  (λ none. ap (λ c. view c.device) (did.removes.none none)) did.removes.calls cause (λ some. ap (λ (y : Log D C). view (config_of y).device) (did.err.1 some))),
-              record {
-                message = m;
-                reserved = there;
-                cause = subst (λ (o : Option ℤ). RemovedAnswers {T = Unit {0}} (Err (error.Io x)) o (fault_of old.log) (Some x) before.failures after.failures) (sym own_is) cause;
-                leads = λ i. record {
-                  device = after;
-                  history = k.history;
-                  acknowledged = k.acknowledged;
-                  floor = k.floor;
-                  log = Some (record {
-                    position = did.position.position i;
-                    synced = did.seen.synced i;
-                    noted = did.seen.noted i;
-                    end = did.position.reserved i;
-                    waiting = did.buffers.waiting i;
-                    start = did.buffers.start i;
-                    begun = as_many pages_are i;
-                    fault = fault i;
-                    outstanding = did.err.0.opens i;
-                    tickets = set k.tickets n None;
-                    given_up = k.given_up;
-                    heads = k.heads;
-                    pins = did.seen.pins i;
-                    account = did.seen.account i;
-                  });
-                };
-              },
-            );
-            at = λ own. kept_open x fault did.err.0 did.heads did.seen.noted did.position pages_are (did.keeps.fits k.history k.acknowledged k.floor at.unmarked at.fits beside_history);
-            crash = λ own. did.keeps.crash k.history k.acknowledged k.floor at.unmarked at.fits beside_history;
+            step = (ap (λ (y : Log D C). view (config_of y).device) is, (answers, failed_leads is pages_are x answers));
+            at = λ own. failed_open is pages_are x answers;
+            crash = λ own. untouched (traces view) sum old k at (traces view (device_of log)) (ap (λ (y : Log D C). traces view (device_of y)) is);
           }
-      abort_fails T _ did pages_are = absurd did.answers
+          complete_fails T _ answers is pages_are = absurd answers
 
-      pub complete_fails : (T : Type 0) (e : Error) → FaultAnswers {T = T} (Err e) (fault_of old.log) → log ≡ old.log → map page_of pages.items ≡ map page_of old.pages.items
-          → Does view sum (Open old) (command.Complete n) (Open now, reply.Failed e) k
-      complete_fails T (error.Io x) answers is pages_are = record {
-        not_refused = refl;
-        next = left k.history;
-        step = (ap (λ (y : Log D C). view (config_of y).device) is, (answers, failed_leads is pages_are x answers));
-        at = λ own. failed_open is pages_are x answers;
-        crash = λ own. untouched (traces view) sum old k at (traces view (device_of log)) (ap (λ (y : Log D C). traces view (device_of y)) is);
-      }
-      complete_fails T _ answers is pages_are = absurd answers
-
-      -- Where it keeps none, the reservation is ended.
-      module _ (pins : pins_of log ≡ pins_of old.log) (position : SamePosition old.log log) (fault : fault_of old.log ≡ None)
-          (others : (t : Reservation) (x : Message) → Awaits old.log t x → place_of t ≢ place_of ticket.reservation → Awaits log t x)
-          (safe : (j : ℕ) (x : Message) → (x.place ≡ m.place → ⊥) → IsTicketFor (traces view) sum old k.history j x → IsSafe (traces view) sum log x)
-          (opens_left : TakesOut m.place (open_places old.log) (open_places log)) where
-        pub outstanding : open_places log ≡ places_without m.place (open_places old.log)
-        outstanding = taken_out m.place (open_places old.log) (open_places log) (subst AreRising (sym (at.tickets.are_all fault)) at.tickets.rising) opens_left
-
-        pub ended_open : (H' : History) (U given : List Message) → AreAmong (given_up_of log) given → HasNoOther old.log log → IsMade H' → Fits (traces view) sum log H' k.acknowledged k.floor U → IsTable (map page_of pages.items) H' top
-            → ((x : Message) → (m.page ≡ x.page → ⊥) → MayJoin k.history x → MayJoin H' x) → ((x : Message) → x.page ≡ manifest_page → (m.page ≡ x.page → ⊥) → BeginsBatch old.log x → BeginsBatch log x)
-            → All (λ x. x.place + x.size ≤ reserved_end old.log) H'.messages → IsOpenAt (traces view) sum now (left_with H' given)
-        ended_open H' U given among heads made fits table joins begun ends = record {
-          made = made;
-          unmarked = U;
-          fits = fits;
-          zeros = at.zeros;
-          pinned = pins ∙ at.pinned;
-          joined = position.joined ∙ at.joined;
-          table = table;
-          tickets = spent_tickets (traces view) sum old now k.history H' k.tickets n m there at.tickets takes.tickets busy batch position.reserved
-              (λ t x awaits apart. others t.reservation x awaits (other_place t.reservation x awaits apart)) safe joins begun
-              (λ none. outstanding ∙ ap (places_without m.place) (at.tickets.are_all fault) ∙ sym (spent_places k.tickets n m there at.tickets.rising));
-          given_up = among;
-          heads = heads_left sum old.log log k.heads heads at.heads;
-          ends = subst (λ e. All (λ x. x.place + x.size ≤ e) H'.messages) (sym position.reserved) ends;
-        }
-
-      -- A message is, and all else of the log stays as it is seen.
-      module _ (same : KeepsSeen old.log log) (kept : fault_of log ≡ fault_of old.log) (position : SamePosition old.log log) (buffers : KeepsBuffers old.log log) (fault : fault_of old.log ≡ None)
+      -- Where it keeps none, all else of the log stays as it is seen.
+      module _ (log : Log D C) (pages : Vec PageState Global) (same : KeepsSeen old.log log) (kept : fault_of log ≡ fault_of old.log) (machine : machine_at log ≡ machine_at old.log)
+          (position : SamePosition old.log log) (buffers : KeepsBuffers old.log log) (fault : fault_of old.log ≡ None)
           (others : (t : Reservation) (x : Message) → Awaits old.log t x → place_of t ≢ place_of ticket.reservation → Awaits log t x)
           (safe : (j : ℕ) (x : Message) → (x.place ≡ m.place → ⊥) → IsTicketFor (traces view) sum old k.history j x → IsSafe (traces view) sum log x)
           (opens_left : TakesOut m.place (open_places old.log) (open_places log)) where
         ended_view : (count : ℕ) (given : List Message) → length pages.items ≡ count
-            → seen now (set k.tickets n None) given k.heads ≡ record (spent (seen old k.tickets k.given_up k.heads) n (places_without m.place (opens (seen old k.tickets k.given_up k.heads))) count) { given_up = given }
+            → seen_log log (length pages.items) (set k.tickets n None) given k.heads
+            ≡ record (spent (seen old k.tickets k.given_up k.heads) n (places_without m.place (opens (seen old k.tickets k.given_up k.heads))) count) { given_up = given }
         ended_view count given is i = record {
           position = position.position i;
           synced = same.synced i;
@@ -353,25 +463,28 @@ module _ {D C : Type 0} (view : D → DeviceView) (sum : List ℕ → ℕ) (old 
           start = buffers.start i;
           begun = is i;
           fault = kept i;
-          outstanding = outstanding same.pins position fault others safe opens_left i;
+          outstanding = outstanding log position fault others safe opens_left i;
           tickets = set k.tickets n None;
           given_up = given;
           heads = k.heads;
           pins = same.pins i;
+          machine = machine i;
           account = same.account i;
         }
 
         -- Its message is given up.
         pub aborts : (place : ℤ) (pointer : DiskPtr) → IsAnswerFor m place pointer → map page_of pages.items ≡ map page_of old.pages.items
-            → GivesUp {T = ℤ × DiskPtr} view sum (Ok (place, pointer)) (own_blob ticket.reservation) old.log log → AreAmong (given_up_of log) (in_log m ∷ given_up_of old.log) → Does view sum (Open old) (command.Abort n) (Open now, reply.Done place pointer) k
-        aborts place pointer answer pages_are did gives =
+            → (Fits (traces view) sum log k.history k.acknowledged k.floor at.unmarked → Fits (traces view) sum (given_back log pages) k.history k.acknowledged k.floor at.unmarked)
+            → GivesUp {T = ℤ × DiskPtr} view sum (Ok (place, pointer)) (own_blob ticket.reservation) old.log log → AreAmong (given_up_of log) (in_log m ∷ given_up_of old.log)
+            → DoesHere view sum (Open old) (command.Abort n) (Open (after log pages), reply.Done place pointer) k
+        aborts place pointer answer pages_are back did gives =
             let given : List Message = in_log m ∷ k.given_up in
-            let seen_is = ended_view (length old.pages.items) given (as_many pages_are) in
+            let seen_is = ended_view (length old.pages.items) given (as_many pages pages_are) in
             record {
               not_refused = refl;
               next = left_with k.history given;
               step = (
-                removes_own (reply.Done place pointer) (fault_of old.log) (view (config_of old.log).device) (view (config_of log).device)
+                subst (λ (o : Option ℤ). RemoveActs o (fault_of old.log) (view (config_of old.log).device) (reply.Done place pointer) (view (config_of log).device)) (sym (ap own_by there ∙ own_is))
                     (removal_done (own_blob ticket.reservation) (fault_of old.log) (view (config_of old.log).device) (view (config_of log).device) place pointer
                     (λ none. ap (λ c. view c.device) (did.removes.none none)) did.removes.done did.answers.2),
                 record {
@@ -379,52 +492,184 @@ module _ {D C : Type 0} (view : D → DeviceView) (sum : List ℕ → ℕ) (old 
                   reserved = there;
                   fault = fault;
                   answer = answer;
-                  leads = λ i. record { device = view (config_of log).device; history = k.history; acknowledged = k.acknowledged; floor = k.floor; log = Some (seen_is i) };
+                  leads = λ i. record {
+                    device = view (config_of log).device;
+                    history = k.history;
+                    acknowledged = k.acknowledged;
+                    floor = k.floor;
+                    log = Some (without_pin (seen_is i));
+                    due = shown_due (takes.due i);
+                  };
                 },
               );
-              at = λ own. ended_open same.pins position fault others safe opens_left k.history at.unmarked given (one_more (in_log m) (given_up_of log) (given_up_of old.log) k.given_up gives at.given_up) did.heads at.made (did.keeps.fits k.history k.acknowledged k.floor at.unmarked at.fits beside_history)
-                  (subst (λ (ps : List Page). IsTable ps k.history top) (sym pages_are) at.table) (λ x ne may. may) (λ x of ne begun. begun_still same.noted x begun) at.ends;
+              at = λ own. left_open (given_back log pages) pages mid.due
+                  (keeps_beside log (given_back log pages) (back_beside log pages) (keeps_ended log position fault others safe opens_left did.heads (λ x of ne begun. begun_still log same.noted x begun)))
+                  k.history at.unmarked given (none_left (given_back log pages) k.history) (back (did.keeps.fits k.history k.acknowledged k.floor at.unmarked at.fits beside_history)) (back_pinned log pages same.pins)
+                  (one_more (in_log m) (given_up_of log) (given_up_of old.log) k.given_up gives at.given_up) at.made
+                  (subst (λ (ps : List Page). IsTable ps k.history top) (sym pages_are) at.table) (λ x ne may. may) at.ends;
               crash = λ own. did.keeps.crash k.history k.acknowledged k.floor at.unmarked at.fits beside_history;
             }
 
-        -- It comes to the history.
-        pub completes : config_of log ≡ config_of old.log → AreAmong (given_up_of log) (given_up_of old.log) → HasNoOther old.log log → m.page ≢ manifest_page → (place : ℤ) (pointer : DiskPtr) → IsAnswerFor m place pointer → (H' : History) → Step k.history (Completed m) H'
-            → Fits (traces view) sum log H' k.acknowledged k.floor (m ∷ at.unmarked) → (e : Entry) → e ≡ entry_of m
-            → map page_of pages.items ≡ applied_to (map page_of old.pages.items) ticket.kind ticket.page e → Does view sum (Open old) (command.Complete n) (Open now, reply.Done place pointer) k
-        completes config among heads changes place pointer answer H' step fits e e_is applied =
-            let known : List Page = map page_of old.pages.items in
-            let entry : map page_of pages.items ≡ applied_to known m.kind m.page (entry_of m) = applied ∙ (λ i. applied_to known (of_kind i) (of_page i) (e_is i)) in
-            let may : MayJoin k.history m = had.joins changes in
-            let made : IsMade H' = made_completed k.history H' m at.made may step (fits_apart (traces view) sum log H' k.acknowledged k.floor (m ∷ at.unmarked) fits) in
-            let table : IsTable (map page_of pages.items) H' top = subst (λ (ps : List Page). IsTable ps H' top) (sym entry) (table_completed k.history H' m known at.made may step at.table) in
-            let linked : m.kind ≡ does.Link → m.page < length known = λ link. ⊎_elim (λ replaces. absurd (let both : does.Link ≡ does.Replace = sym link ∙ replaces in cc))
-            (λ has. (at.table.begun m.page).1 (page_of_replace k.history m.page m.place at.made has)) may.own in
-            let count : length known ≡ length old.pages.items = length-map old.pages.items page_of in
-            let begun : length pages.items ≡ (if m.page == length old.pages.items then length old.pages.items + 1 else length old.pages.items) =
-            sym (length-map pages.items page_of) ∙ ap length entry ∙ applied_length known m.kind m.page (entry_of m) may.changes linked
-            ∙ ap (λ j. if m.page == j then j + 1 else j) count in
-            let seen_is = ended_view (if m.page == length old.pages.items then length old.pages.items + 1 else length old.pages.items) k.given_up begun in
-            record {
-              not_refused = refl;
-              next = left H';
-              step = (
-                ap (λ c. view c.device) config,
-                record {
-                  message = m;
-                  reserved = there;
-                  fault = fault;
-                  answer = answer;
-                  history = H';
-                  step = step;
-                  leads = λ i. record { device = view (config_of log).device; history = H'; acknowledged = k.acknowledged; floor = k.floor; log = Some (seen_is i) };
-                },
-              );
-              at = λ own. ended_open same.pins position fault others safe opens_left H' (m ∷ at.unmarked) k.given_up (λ x given. at.given_up x (among x given)) heads made fits table (λ x ne next. join_still k.history H' m x may step ne next) (λ x of ne begun. begun_still same.noted x begun)
-                  (all_from_in (λ x. x.place + x.size ≤ reserved_end old.log) H'.messages (λ x there_now. ⊎_elim
-                  (λ is. subst (λ (z : Message). z.place + z.size ≤ reserved_end old.log) is had.ends)
-                  (λ was. All-contains (λ z. z.place + z.size ≤ reserved_end old.log) k.history.messages x at.ends was) (came k.history H' m step x there_now)));
-              crash = λ own. untouched (traces view) sum old k at (traces view (device_of log)) (ap (λ c. traces view c.device) config);
-            }
+        -- It comes to the history, and is marked, or its mark is due.
+        module _ (config : config_of log ≡ config_of old.log) (among : AreAmong (given_up_of log) (given_up_of old.log)) (heads : HasNoOther old.log log) (changes : m.page ≢ manifest_page)
+            (place : ℤ) (pointer : DiskPtr) (answer : IsAnswerFor m place pointer) (H' : History) (step : Step k.history (Completed m) H')
+            (fits : Fits (traces view) sum log H' k.acknowledged k.floor (m ∷ at.unmarked)) (e : Entry) (e_is : e ≡ entry_of m)
+            (applied : map page_of pages.items ≡ applied_to (map page_of old.pages.items) ticket.kind ticket.page e)
+            (d : Due) (d_kind : d.kind ≡ ticket.kind) (d_page : d.page ≡ ticket.page) (d_new : d.new ≡ record { lsn = e.0; pointer = e.1; log_size = e.2 })
+            (d_old : d.old.items ≡ replacing ticket.kind (told_state old.origin.size old.origin.floor ticket.page (slice_get old.pages.items ticket.page))) where
+          abbrev known : List Page
+          known = map page_of old.pages.items
+
+          may : MayJoin k.history m
+          may = had.joins changes
+
+          made : IsMade H'
+          made = made_completed k.history H' m at.made may step (fits_apart (traces view) sum log H' k.acknowledged k.floor (m ∷ at.unmarked) fits)
+
+          entry : map page_of pages.items ≡ applied_to known m.kind m.page (entry_of m)
+          entry = applied ∙ (λ i. applied_to known (of_kind i) (of_page i) (e_is i))
+
+          completed_table : IsTable (map page_of pages.items) H' top
+          completed_table = subst (λ (ps : List Page). IsTable ps H' top) (sym entry) (table_completed k.history H' m known at.made may step at.table)
+
+          begun_count : length pages.items ≡ (if m.page == length old.pages.items then length old.pages.items + 1 else length old.pages.items)
+          begun_count =
+              let linked : m.kind ≡ does.Link → m.page < length known = λ link. ⊎_elim (λ replaces. absurd (let both : does.Link ≡ does.Replace = sym link ∙ replaces in cc))
+              (λ has. (at.table.begun m.page).1 (page_of_replace k.history m.page m.place at.made has)) may.own in
+              let count : length known ≡ length old.pages.items = length-map old.pages.items page_of in
+              sym (length-map pages.items page_of) ∙ ap length entry ∙ applied_length known m.kind m.page (entry_of m) may.changes linked
+              ∙ ap (λ j. if m.page == j then j + 1 else j) count
+
+          completed_ends : All (λ x. x.place + x.size ≤ reserved_end old.log) H'.messages
+          completed_ends = all_from_in (λ x. x.place + x.size ≤ reserved_end old.log) H'.messages (λ x there_now. ⊎_elim
+              (λ is. subst (λ (z : Message). z.place + z.size ≤ reserved_end old.log) is had.ends)
+              (λ was. All-contains (λ z. z.place + z.size ≤ reserved_end old.log) k.history.messages x at.ends was) (came k.history H' m step x there_now))
+
+          -- its mark takes the place of all that its page was
+          former_is : d.old.items ≡ replacing m.kind (map (told_message (segment_size_of old.log) k.floor) (page_now k.history m.page))
+          former_is =
+              d_old ∙ (λ i. replacing (of_kind i) (told_state (at.origin i).size (at.origin i).floor (of_page i) (slice_get old.pages.items (of_page i))))
+              ∙ ap (replacing m.kind) (state_told (segment_size_of old.log) k.floor k.history old.pages.items m.page at.made at.table)
+
+          info_is : d.new ≡ info_of m
+          info_is = d_new ∙ (λ i. record { lsn = (e_is i).0; pointer = (e_is i).1; log_size = (e_is i).2 })
+
+          mark_is : mark_of d ≡ mark_for (segment_size_of old.log) k.floor k.history m
+          mark_is i = record { kind = (d_kind ∙ of_kind) i; page = (d_page ∙ of_page) i; old = former_is i; new = info_is i }
+
+          -- so it is the one message that isn't marked
+          pub unmarked_now : IsUnmarked log H' d m
+          unmarked_now = record {
+            there = new_there k.history H' m step;
+            is = (sym (d_page ∙ of_page), info_is);
+            kind = d_kind ∙ of_kind;
+            newest = λ x there_now page. may.later x (was_there k.history H' m step x there_now) page;
+            beside = λ link. former_is ∙ ap (λ (kind : LogKind). replacing kind (map (told_message (segment_size_of old.log) k.floor) (page_now k.history m.page))) link;
+            former = λ begins. subst (IsFormerList (without (m ∷ []) H') m.page) (sym (former_is ∙ replacing_all m.kind _ begins)) (former_told k.history H' m step (segment_size_of old.log) k.floor at.made);
+            sound = kept ∙ fault;
+          }
+
+          abbrev count_now : ℕ
+          count_now = if m.page == length old.pages.items then length old.pages.items + 1 else length old.pages.items
+
+          keeps_now : (new : Log D C) → KeepsBeside log new → Keeps new
+          keeps_now new beside = keeps_beside log new beside (keeps_ended log position fault others safe opens_left heads (λ x of ne begun. begun_still log same.noted x begun))
+
+          open_now : (new : Log D C) (due : Option Due) (U : List Message) → KeepsBeside log new → AreUnmarked new H' due U → Fits (traces view) sum new H' k.acknowledged k.floor U
+              → pins_of new ≡ length (open_messages (set k.tickets n None)) + length U → IsOpenAt (traces view) sum (now new pages due) (left H')
+          open_now new due U beside unmarked fits_now pinned =
+              left_open new pages due (keeps_now new beside) H' U k.given_up unmarked fits_now pinned
+              (λ x given. at.given_up x (among x ((tickets_same log new beside).given_up x given))) made completed_table
+              (λ x ne next. join_still k.history H' m x may step ne next) completed_ends
+
+          -- the log then, as it is seen, but for the mark
+          completed_seen : seen_log log (length pages.items) (set k.tickets n None) k.given_up k.heads
+              ≡ spent (seen old k.tickets k.given_up k.heads) n (places_without m.place (opens (seen old k.tickets k.given_up k.heads))) count_now
+          completed_seen = ended_view count_now k.given_up begun_count
+
+          device_now : (new : Log D C) → KeepsBeside log new → view (config_of new).device ≡ view (config_of old.log).device
+          device_now new beside = ap (λ c. view c.device) (beside.config ∙ config)
+
+          now_pinned : pins_of log ≡ length (open_messages (set k.tickets n None)) + 1
+          now_pinned = let pins = same.pins in let out = at.pinned in let less = fewer in let all = ap (λ (U : List Message). length U) all_marked in omega (arith, pins, out, less, all)
+
+          does_now : (new : Log D C) (due : Option Due) → (beside : KeepsBeside log new)
+              → ((stands view (Open (now new pages due)) (left H') ≡ record (stands view (Open old) k) {
+                device = view (config_of new).device;
+                history = H';
+                log = Some (marking (segment_size_of old.log) (mark_for (segment_size_of old.log) k.floor k.history m) (spent (seen old k.tickets k.given_up k.heads) n (places_without m.place (opens (seen old k.tickets k.given_up k.heads))) count_now));
+              })
+              ⊎ (stands view (Open (now new pages due)) (left H') ≡ record (stands view (Open old) k) {
+                device = view (config_of new).device;
+                history = H';
+                log = Some (spent (seen old k.tickets k.given_up k.heads) n (places_without m.place (opens (seen old k.tickets k.given_up k.heads))) count_now);
+                due = Some (mark_for (segment_size_of old.log) k.floor k.history m);
+              }))
+              → IsOpenAt (traces view) sum (now new pages due) (left H')
+              → DoesHere view sum (Open old) (command.Complete n) (Open (now new pages due), reply.Done place pointer) k
+          does_now new due beside leads open_then = record {
+            not_refused = refl;
+            next = left H';
+            step = (
+              device_now new beside,
+              record {
+                message = m;
+                reserved = there;
+                fault = fault;
+                answer = answer;
+                history = H';
+                step = step;
+                log = spent (seen old k.tickets k.given_up k.heads) n (places_without m.place (opens (seen old k.tickets k.given_up k.heads))) count_now;
+                is = refl;
+                leads = leads;
+              },
+            );
+            at = λ own. open_then;
+            crash = λ own. untouched (traces view) sum old k at (traces view (device_of new)) (ap (λ c. traces view c.device) (beside.config ∙ config));
+          }
+
+          completes_marked : (new : Log D C) (due : Option Due) → KeepsBeside log new → IsMarked (traces view) sum log d new H' k.acknowledged k.floor → due ≡ mid.due
+              → DoesHere view sum (Open old) (command.Complete n) (Open (now new pages due), reply.Done place pointer) k
+          completes_marked new due beside marked same_due =
+              let none_now : due ≡ None = same_due ∙ takes.due ∙ none in
+              does_now new due beside
+              (inl (λ i. record {
+                device = view (config_of new).device;
+                history = H';
+                acknowledged = k.acknowledged;
+                floor = k.floor;
+                log = Some ((seen_marked log new beside (length pages.items) (set k.tickets n None) k.given_up k.heads (mark_of d) marked.machine marked.pins
+                    ∙ (λ j. marking (position.size j) (mark_is j) (completed_seen j))) i);
+                due = shown_due ((same_due ∙ takes.due) i);
+              }))
+              (open_now new due [] beside (subst (λ (o : Option Due). AreUnmarked new H' o []) (sym none_now) refl) marked.fits
+              (let pins = marked.pins in let out = now_pinned in omega (arith, pins, out)))
+
+          completes_due : (new : Log D C) (due : Option Due) → KeepsBeside log new → StaysUnmarked (traces view) sum log d d new H' k.acknowledged k.floor m → due ≡ Some d
+              → DoesHere view sum (Open old) (command.Complete n) (Open (now new pages due), reply.Done place pointer) k
+          completes_due new due beside stays due_is =
+              does_now new due beside
+              (inr (λ i. record {
+                device = view (config_of new).device;
+                history = H';
+                acknowledged = k.acknowledged;
+                floor = k.floor;
+                log = Some ((seen_same log new beside (length pages.items) (set k.tickets n None) k.given_up k.heads stays.machine stays.pins ∙ completed_seen) i);
+                due = (ap shown_due due_is ∙ ap (λ (x : DueMark). Some x) mark_is) i;
+              }))
+              (open_now new due (m ∷ []) beside (subst (λ (o : Option Due). AreUnmarked new H' o (m ∷ [])) (sym due_is) (m, refl, unmarked_beside log new beside H' d m unmarked_now)) stays.fits
+              (let pins = stays.pins in let out = now_pinned in omega (arith, pins, out)))
+
+          pub completes : (new : Opened D C) (made_it : Bool) → new ≡ record (now log pages mid.due) { log = new.log; due = new.due } → KeepsBeside log new.log
+              → ((H : History) (A f : ℕ) (x : Message) → Fits (traces view) sum log H A f (x ∷ []) → IsUnmarked log H d x → IsMade H → Settles (traces view) sum (now log pages mid.due) d made_it new H A f x)
+              → DoesHere view sum (Open old) (command.Complete n) (Open new, reply.Done place pointer) k
+          completes new made_it rest beside settles =
+              subst (λ (o : Opened D C). DoesHere view sum (Open old) (command.Complete n) (Open o, reply.Done place pointer) k) (sym rest)
+              (by made_it (settles H' k.acknowledged k.floor m (subst (λ (U : List Message). Fits (traces view) sum log H' k.acknowledged k.floor (m ∷ U)) all_marked fits) unmarked_now made)) where
+                by : (b : Bool) → Settles (traces view) sum (now log pages mid.due) d b new H' k.acknowledged k.floor m
+                    → DoesHere view sum (Open old) (command.Complete n) (Open (now new.log pages new.due), reply.Done place pointer) k
+                by true settled = completes_marked new.log new.due beside settled.0 settled.1
+                by false settled = completes_due new.log new.due beside settled.0 settled.1
 
 -- Room for a page.
 
@@ -454,14 +699,18 @@ module _ {D C : Type 0} (view : D → DeviceView) (sum : List ℕ → ℕ) (old 
   }
 
   -- leaves all as it is seen,
+  room_due : (U : List Message) → AreUnmarked old.log k.history old.due U → AreUnmarked new.log k.history new.due U
+  room_due U due = subst (λ (o : Option Due). AreUnmarked new.log k.history o U) (sym kept.due) (subst (λ (x : Log D C). AreUnmarked x k.history old.due U) (sym kept.log) due)
+
   pub room_open : IsOpenAt (traces view) sum old k → IsOpenAt (traces view) sum new k
   room_open at = record {
     made = at.made;
     unmarked = at.unmarked;
+    due = room_due at.unmarked at.due;
     fits = subst (λ (x : Log D C). Fits (traces view) sum x k.history k.acknowledged k.floor at.unmarked) (sym kept.log) at.fits;
     zeros = at.zeros;
     pinned = ap pins_of kept.log ∙ at.pinned;
-    joined = ap (λ (x : Log D C). (account_of x).mark) kept.log ∙ at.joined;
+    origin = kept.origin ∙ at.origin ∙ (λ i. record { size = segment_size_of (sym kept.log i); floor = k.floor });
     table = subst (λ (ps : List Page). IsTable ps k.history top) (sym kept.pages) at.table;
     tickets = kept_tickets at.tickets;
     given_up = subst (λ (x : Log D C). AreAmong (given_up_of x) k.given_up) (sym kept.log) at.given_up;
@@ -479,22 +728,23 @@ module _ {D C : Type 0} (view : D → DeviceView) (sum : List ℕ → ℕ) (old 
     acknowledged = k.acknowledged;
     floor = k.floor;
     log = Some (seen_log (kept.log i) (room_begun i) k.tickets k.given_up k.heads);
+    due = shown_due (kept.due i);
   }
 
   -- so what a completion comes to then it comes to,
-  pub room_does : (n : ℕ) (result : Phase D C × Reply) → Does view sum (Open new) (command.Complete n) result k → Does view sum (Open old) (command.Complete n) result k
+  pub room_does : (n : ℕ) (result : Phase D C × Reply) → DoesHere view sum (Open new) (command.Complete n) result k → DoesHere view sum (Open old) (command.Complete n) result k
   room_does n result did =
       let same : (segment_size_of new.log, stands view (Open new) k) ≡ (segment_size_of old.log, stands view (Open old) k) = λ i. (segment_size_of (kept.log i), room_stands i) in
       record {
         not_refused = did.not_refused;
         next = did.next;
-        step = subst (λ (z : ℕ × RunState). IsStep sum z.0 z.1 (command.Complete n) result.1 (device_in view result.0) (stands view result.0 did.next)) same did.step;
+        step = subst (λ (z : ℕ × RunState). StepBy sum z.0 z.1 z.1.log (command.Complete n) result.1 (device_in view result.0) (stands view result.0 did.next)) same did.step;
         at = λ own. did.at tt;
         crash = λ own. subst (λ (z : ℕ × RunState). StaysWithin sum z.0 z.1 (command.Complete n) (device_in view result.0) (stands view result.0 did.next)) same (did.crash tt);
       }
 
   -- and where memory for it was refused nothing is done.
-  pub room_fails : (n : ℕ) → fault_of old.log ≡ None → IsOpenAt (traces view) sum old k → Does view sum (Open old) (command.Complete n) (Open new, reply.Failed error.OutOfMemory) k
+  pub room_fails : (n : ℕ) → fault_of old.log ≡ None → IsOpenAt (traces view) sum old k → DoesHere view sum (Open old) (command.Complete n) (Open new, reply.Failed error.OutOfMemory) k
   room_fails n whole at = record {
     not_refused = refl;
     next = k;

@@ -47,13 +47,15 @@ if_none P (Some x) is = cc
 pub one_there : {X : Type 0} (xs : List (Option X)) (n : ℕ) (x y : X) → slice_get xs n ≡ Some (Some x) → slice_get xs n ≡ Some (Some y) → x ≡ y
 one_there xs n x y first second = cc
 
-module _ {D C : Type 0} (old new : Opened D C) (number : ℕ) (log : new.log ≡ old.log) (pages : new.pages ≡ old.pages) (tickets : new.tickets.items ≡ set old.tickets.items number None) where
+module _ {D C : Type 0} (old new : Opened D C) (number : ℕ) (log : new.log ≡ old.log) (pages : new.pages ≡ old.pages) (origin : new.origin ≡ old.origin) (due : new.due ≡ old.due) (tickets : new.tickets.items ≡ set old.tickets.items number None) where
   -- none is taken where none of this number is open
   pub takes_none : (result : Option Ticket) → result ≡ None
       → ((t : Ticket) → slice_get old.tickets.items number ≡ Some (Some t) → IsOpen old.log t.reservation → ⊥) → TakesTicket old number new result
   takes_none result is never = record {
     log = log;
     pages = pages;
+    origin = origin;
+    due = due;
     tickets = tickets;
     there = if_none (λ t. slice_get old.tickets.items number ≡ Some (Some t)) result is;
     is_open = if_none (λ t. IsOpen new.log t.reservation) result is;
@@ -68,6 +70,8 @@ module _ {D C : Type 0} (old new : Opened D C) (number : ℕ) (log : new.log ≡
   takes_some t there is_open busy batch = record {
     log = log;
     pages = pages;
+    origin = origin;
+    due = due;
     tickets = tickets;
     there = there;
     is_open = subst (λ l. IsOpen l t.reservation) (sym log) is_open;

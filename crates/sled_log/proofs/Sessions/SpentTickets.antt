@@ -1,5 +1,5 @@
 -- Tickets once one of them is spent.
-use Rattle.std.proofs.Common.{⊎_elim, ◌≡◌, ◌≢◌, ◌∙◌, ◌==◌, ◌<◌, ◌≤◌, ◌+◌, ℕ, zero, suc, Bool, true, false, if◌then◌else◌, List, [], ◌∷◌, ◌++◌, length, map, get_or, set, sym, ap, subst, arith, refl, inl, inr, Option, None, Some, eq-eqb}
+use Rattle.std.proofs.Common.{⊎_elim, ◌≡◌, ◌≢◌, ◌∙◌, ◌==◌, ◌<◌, ◌≤◌, ◌+◌, ℕ, zero, suc, Bool, true, false, if◌then◌else◌, List, [], ◌∷◌, ◌++◌, length, map, get_or, set, sym, ap, subst, arith, refl, inl, inr, Option, None, Some, eq-eqb, length-append}
 use Rattle.std.specs.List.{All, Contains, slice_get}
 use Rattle.std.proofs.lemmas.Bool.{cases_lt, ne_eqb}
 use Rattle.std.proofs.lemmas.List.{get_or-set_same, get_or-set_other, length-set, map-append, get_or_past}
@@ -73,6 +73,12 @@ split_at (Some x ∷ ts) (suc n) m there =
 
 in_open : (ts : List (Option Message)) (n : ℕ) (m : Message) → slice_get ts n ≡ Some (Some m) → Contains (open_messages ts) m
 in_open ts n m there = let split = split_at ts n m there in subst (λ ms. Contains ms m) (sym split.was) (Contains-append_right split.before (m ∷ split.after) m (in_first m split.after))
+
+-- there is one more of them before
+pub spent_count : (ts : List (Option Message)) (n : ℕ) (m : Message) → slice_get ts n ≡ Some (Some m) → length (open_messages ts) ≡ length (open_messages (set ts n None)) + 1
+spent_count ts n m there =
+    let split = split_at ts n m there in
+    ap length split.was ∙ omega (arith, length-append split.before (m ∷ split.after), length-append split.before split.after, ap (λ (ms : List Message). length ms) split.is)
 
 -- their places are those that were but for its own
 pub spent_places : (ts : List (Option Message)) (n : ℕ) (m : Message) → slice_get ts n ≡ Some (Some m) → AreRising (places ts) → places (set ts n None) ≡ places_without m.place (places ts)

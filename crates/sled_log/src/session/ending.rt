@@ -1,14 +1,14 @@
 //! Completing messages, giving them up, and ending batches.
-ghost use Rattle.std.specs.Prelude.{◌≡◌, None, OnErr, OnOk};
+ghost use Rattle.std.specs.Prelude.{◌≡◌, None, IfOk, IsOkUnless, OnErr, OnOk};
 ghost use Rattle.sled_core.specs.Fits.{config_of, fault_of};
 ghost use Rattle.sled_log.specs.declared.session.command.Command.TheVariants as told;
-ghost use Rattle.sled_log.specs.Endings.{HasRoomFor, KeepsPages, TakesTicket, batch_left};
+ghost use Rattle.sled_log.specs.Endings.{HasRoomFor, IsFormerFor, KeepsPages, TakesTicket, batch_left};
 ghost use Rattle.sled_log.specs.RunPhases.{CarriesHere, RunsOn, view_by};
 
 use crate::session::Phase;
 use crate::session::command::{Refusal, Reply};
 use crate::session::known::{apply, room_to_apply};
-use crate::session::marking::{Due, mark, postpone, replaced_by, unpin};
+use crate::session::marking::{Due, replaced_by, settle, unpin};
 use crate::session::opened::{Opened, Ticket};
 use sled_codec::result::{Error, PageId, Result};
 use sled_codec::serialization::Checksum;
@@ -16,8 +16,8 @@ use sled_codec::serialization::message::BATCH_MANIFEST_PID;
 use sled_store::CrashDevice;
 use sled_store::segment::accountant::CacheInfo;
 
-/// Completes the message of a ticket, and marks it, and gives the pin back. The room for its entry in the table is made first, and the list of what it
-/// takes the place of; where memory for the mark is refused that is due.
+/// Completes the message of a ticket, marks it, and gives the pin back. The room for its entry in the table is made
+/// first, and the list of what it takes the place of. Where memory for the mark is refused, that is due.
 pub(crate) fn complete<D: CrashDevice, C: Checksum>(
     opened: &mut Opened<D, C>,
     number: usize,
@@ -51,7 +51,13 @@ pub(crate) fn complete<D: CrashDevice, C: Checksum>(
     let size = reservation.reservation_len() as u64;
     match opened.log.complete(reservation) {
         Ok((place, pointer)) => {
-            apply(opened.alloc, &mut opened.pages, kind, page, (place, pointer, size));
+            apply(
+                opened.alloc,
+                &mut opened.pages,
+                kind,
+                page,
+                (place, pointer, size),
+            );
             let new = CacheInfo {
                 lsn: place,
                 pointer,
@@ -64,9 +70,7 @@ pub(crate) fn complete<D: CrashDevice, C: Checksum>(
                 new,
                 guard,
             };
-            if let Some(due) = mark(&mut opened.log, due) {
-                postpone(opened, due);
-            }
+            settle(opened, due);
             Reply::Done(place, pointer)
         }
         Err(e) => {
@@ -81,6 +85,9 @@ fn former_for<D: CrashDevice, C: Checksum>(
     opened: &Opened<D, C>,
     number: usize,
 ) -> Result<Vec<CacheInfo>>
+    ensures former { IfOk result (λ old. fault_of opened.now.log ≡ None → IsFormerFor opened.now number old.items) }
+    ensures err { IsOkUnless result Error.OutOfMemory }
+    ensures whole { OnErr result (fault_of opened.now.log ≡ None) }
 {
     if opened.log.failure().is_some() {
         return Ok(Vec::new(opened.alloc));

@@ -1,7 +1,7 @@
 use Rattle.std.proofs.Common.{◌∙◌, ◌∷◌, ap, sym, subst, Option, Some, Ok, Err, map, ℤ}
 use Rattle.std.specs.Int.{w64, cast_signed, cast_unsigned}
 use Rattle.sled_codec.specs.Snapshots.{page_of}
-use Rattle.sled_core.specs.Fits.{Awaits, given_up_of, open_places}
+use Rattle.sled_core.specs.Fits.{Awaits, given_up_of, machine_at, open_places}
 use Rattle.sled_core.specs.Among.{AreAmong}
 use Rattle.sled_core.specs.Logged.{in_log}
 use Rattle.sled_core.specs.OpenPlaces.{TakesOut}
@@ -11,11 +11,11 @@ use Rattle.sled_core.proofs.PublicLaws.{awaited, awaited_small, fits_holds, plac
 use Rattle.sled_codec.specs.declared.result.DiskPtr.{DiskPtr}
 use Rattle.sled_log.specs.Endings.{TakesTicket}
 use Rattle.sled_log.specs.RunPhases.{IsSafe, view_by}
-use Rattle.sled_log.proofs.Sessions.EndedTickets.{GivesUp, abort_fails, aborts, awaits_it, beside_ticket, open_there, takes_it}
+use Rattle.sled_log.proofs.Sessions.EndedTickets.{GivesUp, abort_fails, aborts, awaits_it, back_from, beside_ticket, does_back, open_there, takes_it}
 use Rattle.sled_log.proofs.session.ending.abort.Goals as goal
 
 pub returns-in_default-clause-step : goal.returns-in_default-clause-step
-returns-in_default-clause-step g c = λ k at asked.
+returns-in_default-clause-step g c = λ none k at asked.
     let view = view_by g.D.Device.trace g.D.Device.faults g.D.CrashDevice.is_stopped in
     let old = c.args.opened.now in
     let its = open_there (view old.log.config.device).is_stopped c.args.number k.tickets asked in
@@ -23,27 +23,30 @@ returns-in_default-clause-step g c = λ k at asked.
     absurd (c.in_default.not-Some _ taken)
 
 pub returns-in-Err-clause-step : goal.returns-in-Err-clause-step
-returns-in-Err-clause-step g c = λ k at asked.
+returns-in-Err-clause-step g c = λ none k at asked.
     let view = view_by g.D.Device.trace g.D.Device.faults g.D.CrashDevice.is_stopped in
     let sum = g.C.Checksum.sum_of in
     let old = c.args.opened.now in
     let mid = c.take_open.new.opened in
-    let new = c.abort.new.self in
+    let new = c.abort-aborted.new.self in
     let its = open_there (view old.log.config.device).is_stopped c.args.number k.tickets asked in
     let takes : TakesTicket old c.args.number mid (Some c.in-Some.field-0) = subst (TakesTicket old c.args.number mid) c.in-Some.is c.take_open.ensures in
     let own : Option ℤ = own_blob c.in-Some.field-0.reservation in
     let done = c.in-Err.ensures in
     let did : GivesUp {T = ℤ × DiskPtr} view sum (Err c.in-Err.e) own mid.log new =
-    record { answers = done.answers; removes = done.device; keeps = c.abort.ensures.keeps; seen = c.abort.ensures.seen; buffers = c.abort.ensures.ends.buffers; position = c.abort.ensures.ends.position; heads = record { heads = c.abort.ensures.ends.heads; fillings = c.abort.ensures.ends.fillings }; err = done.err } in
-    abort_fails view sum old k at c.args.number its.0 its.1 mid c.in-Some.field-0 takes new mid.pages (ℤ × DiskPtr) c.in-Err.e
-    (subst (λ x. GivesUp {T = ℤ × DiskPtr} view sum (Err c.in-Err.e) own x new) takes.log did) (ap (λ x. map page_of x.items) takes.pages)
+    record { answers = done.answers; removes = done.device; keeps = c.abort-aborted.ensures.keeps; seen = c.abort-aborted.ensures.seen; buffers = c.abort-aborted.ensures.ends.buffers; position = c.abort-aborted.ensures.ends.position; heads = record { heads = c.abort-aborted.ensures.ends.heads; fillings = c.abort-aborted.ensures.ends.fillings }; err = done.err } in
+    let back = c.unpin.ensures in
+    does_back view sum old k at c.args.number its.0 its.1 mid c.in-Some.field-0 takes none new mid.pages c.unpin.new.log back.given _ _
+    (abort_fails view sum old k at c.args.number its.0 its.1 mid c.in-Some.field-0 takes none new mid.pages
+    (back_from view sum old k at c.args.number its.0 its.1 mid c.in-Some.field-0 takes none new mid.pages c.unpin.new.log back.given back.fits) (ℤ × DiskPtr) c.in-Err.e
+    (subst (λ x. GivesUp {T = ℤ × DiskPtr} view sum (Err c.in-Err.e) own x new) takes.log did) (c.abort-aborted.ensures.ends.machine ∙ ap (λ x. machine_at x) takes.log) (ap (λ x. map page_of x.items) takes.pages))
 
 pub returns-in-Ok-clause-step : goal.returns-in-Ok-clause-step
-returns-in-Ok-clause-step g c = λ k at asked.
+returns-in-Ok-clause-step g c = λ none k at asked.
     let view = view_by g.D.Device.trace g.D.Device.faults g.D.CrashDevice.is_stopped in
     let old = c.args.opened.now in
     let mid = c.take_open.new.opened in
-    let new = c.abort.new.self in
+    let new = c.abort-aborted.new.self in
     let its = open_there (view old.log.config.device).is_stopped c.args.number k.tickets asked in
     let takes : TakesTicket old c.args.number mid (Some c.in-Some.field-0) = subst (TakesTicket old c.args.number mid) c.in-Some.is c.take_open.ensures in
     let trace = g.D.Device.trace in
@@ -54,17 +57,20 @@ returns-in-Ok-clause-step g c = λ k at asked.
     let awaits : Awaits old.log ticket m = awaits_it view sum old k at c.args.number m its.1 mid c.in-Some.field-0 takes in
     let says = awaited old.log ticket m awaits in
     let done = c.in-Ok.ensures in
-    let keeps = c.abort.ensures.keeps in
+    let keeps = c.abort-aborted.ensures.keeps in
     let given : ℤ × DiskPtr = (cast_signed w64 (cast_unsigned w64 c.in-Ok.place), c.in-Ok.pointer) in
     let gave : GivesUp view sum (Ok given) (own_blob ticket) mid.log new =
-    record { answers = done.answers; removes = record { calls = done.device.calls; done = done.device.done; none = done.device.none }; keeps = keeps; seen = c.abort.ensures.seen; buffers = c.abort.ensures.ends.buffers; position = c.abort.ensures.ends.position; heads = record { heads = c.abort.ensures.ends.heads; fillings = c.abort.ensures.ends.fillings }; err = tt } in
+    record { answers = done.answers; removes = record { calls = done.device.calls; done = done.device.done; none = done.device.none }; keeps = keeps; seen = c.abort-aborted.ensures.seen; buffers = c.abort-aborted.ensures.ends.buffers; position = c.abort-aborted.ensures.ends.position; heads = record { heads = c.abort-aborted.ensures.ends.heads; fillings = c.abort-aborted.ensures.ends.fillings }; err = tt } in
     let did : GivesUp view sum (Ok given) (own_blob ticket) old.log new = subst (λ x. GivesUp view sum (Ok given) (own_blob ticket) x new) takes.log gave in
-    aborts view sum old k at c.args.number m its.1 mid c.in-Some.field-0 takes new mid.pages
-    did.seen (did.answers.1 ∙ sym did.answers.0) did.position did.buffers did.answers.0
-    (λ t x holds ne. c.abort.ensures.ends.others k.history t x (fits_holds trace sum mid.log k.history k.acknowledged k.floor at.unmarked fits) (subst (λ y. Awaits y t x) (sym takes.log) holds) ne)
+    let back = c.unpin.ensures in
+    does_back view sum old k at c.args.number m its.1 mid c.in-Some.field-0 takes none new mid.pages c.unpin.new.log back.given _ _
+    (aborts view sum old k at c.args.number m its.1 mid c.in-Some.field-0 takes none new mid.pages
+    did.seen (did.answers.1 ∙ sym did.answers.0) (c.abort-aborted.ensures.ends.machine ∙ ap (λ x. machine_at x) takes.log) did.position did.buffers did.answers.0
+    (λ t x holds ne. c.abort-aborted.ensures.ends.others k.history t x (fits_holds trace sum mid.log k.history k.acknowledged k.floor at.unmarked fits) (subst (λ y. Awaits y t x) (sym takes.log) holds) ne)
     (λ j x apart had none_kept. keeps.items none_kept x (beside_ticket view sum old k at c.args.number m its.1 mid c.in-Some.field-0 takes j x apart had)
     (subst (λ y. IsSafe trace sum y x) (sym takes.log) had.stored (keeps.sound none_kept)))
     (subst (λ x. TakesOut m.place (open_places x) (open_places new)) takes.log (done.ends.opens m.place says.0))
     _ c.in-Ok.pointer (sym (place_back c.in-Ok.place m.place (done.place.0 ∙ sym says.0) (awaited_small old.log ticket m awaits)), done.place.1 ∙ sym says.1)
-    (ap (λ x. map page_of x.items) takes.pages) did
-    (subst (λ x. AreAmong (given_up_of new) (in_log m ∷ given_up_of x)) takes.log (c.abort.ensures.given_up m (subst (λ x. Awaits x ticket m) (sym takes.log) awaits)))
+    (ap (λ x. map page_of x.items) takes.pages)
+    (back_from view sum old k at c.args.number m its.1 mid c.in-Some.field-0 takes none new mid.pages c.unpin.new.log back.given back.fits k.history) did
+    (subst (λ x. AreAmong (given_up_of new) (in_log m ∷ given_up_of x)) takes.log (c.abort-aborted.ensures.given_up m (subst (λ x. Awaits x ticket m) (sym takes.log) awaits))))

@@ -9,7 +9,7 @@ use Rattle.sled_codec.specs.declared.result.DiskPtr.{DiskPtr}
 use Rattle.sled_codec.specs.History.{Message}
 use Rattle.sled_core.specs.Causes.{FaultAnswers}
 use Rattle.sled_core.specs.Batches.{EndsBatch, MayEndAt, NotesBatchOf}
-use Rattle.sled_core.specs.Fits.{Awaits, KeepsBuffers, fault_of, given_up_of, open_places, reserved_end}
+use Rattle.sled_core.specs.Fits.{Awaits, KeepsBuffers, fault_of, given_up_of, machine_at, open_places, reserved_end}
 use Rattle.sled_core.specs.Among.{AreAmong}
 use Rattle.sled_core.specs.Keeps.{SamePosition}
 use Rattle.sled_core.specs.Manifests.{manifest_page}
@@ -21,7 +21,7 @@ use Rattle.sled_log.specs.Endings.{TakesTicket}
 use Rattle.sled_log.specs.RunPhases.{HasBatch, IsOpenAt, IsSafe, Unstored, traces, view_by}
 use Rattle.sled_log.specs.RunStates.{DeviceView}
 use Rattle.sled_log.proofs.Sessions.EndedBatches.{batch_there, behind, end_fails, ends_batch, is_batch, may_end}
-use Rattle.sled_log.proofs.Sessions.EndedTickets.{awaits_it, takes_it}
+use Rattle.sled_log.proofs.Sessions.EndedTickets.{awaits_it, back_from, does_back, takes_it}
 use Rattle.sled_log.proofs.session.ending.end.Given.{Over}
 use Rattle.sled_log.proofs.session.ending.end.Goals.{After-reserved_offset-peg, then-is_manifest, else-is_manifest}
 use Rattle.sled_log.proofs.Sessions.SafeItems.{safe_on}
@@ -51,18 +51,18 @@ module _ (g : Over) (c : After-reserved_offset-peg g) where
   its_batch k at = subst (HasBatch k.tickets) c.in-Some.is at.tickets.batch
 
 pub returns-in_default-clause-step : goal.returns-in_default-clause-step
-returns-in_default-clause-step g c = λ k at asked.
+returns-in_default-clause-step g c = λ none k at asked.
     let old = c.args.opened.now in
     let batch = batch_there (seen_by g old.log.config.device).is_stopped k.tickets old.batch at.tickets.batch asked in
     absurd (c.in_default.not-Some _ batch.1)
 
 pub returns-in_default-take_open-clause-step : goal.returns-in_default-take_open-clause-step
-returns-in_default-take_open-clause-step g c = λ k at asked.
+returns-in_default-take_open-clause-step g c = λ none k at asked.
     let its = subst (HasBatch k.tickets) c.in-Some.is at.tickets.batch in
     absurd (c.in_default-take_open.not-Some _ (takes_it (seen_by g) g.C.Checksum.sum_of c.args.opened.now k at c.in-Some.number its.0 its.1 c.take_open.new.opened c.take_open.result c.take_open.ensures))
 
 pub returns-then-not-may_end_at-clause-step : goal.returns-then-not-may_end_at-clause-step
-returns-then-not-may_end_at-clause-step g c = λ k at asked.
+returns-then-not-may_end_at-clause-step g c = λ none k at asked.
     let sum = g.C.Checksum.sum_of in
     let old = c.args.opened.now in
     let mid = c.take_open.new.opened in
@@ -80,12 +80,12 @@ returns-then-not-may_end_at-clause-step g c = λ k at asked.
     ]
 
 pub returns-in-Ok-clause-step : goal.returns-in-Ok-clause-step
-returns-in-Ok-clause-step g c = λ k at asked.
+returns-in-Ok-clause-step g c = λ none k at asked.
     let sum = g.C.Checksum.sum_of in
     let trace = g.D.Device.trace in
     let old = c.args.opened.now in
     let mid = c.take_open.new.opened in
-    let new = c.mark_writebatch.new.self in
+    let new = c.mark_writebatch-ended.new.self in
     let n = c.in-Some.number in
     let ticket = c.in-Some-take_open.field-0 in
     let read = (goal.at.returns-in-Ok-clause-step g c).After-reserved_offset-peg in
@@ -99,21 +99,33 @@ returns-in-Ok-clause-step g c = λ k at asked.
     let gives = done.fits k.history k.acknowledged k.floor at.unmarked fits in
     let notes : NotesBatchOf ticket.reservation (pos (reserved_end old.log) -ℤ pos 1) old.log new =
     subst (λ x. NotesBatchOf ticket.reservation (pos (reserved_end old.log) -ℤ pos 1) x new) took.log (subst (λ z. NotesBatchOf ticket.reservation z mid.log new) (peg_is g read) done.same) in
-    ends_batch (seen_by g) sum old k at n m its.1 its.2 mid ticket took new notes
-    (subst (λ x. SamePosition x new) took.log c.mark_writebatch.ensures.ends.position) (subst (λ x. KeepsBuffers x new) took.log c.mark_writebatch.ensures.ends.buffers)
+    let back = c.unpin.ensures in
+    does_back (seen_by g) sum old k at n m its.1 mid ticket took none new mid.pages c.unpin.new.log back.given _ _
+    (ends_batch (seen_by g) sum old k at n m its.1 its.2 mid ticket took none new notes (c.mark_writebatch-ended.ensures.ends.machine ∙ ap (λ x. machine_at x) took.log)
+    (subst (λ x. SamePosition x new) took.log c.mark_writebatch-ended.ensures.ends.position) (subst (λ x. KeepsBuffers x new) took.log c.mark_writebatch-ended.ensures.ends.buffers)
     (sym (ap (λ x. fault_of x) took.log) ∙ done.answers)
-    (λ t x holds ne. c.mark_writebatch.ensures.ends.others k.history t x (fits_holds trace sum mid.log k.history k.acknowledged k.floor at.unmarked fits) (subst (λ y. Awaits y t x) (sym took.log) holds) ne)
-    (λ j x apart had. safe_on trace sum mid.log new x c.mark_writebatch.ensures.goes_on (subst (λ y. IsSafe trace sum y x) (sym took.log) had.stored))
+    (λ t x holds ne. c.mark_writebatch-ended.ensures.ends.others k.history t x (fits_holds trace sum mid.log k.history k.acknowledged k.floor at.unmarked fits) (subst (λ y. Awaits y t x) (sym took.log) holds) ne)
+    (λ j x apart had. safe_on trace sum mid.log new x c.mark_writebatch-ended.ensures.goes_on (subst (λ y. IsSafe trace sum y x) (sym took.log) had.stored))
     (subst (λ x. TakesOut m.place (open_places x) (open_places new)) took.log (done.ends.opens m.place says.0))
-    (subst (λ x. AreAmong (given_up_of new) (given_up_of x)) took.log (c.mark_writebatch.ensures.ended (subst (λ z. place_of ticket.reservation <ℤ z) (sym (peg_is g read)) (behind (seen_by g) sum old k at n m its.1 its.2 mid ticket took))))
-    (subst (λ x. HasNoOther x new) took.log (record { heads = c.mark_writebatch.ensures.ends.heads; fillings = c.mark_writebatch.ensures.ends.fillings }))
+    (subst (λ x. AreAmong (given_up_of new) (given_up_of x)) took.log (c.mark_writebatch-ended.ensures.ended (subst (λ z. place_of ticket.reservation <ℤ z) (sym (peg_is g read)) (behind (seen_by g) sum old k at n m its.1 its.2 mid ticket took))))
+    (subst (λ x. HasNoOther x new) took.log (record { heads = c.mark_writebatch-ended.ensures.ends.heads; fillings = c.mark_writebatch-ended.ensures.ends.fillings }))
     _ c.in-Ok.pointer (sym (place_back c.in-Ok.low m.place (done.place.0 ∙ sym says.0) (awaited_small old.log ticket.reservation m awaits)), done.place.1 ∙ sym says.1)
-    gives.0 (subst (λ z. EndsBatch k.history ticket.reservation z gives.0) (peg_is g read) gives.1) gives.2
+    gives.0 (subst (λ z. EndsBatch k.history ticket.reservation z gives.0) (peg_is g read) gives.1)
+    (back_from (seen_by g) sum old k at n m its.1 mid ticket took none new mid.pages c.unpin.new.log back.given back.fits gives.0 gives.2))
 
 pub returns-in-Err-clause-step : goal.returns-in-Err-clause-step
-returns-in-Err-clause-step g c = λ k at asked.
+returns-in-Err-clause-step g c = λ none k at asked.
     let read = (goal.at.returns-in-Err-clause-step g c).After-reserved_offset-peg in
     let its = its_batch g read k at in
     let took = takes g read in
-    end_fails (seen_by g) g.C.Checksum.sum_of c.args.opened.now k at c.in-Some.number its.0 its.1 its.2 c.take_open.new.opened c.in-Some-take_open.field-0 took c.mark_writebatch.new.self (ℤ × DiskPtr) c.in-Err.e
-    (subst (λ x. FaultAnswers {T = ℤ × DiskPtr} (Err c.in-Err.e) (fault_of x)) took.log c.in-Err.ensures.answers) (c.in-Err.ensures.err ∙ took.log)
+    let sum = g.C.Checksum.sum_of in
+    let old = c.args.opened.now in
+    let n = c.in-Some.number in
+    let mid = c.take_open.new.opened in
+    let ticket = c.in-Some-take_open.field-0 in
+    let new = c.mark_writebatch-ended.new.self in
+    let back = c.unpin.ensures in
+    does_back (seen_by g) sum old k at n its.0 its.1 mid ticket took none new mid.pages c.unpin.new.log back.given _ _
+    (end_fails (seen_by g) sum old k at n its.0 its.1 its.2 mid ticket took none new (ℤ × DiskPtr) c.in-Err.e
+    (back_from (seen_by g) sum old k at n its.0 its.1 mid ticket took none new mid.pages c.unpin.new.log back.given back.fits)
+    (subst (λ x. FaultAnswers {T = ℤ × DiskPtr} (Err c.in-Err.e) (fault_of x)) took.log c.in-Err.ensures.answers) (c.in-Err.ensures.err ∙ took.log))
