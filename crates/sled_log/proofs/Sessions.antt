@@ -2,6 +2,7 @@ pub mod Accounts
 pub mod BegunHeads
 pub mod Carried
 pub mod DeviceLemmas
+pub mod DueFirst
 pub mod EndedBatches
 pub mod EndedTickets
 pub mod Endings
@@ -17,6 +18,7 @@ pub mod MadeTables
 pub mod MoreTickets
 pub mod NotedSeen
 pub mod OpenApart
+pub mod PinsTaken
 pub mod Reading
 pub mod ReservedPlaces
 pub mod Reserving

@@ -1,5 +1,5 @@
 -- What the start of a log comes to in a session.
-use Rattle.std.specs.Prelude.{◌≡◌, ℕ, List, []}
+use Rattle.std.specs.Prelude.{◌≡◌, ℕ, List, [], None}
 use Rattle.sled_codec.specs.History.{History}
 use Rattle.sled_codec.specs.Snapshots.{SnapshotModel}
 use Rattle.sled_store.specs.declared.config.RunningConfig.{RunningConfig}
@@ -7,7 +7,7 @@ use Rattle.sled_store.specs.Moments.{LeavesOnly}
 use Rattle.sled_core.specs.Recoverable.{RecoverableIfOwn}
 use Rattle.sled_log.specs.declared.session.Phase.{Phase}
 use Rattle.sled_log.specs.declared.session.command.Reply.{Reply}
-use Rattle.sled_log.specs.RunPhases.{IsAt, IsRecoveredAt, Unstored, device_in, log_in, traces}
+use Rattle.sled_log.specs.RunPhases.{IsAt, IsRecoveredAt, Unstored, device_in, due_in, log_in, traces}
 use Rattle.sled_log.specs.RunStates.{DeviceView, length_of, MarkAt, heads_on}
 use Rattle.sled_log.specs.OpenSteps.{SaysWhy, log_opened}
 
@@ -19,6 +19,7 @@ unreserved H A f heads = record { history = H; acknowledged = A; floor = f; tick
 pub record HasStartedAt {D C : Type 0} (view : D → DeviceView) (sum : List ℕ → ℕ) (config : RunningConfig D C) (s : SnapshotModel) (result : Phase D C × Reply)
     (k : Unstored) : Type 0 where
   pub log : log_in result.0 [] [] k.heads ≡ log_opened config.config.segment_size (length_of (view config.device)) s result.1
+  pub due : due_in result.0 ≡ None
   pub at : IsAt (traces view) sum result.0 k
   pub crash : LeavesOnly (RecoverableIfOwn sum config.config.segment_size k.history k.acknowledged k.floor) (view config.device).trace
       (device_in view result.0).trace

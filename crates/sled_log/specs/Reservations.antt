@@ -1,12 +1,16 @@
 -- How a session keeps a place for a message.
-use Rattle.std.specs.Prelude.{◌≡◌, ◌⊎◌, ◌≤◌, ◌==◌, if◌then◌else◌, ℕ, true, false, List, [], ◌∷◌, ◌++◌, length, get_or, set, ℤ, Option, None, Some}
+use Rattle.std.specs.Prelude.{◌≡◌, ◌≢◌, ◌⊎◌, ◌-◌, ◌<◌, ◌≤◌, ◌==◌, if◌then◌else◌, ℕ, true, false, List, [], ◌∷◌, ◌++◌, length, get_or, set, ℤ, Option, None, Some}
+use Rattle.sled_codec.specs.declared.result.Error.{Error}
 use Rattle.sled_codec.specs.declared.serialization.message.LogKind.{LogKind}
 use Rattle.sled_codec.specs.declared.serialization.message.LogKind.TheVariants.{Link, Replace}
-use Rattle.sled_codec.specs.History.{History}
+use Rattle.sled_codec.specs.History.{History, Message}
 use Rattle.sled_codec.specs.Snapshots.{Page, Present}
 use Rattle.sled_core.specs.declared.reservation.Guard.{Guard}
 use Rattle.sled_core.specs.declared.reservation.Reservation.{Reservation}
-use Rattle.sled_core.specs.Fits.{segment_size_of}
+use Rattle.sled_store.specs.Device.{Trace}
+use Rattle.sled_core.specs.Fits.{pins_of, segment_size_of}
+use Rattle.sled_core.specs.invariants.Running.{Fits}
+use Rattle.sled_core.specs.Keeps.{GoesOn}
 use Rattle.sled_core.specs.Manifests.{manifest_page}
 use Rattle.sled_core.specs.Tickets.{place_of, pointer_of}
 use Rattle.sled_log.specs.declared.session.Phase.TheVariants.{Open}
@@ -52,6 +56,13 @@ pub record HoldsTicket {D C : Type 0} (old new : Opened D C) (kind : LogKind) (p
   pub origin : new.origin ≡ old.origin
   pub due : new.due ≡ old.due
   pub told : result ≡ reply.Reserved (length old.tickets.items) (place_of reservation) (pointer_of reservation)
+
+-- A pin went back, and this error is told.
+pub record GivesBack {D C : Type 0} (trace : D → Trace) (sum : List ℕ → ℕ) (old new : Opened D C) (why : Error) (result : Reply) : Type 0 where
+  pub given : new ≡ record old { log = record old.log { pins = pins_of old.log - 1 } }
+  pub fits : (H : History) (A f : ℕ) (U : List Message) → Fits trace sum old.log H A f U → (U ≢ [] → 1 < pins_of old.log) → Fits trace sum new.log H A f U
+  pub goes_on : GoesOn trace sum old.log new.log
+  pub told : result ≡ reply.Failed why
 
 -- What a reservation comes to.
 pub record HasTried {D C : Type 0} (view : D → DeviceView) (sum : List ℕ → ℕ) (old : Opened D C) (kind : LogKind) (page : ℕ) (bytes : List ℕ)

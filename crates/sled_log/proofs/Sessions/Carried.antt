@@ -15,19 +15,17 @@ use Rattle.sled_core.specs.Manifests.{kind_for, manifest_page}
 use Rattle.sled_core.proofs.PublicLaws.{not_in_blob}
 use Rattle.sled_log.specs.declared.session.Phase.TheVariants.{Open}
 use Rattle.sled_log.specs.declared.session.opened.Opened.{Opened}
-use Rattle.sled_log.specs.declared.session.command.Command.{Command}
 use Rattle.sled_log.specs.declared.session.command.Command.TheVariants as command
 use Rattle.sled_log.specs.declared.session.command.Refusal.{Refusal}
 use Rattle.sled_log.specs.declared.session.command.Refusal.TheVariants as why
 use Rattle.sled_log.specs.declared.session.command.Reply.{Reply}
 use Rattle.sled_log.specs.declared.session.command.Reply.TheVariants as reply
-use Rattle.sled_log.specs.Refusals.{is_absent, is_busy, reason_of, refusal_for, when}
+use Rattle.sled_log.specs.Refusals.{is_absent, is_busy, refusal_for, when}
 use Rattle.sled_log.specs.Reservations.{HasTried, MayReserve}
 use Rattle.sled_log.specs.RunStates.{DeviceView, LogView, RunState, body_in, in_batch, is_present, page_now, target_in}
 use Rattle.sled_log.specs.TicketActs.{BlobActs, ReserveActs, making_for}
 use Rattle.sled_log.specs.TicketSteps.{blank_manifest}
-use Rattle.sled_log.specs.Runs.{IsStep, StepBy}
-use Rattle.sled_log.specs.RunPhases.{Does, Unstored, device_in, seen, size_of, stands}
+use Rattle.sled_log.specs.RunPhases.{DoesHere, Unstored, device_in, seen, size_of, stands}
 
 -- Where no reason is told the first one doesn't fit, and none of the others is told.
 pub passes : (b : Bool) (w : Refusal) (o : Option Refusal) → when b w o ≡ None → (b ≡ false) × (o ≡ None)
@@ -38,11 +36,6 @@ passes false w o none = (refl, none)
 pub asked_going : (stopped : Bool) (n : ℕ) (old new : Trace) (o : Option Refusal) → when (stopped && true) why.Stopped o ≡ None → new ≡ asked_behind stopped n old → new ≡ StopAsked n ∷ old
 asked_going true n old new o free asked = cc
 asked_going false n old new o free asked = asked
-
--- A reply that refuses nothing is one of what the command comes to.
-pub stepping : (sum : List ℕ → ℕ) (size : ℕ) (a : RunState) (c : Command) (r : Reply) (new : DeviceView) (b : RunState) → reason_of r ≡ None → StepBy sum size a a.log c r new b → IsStep sum size a c r new b
-stepping sum size a c (reply.Refused w) new b none steps = cc
-stepping sum size a c r new b none steps = steps
 
 -- A reservation of an item that goes to no blob leaves the device alone.
 alone : (sum : List ℕ → ℕ) (size : ℕ) (l : LogView) (kind : LogKind) (page : ℕ) (bytes : List ℕ) (old : DeviceView) (r : Reply) (new : DeviceView) → in_blob size (length bytes) ≡ false → ReserveActs sum size l kind page bytes old r new → new ≡ old
@@ -97,31 +90,30 @@ module _ {D C : Type 0} (view : D → DeviceView) (sum : List ℕ → ℕ) (old 
     abbrev now : DeviceView
     now = device_in view (Open new)
 
-    pub replace_does : (item : Vec ℕ Global) → HasTried view sum old does.Replace page (short_bytes item.items) new result k → Does view sum (Open old) (command.Replace page item) (Open new, result) k
+    pub replace_does : (item : Vec ℕ Global) → HasTried view sum old does.Replace page (short_bytes item.items) new result k → DoesHere view sum (Open old) (command.Replace page item) (Open new, result) k
     replace_does item tried = record {
       not_refused = tried.not_refused;
       next = tried.tickets;
-      step = stepping sum size a (command.Replace page item) result now (stands view (Open new) tried.tickets) tried.not_refused (tried.acts, tried.step);
+      step = (tried.acts, tried.step);
       at = λ own. tried.at;
       crash = λ own. tried.crash;
     }
 
-    pub link_does : (item : Vec ℕ Global) → HasTried view sum old does.Link page (short_bytes item.items) new result k → Does view sum (Open old) (command.Link page item) (Open new, result) k
+    pub link_does : (item : Vec ℕ Global) → HasTried view sum old does.Link page (short_bytes item.items) new result k → DoesHere view sum (Open old) (command.Link page item) (Open new, result) k
     link_does item tried = record {
       not_refused = tried.not_refused;
       next = tried.tickets;
-      step = stepping sum size a (command.Link page item) result now (stands view (Open new) tried.tickets) tried.not_refused (tried.acts, tried.step);
+      step = (tried.acts, tried.step);
       at = λ own. tried.at;
       crash = λ own. tried.crash;
     }
 
     -- that of a Free has no item
-    pub free_does : HasTried view sum old does.Free page [] new result k → Does view sum (Open old) (command.Free page) (Open new, result) k
+    pub free_does : HasTried view sum old does.Free page [] new result k → DoesHere view sum (Open old) (command.Free page) (Open new, result) k
     free_does tried = record {
       not_refused = tried.not_refused;
       next = tried.tickets;
-      step = stepping sum size a (command.Free page) result now (stands view (Open new) tried.tickets) tried.not_refused
-          (alone sum size l does.Free page [] a.device result now (not_in_blob old.log 0 (let big = old.log.config.config.least in omega (arith, big))) tried.acts, tried.step);
+      step = (alone sum size l does.Free page [] a.device result now (not_in_blob old.log 0 (let big = old.log.config.config.least in omega (arith, big))) tried.acts, tried.step);
       at = λ own. tried.at;
       crash = λ own. tried.crash;
     }
@@ -137,7 +129,7 @@ module _ {D C : Type 0} (view : D → DeviceView) (sum : List ℕ → ℕ) (old 
   begin_idle free = let first = passes _ _ _ free in (passes (in_batch k.tickets) _ _ first.1).0
 
   -- and it comes to a reservation.
-  pub begin_does : (new : Opened D C) (result : Reply) → HasTried view sum old does.Skip manifest_page blank_manifest new result k → Does view sum (Open old) command.BeginBatch (Open new, result) k
+  pub begin_does : (new : Opened D C) (result : Reply) → HasTried view sum old does.Skip manifest_page blank_manifest new result k → DoesHere view sum (Open old) command.BeginBatch (Open new, result) k
   begin_does new result tried =
       let size : ℕ = size_of (Open old) in
       let a : RunState = stands view (Open old) k in
@@ -145,8 +137,7 @@ module _ {D C : Type 0} (view : D → DeviceView) (sum : List ℕ → ℕ) (old 
       record {
         not_refused = tried.not_refused;
         next = tried.tickets;
-        step = stepping sum size a command.BeginBatch result now (stands view (Open new) tried.tickets) tried.not_refused
-            (alone sum size (seen old k.tickets k.given_up k.heads) does.Skip manifest_page blank_manifest a.device result now (manifest_inline old.log) tried.acts, tried.step);
+        step = (alone sum size (seen old k.tickets k.given_up k.heads) does.Skip manifest_page blank_manifest a.device result now (manifest_inline old.log) tried.acts, tried.step);
         at = λ own. tried.at;
         crash = λ own. tried.crash;
       }

@@ -20,7 +20,7 @@ use Rattle.sled_log.specs.declared.session.command.Reply.{Reply}
 use Rattle.sled_log.specs.declared.session.command.Reply.TheVariants as reply
 use Rattle.sled_log.specs.Devices.{Devices, Handles, IsOver, Leaves, RefusedBy, RefusedIn, StandsOver, ToldIn, Touches, TouchesIn, is_barred, is_open, opens_after}
 use Rattle.sled_log.specs.RunStates.{DeviceView}
-use Rattle.sled_log.specs.Runs.{told}
+use Rattle.sled_log.specs.Runs.{calls_log, told}
 use Rattle.sled_core.specs.Fits.{config_of}
 use Rattle.sled_log.specs.RunPhases.{RunsOn, device_in, running, segment_size_in, size_in, size_of, traces}
 use Rattle.sled_log.proofs.Sessions.RunLemmas.{later_same}
@@ -142,29 +142,21 @@ told_refused false w = refl
 pub touched : {D C : Type 0} (view : D → DeviceView) (sum : List ℕ → ℕ) (p : Phase D C) (c d : Command) (next : Phase D C) (r : Reply) → d ≡ c → TouchesIn view sum p c next r → TouchesIn view sum p d next r
 touched view sum p c d next r is in_phase = subst (λ (x : Command). TouchesIn view sum p x next r) (sym is) in_phase
 
--- a command that the log of a session is asked for
-abbrev pub goes_on : Command → Bool
-goes_on command.Open = false
-goes_on (command.Crash choice) = false
-goes_on (command.Stop n) = false
-goes_on command.Halt = false
-goes_on c = true
-
-touched_later : (sum : List ℕ → ℕ) (size : ℕ) (c : Command) (r : Reply) (old new : DeviceView) → goes_on c ≡ true → IsLater old.trace new.trace → Touches sum size true c r old new
+touched_later : (sum : List ℕ → ℕ) (size : ℕ) (c : Command) (r : Reply) (old new : DeviceView) → calls_log c ≡ true → IsLater old.trace new.trace → Touches sum size true c r old new
 touched_later sum size command.Open r old new is later = cc
 touched_later sum size (command.Crash choice) r old new is later = cc
 touched_later sum size (command.Stop n) r old new is later = cc
 touched_later sum size command.Halt r old new is later = cc
 touched_later sum size c r old new is later = later
 
-still_open : (c : Command) (r : Reply) → goes_on c ≡ true → true ≡ opens_after true c r
+still_open : (c : Command) (r : Reply) → calls_log c ≡ true → true ≡ opens_after true c r
 still_open command.Open r is = cc
 still_open (command.Crash choice) r is = cc
 still_open command.Halt r is = cc
 still_open c r is = refl
 
 -- The calls of a log are added to what was asked of its device.
-pub went_on : {D C : Type 0} (view : D → DeviceView) (sum : List ℕ → ℕ) (old new : Opened D C) (c : Command) (r : Reply) → goes_on c ≡ true
+pub went_on : {D C : Type 0} (view : D → DeviceView) (sum : List ℕ → ℕ) (old new : Opened D C) (c : Command) (r : Reply) → calls_log c ≡ true
     → RunsOn (traces view) (config_of old.log) (config_of new.log) → TouchesIn view sum (phase.Open old) c (phase.Open new) r
 went_on view sum old new c r is on = record {
   touches = touched_later sum (size_of (phase.Open old)) c r (device_in view (phase.Open old)) (device_in view (phase.Open new)) is on.later;

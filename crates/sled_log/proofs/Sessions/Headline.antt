@@ -12,16 +12,16 @@ use Rattle.sled_codec.specs.declared.result.Error.TheVariants as error
 use Rattle.sled_codec.specs.declared.serialization.message.LogKind.{LogKind}
 use Rattle.sled_codec.specs.declared.serialization.message.LogKind.TheVariants as does
 use Rattle.sled_codec.specs.Spelling.{short_bytes}
-use Rattle.sled_codec.specs.History.{Batched, Completed, History, HistoryEvent, Message, Step}
+use Rattle.sled_codec.specs.History.{Batch, Batched, Completed, History, HistoryEvent, Message, Step}
 use Rattle.sled_store.specs.declared.device.choice.Choice.{Choice}
 use Rattle.sled_store.specs.Device.{state_of}
-use Rattle.sled_core.specs.Account.{account_behind}
 use Rattle.sled_core.specs.Fits.{reserved_end}
+use Rattle.sled_core.specs.Ledger.{ledger_behind}
 use Rattle.sled_core.specs.Manifests.{manifest_page}
 use Rattle.sled_core.specs.Positions.{Position}
 use Rattle.sled_core.specs.Recoverable.{ReadsOnlyOwn}
 use Rattle.sled_core.specs.Running.{end_below}
-use Rattle.sled_core.specs.Waiting.{BufferAt, one_around}
+use Rattle.sled_core.specs.Waiting.{BufferAt, front_below, one_around}
 use Rattle.sled_core.proofs.PublicLaws.{message_acknowledged}
 use Rattle.sled_log.specs.declared.session.Session.{Session}
 use Rattle.sled_log.specs.declared.session.Phase.{Phase}
@@ -35,8 +35,10 @@ use Rattle.sled_log.specs.Headline.{Acknowledges, Comes, Moves, Recovers, Reserv
 use Rattle.sled_log.specs.OpenSteps.{HasOpened, IsStartCause, OpenStep, log_opened}
 use Rattle.sled_log.specs.ReadSteps.{FailsAt, ReadStep, ReadsAll, read_around, read_at}
 use Rattle.sled_log.specs.Refusals.{reason_of}
-use Rattle.sled_log.specs.RunStates.{DeviceView, HasAll, LogView, RunState, body_in, length_of, made_ready, message_at, opens, page_now, places_without, rewriting_at, sealed_around, spans_without, start_around, start_below, target_in, tickets_in, tickets_of, with_log, stable_of}
-use Rattle.sled_log.specs.Runs.{CrashStep, HaltStep, IsOwn, IsStep, Runs, StepBy, StopStep, told}
+use Rattle.sled_log.specs.RunStates.{DeviceView, DueMark, HasAll, LogView, RunState, body_in, closed, length_of, made_ready, message_at, opens, page_now, places_without, rewriting_at, sealed_around, spans_without, start_around, start_below, target_in, tickets_in, tickets_of, with_log, stable_of}
+use Rattle.sled_log.specs.Runs.{CrashStep, HaltStep, IsOwn, IsStep, Postpones, Runs, StepBy, StepFrom, StopStep, calls_log, told}
+use Rattle.sled_log.specs.RunSlots.{ledger_around, ledger_below, position_around, position_below}
+use Rattle.sled_log.specs.SessionMarks.{mark_for, marking, marking_in, with_mark, without_pin}
 use Rattle.sled_log.specs.RunPhases.{IsAt, SomeStands, StandsAt, StandsAtPhase, Unstored, seen, stands, traces}
 use Rattle.sled_log.specs.WriteSteps.{FailsTo, FlushStep, HasWrittenTo, KeepsFailing, StableStep, WriteStep, view_flushed, left_from, stable_from, target_by}
 use Rattle.sled_log.specs.TicketSteps.{AbortStep, CompleteStep, EndStep, HasReserved, RefusedStep, ReserveStep, RewriteStep, batch_of, blank_manifest, giving_up, keeping, noting, spent}
@@ -76,10 +78,10 @@ module _ {D C : Type 0} (view : D → DeviceView) (sum : List ℕ → ℕ) where
 abbrev pub Led : RunState → DeviceView → RunState → Type 0
 Led a new b = (b ≡ a) ⊎ (b.device ≡ new)
 
-module _ (sum : List ℕ → ℕ) (size : ℕ) (device : DeviceView) (H : History) (A f : ℕ) where
+module _ (sum : List ℕ → ℕ) (size : ℕ) (device : DeviceView) (H : History) (A f : ℕ) (due : Option DueMark) where
   -- the run with a log, or with none
   abbrev at_log : Option LogView → RunState
-  at_log log = record { device = device; history = H; acknowledged = A; floor = f; log = log }
+  at_log log = record { device = device; history = H; acknowledged = A; floor = f; log = log; due = due }
 
   -- Nothing changed.
   same : (log : Option LogView) (new : DeviceView) (b : RunState) → b ≡ at_log log → Stays (at_log log) b × Led (at_log log) new b
@@ -91,9 +93,13 @@ module _ (sum : List ℕ → ℕ) (size : ℕ) (device : DeviceView) (H : Histor
       → Stays (at_log log) b × Led (at_log log) new b
   keeps log after new b is tickets = (subst (Stays (at_log log)) (sym is) (tickets, refl), inr (ap (λ (x : RunState). x.device) is))
 
+  -- It is closed.
+  closes : (log : Option LogView) (new : DeviceView) (b : RunState) → b ≡ closed (at_log log) new → Stays (at_log log) b × Led (at_log log) new b
+  closes log new b is = (subst (Stays (at_log log)) (sym is) (inr (inl refl), refl), inr (ap (λ (x : RunState). x.device) is))
+
   crash : (log : Option LogView) (choice : Choice) (r : Reply) (new : DeviceView) (b : RunState) → CrashStep (at_log log) choice r new b
       → Stays (at_log log) b × Led (at_log log) new b
-  crash log choice (reply.Crashed taken) new b step = keeps log None new b step.1 (inr (inl refl))
+  crash log choice (reply.Crashed taken) new b step = closes log new b step.1
   crash log choice (reply.Failed error.OutOfMemory) new b step = same log new b step.1
   crash log choice _ new b step = absurd step.0
 
@@ -103,7 +109,7 @@ module _ (sum : List ℕ → ℕ) (size : ℕ) (device : DeviceView) (H : Histor
   stop log n _ new b step = absurd step
 
   halt : (log : Option LogView) (r : Reply) (new : DeviceView) (b : RunState) → HaltStep (at_log log) r new b → Stays (at_log log) b × Led (at_log log) new b
-  halt log reply.Halted new b step = keeps log None new b step.1 (inr (inl refl))
+  halt log reply.Halted new b step = closes log new b step.1
   halt log _ new b step = absurd step
 
   -- An opening of a device on which only what the log itself wrote passes as its own.
@@ -131,7 +137,7 @@ module _ (sum : List ℕ → ℕ) (size : ℕ) (device : DeviceView) (H : Histor
         let now : b.device ≡ new = ap (λ (x : RunState). x.device) not.leads in (
           (
             subst (λ (d : DeviceView). IsStartCause e device.failures d.failures) (sym now) (start_cause_of e device.failures new.failures (not.cause own)),
-            inl (keeps None None new b not.leads (inl refl)).0,
+            inl (closes None new b not.leads).0,
           ),
           now,
         )
@@ -181,7 +187,7 @@ module _ (sum : List ℕ → ℕ) (size : ℕ) (device : DeviceView) (H : Histor
         sym has.answer.1,
         has.number,
         ap tickets_of has.leads,
-        subst (λ (x : RunState). x ≡ record a { device = x.device; log = x.log }) (sym has.leads) refl,
+        subst (λ (x : RunState). x ≡ record a { device = x.device; log = x.log; due = x.due }) (sym has.leads) refl,
       ),
       inr (ap (λ (x : RunState). x.device) has.leads),
     )
@@ -205,34 +211,36 @@ module _ (sum : List ℕ → ℕ) (size : ℕ) (device : DeviceView) (H : Histor
 
     -- Tickets are spent.
 
-    comes : (t : ℕ) (m : Message) (event : HistoryEvent) (H' : History) (log : LogView) (new : DeviceView) (b : RunState)
+    comes : (t : ℕ) (m : Message) (event : HistoryEvent) (H' : History) (log : LogView) (then : Option DueMark) (new : DeviceView) (b : RunState)
         → slice_get l.tickets t ≡ Some (Some m) → Step H event H' → log.tickets ≡ set l.tickets t None
-        → b ≡ record a { device = new; history = H'; log = Some log } → Comes a t m event b × Led a new b
-    comes t m event H' log new b there step spends leads = (
+        → b ≡ record a { device = new; history = H'; log = Some log; due = then } → Comes a t m event b × Led a new b
+    comes t m event H' log then new b there step spends leads = (
       (
         there,
         subst (λ (x : RunState). Step H event x.history) (sym leads) step,
         ap tickets_of leads ∙ spends,
-        subst (λ (x : RunState). x ≡ record a { device = x.device; history = x.history; log = x.log }) (sym leads) refl,
+        subst (λ (x : RunState). x ≡ record a { device = x.device; history = x.history; log = x.log; due = x.due }) (sym leads) refl,
       ),
       inr (ap (λ (x : RunState). x.device) leads),
     )
 
-    complete : (t : ℕ) (r : Reply) (new : DeviceView) (b : RunState) → CompleteStep a l t r new b → Moves sum size a (command.Complete t) r b × Led a new b
+    complete : (t : ℕ) (r : Reply) (new : DeviceView) (b : RunState) → CompleteStep size a l t r new b → Moves sum size a (command.Complete t) r b × Led a new b
     complete t (reply.Done place pointer) new b has =
-        let came =
-        comes t has.message (Completed has.message) has.history
-        (spent l t (places_without has.message.place (opens l)) (if has.message.page == l.begun then l.begun + 1 else l.begun)) new b has.reserved has.step refl
-        has.leads in
+        let spends : has.log.tickets ≡ set l.tickets t None = ap (λ (x : LogView). x.tickets) has.is in
+        let mark : DueMark = mark_for size f H has.message in
+        let came = elim has.leads [
+          | inl now ↦ comes t has.message (Completed has.message) has.history (marking size mark has.log) due new b has.reserved has.step spends now
+          | inr late ↦ comes t has.message (Completed has.message) has.history has.log (Some mark) new b has.reserved has.step spends late
+        ] in
         ((has.message, came.0), came.1)
-    complete t (reply.Failed (error.Io e)) new b step = keeps (Some l) (Some (spent l t (opens l) l.begun)) new b step.1 (inr (inr (t, refl)))
+    complete t (reply.Failed (error.Io e)) new b step = keeps (Some l) (Some (without_pin (spent l t (opens l) l.begun))) new b step.1 (inr (inr (t, refl)))
     complete t (reply.Failed error.OutOfMemory) new b step = same (Some l) new b step.1
     complete t _ new b step = absurd step
 
     abort : (t : ℕ) (r : Reply) (new : DeviceView) (b : RunState) → AbortStep a l t r new b → Moves sum size a (command.Abort t) r b × Led a new b
     abort t (reply.Done place pointer) new b has =
-        keeps (Some l) (Some (giving_up has.message (spent l t (places_without has.message.place (opens l)) l.begun))) new b has.leads (inr (inr (t, refl)))
-    abort t (reply.Failed (error.Io e)) new b fails = keeps (Some l) (Some (keeping e (spent l t (opens l) l.begun))) new b fails.leads (inr (inr (t, refl)))
+        keeps (Some l) (Some (giving_up has.message (without_pin (spent l t (places_without has.message.place (opens l)) l.begun)))) new b has.leads (inr (inr (t, refl)))
+    abort t (reply.Failed (error.Io e)) new b fails = keeps (Some l) (Some (keeping e (without_pin (spent l t (opens l) l.begun)))) new b fails.leads (inr (inr (t, refl)))
     abort t _ new b step = absurd step
 
     end : EndsIn H l → (r : Reply) (new : DeviceView) (b : RunState) → EndStep a l r new b → Moves sum size a command.EndBatch r b × Led a new b
@@ -240,7 +248,7 @@ module _ (sum : List ℕ → ℕ) (size : ℕ) (device : DeviceView) (H : Histor
         let t : ℕ = has.begun.ticket in
         let m : Message = has.begun.message in
         let came =
-        comes t m (Batched (batch_of l m)) has.history (noting (batch_of l m) (spent l t (places_without m.place (opens l)) l.begun)) new b has.begun.reserved
+        comes t m (Batched (batch_of l m)) has.history (noting (batch_of l m) (without_pin (spent l t (places_without m.place (opens l)) l.begun))) due new b has.begun.reserved
         has.step refl has.leads in
         let all : HasAll a (batch_of l m) = record {
           completed = λ x there. (let le = ends.completed x there in omega (arith, le));
@@ -248,7 +256,7 @@ module _ (sum : List ℕ → ℕ) (size : ℕ) (device : DeviceView) (H : Histor
         } in
         ((t, m, batch_of l m, has.begun.manifest, sym has.answer.0, refl, all, came.0), came.1)
     end ends (reply.Failed (error.Io e)) new b step =
-        keeps (Some l) (Some (spent l step.1.0.ticket (opens l) l.begun)) new b step.1.1 (inr (inr (step.1.0.ticket, refl)))
+        keeps (Some l) (Some (without_pin (spent l step.1.0.ticket (opens l) l.begun))) new b step.1.1 (inr (inr (step.1.0.ticket, refl)))
     end ends _ new b step = absurd step
 
     -- Writing.
@@ -259,7 +267,7 @@ module _ (sum : List ℕ → ℕ) (size : ℕ) (device : DeviceView) (H : Histor
     written Meant to n new b low has =
         let end : ℕ = end_below (stable_from to l) H in
         let here : Acknowledges a Meant
-        (record a { device = new; acknowledged = max A end; log = Some (view_flushed l (left_from to l) (start_below to l) None (account_behind has.writes.buffers l.account)) }) = (
+        (record a { device = new; acknowledged = max A end; log = Some (view_flushed l (left_from to l) (start_below to l) None (ledger_behind size (front_below to has.writes.buffers) (ledger_below to l)) (position_below size to l)) }) = (
           omega arith,
           λ m there meant. (let le = message_acknowledged (stable_from to l) H m there (low m there meant) in omega (arith, le)),
           refl,
@@ -270,7 +278,8 @@ module _ (sum : List ℕ → ℕ) (size : ℕ) (device : DeviceView) (H : Histor
     fails_to : (to : ℕ) (e : Error) (new : DeviceView) (b : RunState) → FailsTo sum size a l to e new b → Stays a b × Led a new b
     fails_to to e new b step = elim step.came.2 [
       | inl sealed ↦ keeps (Some l) _ new b sealed.0 (inl refl)
-      | inr none ↦ keeps (Some l) _ new b none.3 (inl refl)
+      | inr (inl failed) ↦ keeps (Some l) _ new b failed.5 (inl refl)
+      | inr (inr none) ↦ keeps (Some l) _ new b none.3 (inl refl)
     ]
 
     flush : EndsIn H l → (r : Reply) (new : DeviceView) (b : RunState) → FlushStep sum size a l r new b → Moves sum size a command.Flush r b × Led a new b
@@ -299,26 +308,30 @@ module _ (sum : List ℕ → ℕ) (size : ℕ) (device : DeviceView) (H : Histor
     write : (i : ℕ) (r : Reply) (new : DeviceView) (b : RunState) → WriteStep sum size a l i r new b → Stays a b × Led a new b
     write i reply.Written new b step = keeps (Some l) _ new b step.3 (inl refl)
     write i (reply.Failed e) new b (inl kept) = keeping_on e new b kept
-    write i (reply.Failed e) new b (inr fails) = keeps (Some l) _ new b fails.came.1 (inl refl)
+    write i (reply.Failed e) new b (inr fails) = elim fails.came [
+      | inl unwritten ↦ keeps (Some l) _ new b unwritten.1 (inl refl)
+      | inr failed ↦ keeps (Some l) _ new b failed.5 (inl refl)
+    ]
     write i _ new b step = absurd step
 
     -- Reading.
 
-    around : (o : LogView) (at : ℕ) (bs : List BufferAt) → (read_around o at bs).tickets ≡ o.tickets
-    around o at bs = by (nat_lt at o.synced) where
-      by : (x : Bool) → (if x then o else view_flushed o (spans_without at (sealed_around at o)) (start_around at o) o.fault (account_behind (one_around at bs) o.account)).tickets ≡ o.tickets
-      by true = refl
-      by false = refl
+    around : (o : LogView) (at : ℕ) (bs : List BufferAt) → (read_around size o at bs).tickets ≡ o.tickets
+    around o at bs = by (nat_lt at o.synced) (view_flushed o (spans_without at (sealed_around at o)) (start_around at o) o.fault (ledger_behind size (one_around at bs) (ledger_around at o)) (position_around size at o)) refl where
+      by : (x : Bool) (v : LogView) → v.tickets ≡ o.tickets → (if x then o else v).tickets ≡ o.tickets
+      by true v is = refl
+      by false v is = is
 
     reads : (o : LogView) (ms : List Message) (old new : DeviceView) (end : LogView) → ReadsAll sum size o ms old new end → end.tickets ≡ o.tickets
     reads o [] old new end all = ap (λ (x : LogView). x.tickets) all.2
-    reads o (m ∷ ms) old new end all = reads (read_around o (read_at m) all.1.writes.buffers) ms all.0 new end all.2 ∙ around o (read_at m) all.1.writes.buffers
+    reads o (m ∷ ms) old new end all = reads (read_around size o (read_at m) all.1.writes.buffers) ms all.0 new end all.2 ∙ around o (read_at m) all.1.writes.buffers
 
     fails_at : (o : LogView) → o.tickets ≡ l.tickets → (at : ℕ) (e : Error) (old new : DeviceView) (b : RunState) → FailsAt sum size a o at e old new b
         → Stays a b × Led a new b
     fails_at o is at e old new b step = elim step.came [
       | inl some ↦ elim some.1 [ inl none ↦ keeps (Some l) _ new b none.1 (inl is) | inr sealed ↦ keeps (Some l) _ new b sealed (inl is) ]
-      | inr written ↦ keeps (Some l) _ new b written.2 (inl is)
+      | inr (inl written) ↦ keeps (Some l) _ new b written.2 (inl is)
+      | inr (inr failed) ↦ keeps (Some l) _ new b failed.6 (inl is)
     ]
 
     read : (ms : List Message) (r : Reply) (new : DeviceView) (b : RunState) → ReadStep sum size a l ms r new b → Stays a b × Led a new b
@@ -370,6 +383,63 @@ module _ (sum : List ℕ → ℕ) (size : ℕ) (device : DeviceView) (H : Histor
   )
   stop_told log _ e new b own step is moves = moves
 
+-- A mark that is made moves nothing that is told of a run.
+
+known_marked : (size : ℕ) (d : DueMark) (H : History) (log : Option LogView) → ((l : LogView) → log ≡ Some l → EndsIn H l) → (l : LogView) → marking_in size d log ≡ Some l → EndsIn H l
+known_marked size d H None ends l is = cc
+known_marked size d H (Some o) ends l is =
+    let was : EndsIn H o = ends o refl in
+    subst (EndsIn H) (same_Some (marking size d o) l is) (record { completed = was.completed; reserved = was.reserved; sized = was.sized })
+
+module _ (sum : List ℕ → ℕ) (size : ℕ) (d : DueMark) (device : DeviceView) (H : History) (A f : ℕ) (due : Option DueMark) (q : RunState) where
+  -- where the run stood before it, and behind it
+  abbrev was : Option LogView → RunState
+  was log = record { device = device; history = H; acknowledged = A; floor = f; log = log; due = due }
+
+  abbrev marked : Option LogView → RunState
+  marked log = record { device = device; history = H; acknowledged = A; floor = f; log = marking_in size d log; due = None }
+
+  stays_before : (log : Option LogView) → Stays (marked log) q → Stays (was log) q
+  stays_before None stays = stays
+  stays_before (Some l) stays = stays
+
+  reserves_before : (log : Option LogView) (kind : LogKind) (page : ℕ) (bytes : List ℕ) (r : Reply) → Reserves (marked log) kind page bytes r q → Reserves (was log) kind page bytes r q
+  reserves_before None kind page bytes (reply.Reserved n place pointer) reserves = reserves
+  reserves_before (Some l) kind page bytes (reply.Reserved n place pointer) reserves = reserves
+  reserves_before log kind page bytes _ stays = stays_before log stays
+
+  comes_before : (log : Option LogView) (t : ℕ) (m : Message) (event : HistoryEvent) → Comes (marked log) t m event q → Comes (was log) t m event q
+  comes_before None t m event comes = comes
+  comes_before (Some l) t m event comes = comes
+
+  all_before : (log : Option LogView) (b : Batch) → HasAll (marked log) b → HasAll (was log) b
+  all_before None b all = record { completed = all.completed; reserved = all.reserved }
+  all_before (Some l) b all = record { completed = all.completed; reserved = all.reserved }
+
+  acknowledges_before : (log : Option LogView) (Meant : Message → Type 0) → Acknowledges (marked log) Meant q → Acknowledges (was log) Meant q
+  acknowledges_before None Meant acknowledges = acknowledges
+  acknowledges_before (Some l) Meant acknowledges = acknowledges
+
+  before_mark : (log : Option LogView) (c : Command) (r : Reply) → calls_log c ≡ true → Moves sum size (marked log) c r q → Moves sum size (was log) c r q
+  before_mark log (command.Replace page item) r calls moves = reserves_before log does.Replace page (short_bytes item.items) r moves
+  before_mark log (command.Link page item) r calls moves = reserves_before log does.Link page (short_bytes item.items) r moves
+  before_mark log (command.Free page) r calls moves = reserves_before log does.Free page [] r moves
+  before_mark log command.BeginBatch r calls moves = reserves_before log does.Skip manifest_page blank_manifest r moves
+  before_mark log (command.Rewrite page) (reply.Reserved n place pointer) calls moves =
+      (moves.0, moves.1, reserves_before log does.Replace page moves.0.bytes (reply.Reserved n place pointer) moves.2)
+  before_mark log (command.Rewrite page) _ calls moves = stays_before log moves
+  before_mark log command.EndBatch (reply.Done z pointer) calls moves =
+      (moves.0, moves.1, moves.2, moves.3, moves.4, moves.5, all_before log moves.2 moves.6, comes_before log moves.0 moves.1 (Batched moves.2) moves.7)
+  before_mark log command.EndBatch _ calls moves = stays_before log moves
+  before_mark log (command.Complete t) (reply.Done place pointer) calls moves = (moves.0, comes_before log t moves.0 (Completed moves.0) moves.1)
+  before_mark log (command.Complete t) _ calls moves = stays_before log moves
+  before_mark log command.Flush (reply.Flushed n) calls moves = acknowledges_before log (λ m. Unit {0}) moves
+  before_mark log command.Flush _ calls moves = stays_before log moves
+  before_mark log (command.Stable z) (reply.Flushed n) calls moves = acknowledges_before log (λ m. pos m.place ≤ℤ z) moves
+  before_mark log (command.Stable z) _ calls moves = stays_before log moves
+  before_mark log command.Open r calls moves = cc
+  before_mark log c r calls moves = stays_before log moves
+
 -- What holds of a reply holds of how it is told, where it holds of a stop that a failure is told as.
 tells : (M : Reply → Type 0) (b : Bool) (r : Reply) → M r → ((e : IoError) → r ≡ reply.Failed (error.Io e) → b ≡ true → M reply.Stopped) → M (told b r)
 tells M true (reply.Failed (error.Io e)) holds stops = stops e refl refl
@@ -383,19 +453,45 @@ module _ (sum : List ℕ → ℕ) (size : ℕ) where
   refused_moves p q command.EndBatch w stays = stays
   refused_moves p q _ w stays = stays
 
-  answered : (a : RunState) (c : Command) (came : Reply) (new : DeviceView) (b : RunState) → Known a → IsOwn sum size (state_of a.device.trace) c came
-      → IsStep sum size a c came new b
-      → Moves sum size a c (told new.is_stopped came) b × Led a new b
-  answered a c (reply.Refused w) new b ends own is =
-      let kept = same sum size a.device a.history a.acknowledged a.floor a.log new b is.1 in
-      (tells (λ r. Moves sum size a c r b) new.is_stopped (reply.Refused w) (refused_moves a b c w kept.0) (λ e no. cc), kept.1)
-  answered a c came new b ends own step =
-      let moves = by_log sum size a.device a.history a.acknowledged a.floor a.log c came new b ends own step in
+  -- What a command comes to with no mark made first,
+  told_by : (a : RunState) (c : Command) (came : Reply) (new : DeviceView) (b : RunState) → Known a → IsOwn sum size (state_of a.device.trace) c came
+      → StepBy sum size a a.log c came new b → Moves sum size a c (told new.is_stopped came) b
+  told_by a c came new b ends own step =
+      let moves = by_log sum size a.device a.history a.acknowledged a.floor a.due a.log c came new b ends own step in
       let stops = λ (e : IoError) (is : came ≡ reply.Failed (error.Io e)) (stopped : new.is_stopped ≡ true).
-      stop_told sum size a.device a.history a.acknowledged a.floor a.log c e new b (subst (IsOwn sum size (state_of a.device.trace) c) is own)
+      stop_told sum size a.device a.history a.acknowledged a.floor a.due a.log c e new b (subst (IsOwn sum size (state_of a.device.trace) c) is own)
       (subst (λ (r : Reply). StepBy sum size a a.log c r new b) is step) stopped
       (subst (λ (r : Reply). Moves sum size a c r b) is moves.0) in
-      (tells (λ r. Moves sum size a c r b) new.is_stopped came moves.0 stops, moves.1)
+      tells (λ r. Moves sum size a c r b) new.is_stopped came moves.0 stops
+
+  -- where it is postponed with the mark that is due,
+  stays_late : (p q : RunState) (c : Command) → calls_log c ≡ true → Stays p q → Moves sum size p c (reply.Failed error.OutOfMemory) q
+  stays_late p q command.Open calls stays = cc
+  stays_late p q command.EndBatch calls stays = stays
+  stays_late p q c calls stays = stays
+
+  late : (a : RunState) (c : Command) (came : Reply) (new : DeviceView) (b : RunState) → calls_log c ≡ true → Postpones a came new b → Moves sum size a c (told new.is_stopped came) b
+  late a c (reply.Failed error.OutOfMemory) new b calls postpones =
+      tells (λ r. Moves sum size a c r b) new.is_stopped (reply.Failed error.OutOfMemory)
+      (stays_late a b c calls (same sum size a.device a.history a.acknowledged a.floor a.due a.log new b postpones.1).0) (λ e no. cc)
+  late a c _ new b calls postpones = absurd postpones
+
+  -- and with that made first.
+  from_due : (a : RunState) (c : Command) (came : Reply) (new : DeviceView) (b : RunState) → Known a → IsOwn sum size (state_of a.device.trace) c came
+      → (calls : Bool) → (calls ≡ true → calls_log c ≡ true) → (due : Option DueMark) → StepFrom sum size a calls due c came new b → Moves sum size a c (told new.is_stopped came) b
+  from_due a c came new b ends own true calls (Some d) (inl postpones) = late a c came new b (calls refl) postpones
+  from_due a c came new b ends own true calls (Some d) (inr step) =
+      before_mark sum size d a.device a.history a.acknowledged a.floor a.due b a.log c (told new.is_stopped came) (calls refl)
+      (told_by (with_mark size a d) c came new b (known_marked size d a.history a.log ends) own step)
+  from_due a c came new b ends own true calls None step = told_by a c came new b ends own step
+  from_due a c came new b ends own false calls due step = told_by a c came new b ends own step
+
+  answered : (a : RunState) (c : Command) (came : Reply) (new : DeviceView) (b : RunState) → Known a → IsOwn sum size (state_of a.device.trace) c came
+      → IsStep sum size a c came new b → Moves sum size a c (told new.is_stopped came) b
+  answered a c (reply.Refused w) new b ends own is =
+      let kept = same sum size a.device a.history a.acknowledged a.floor a.due a.log new b is.1 in
+      tells (λ r. Moves sum size a c r b) new.is_stopped (reply.Refused w) (refused_moves a b c w kept.0) (λ e no. cc)
+  answered a c came new b ends own step = from_due a c came new b ends own (calls_log c) (λ yes. yes) a.due step
 
   -- So a run comes to what the headline says.
   pub recovers : {D C : Type 0} (view : D → DeviceView) (Leads : RunState → Type 0) → (a : RunState) (cs : List Command) (rs : List Reply)
@@ -419,7 +515,7 @@ module _ (sum : List ℕ → ℕ) (size : ℕ) where
         leads = λ own.
             let leads = runs.leads own in
             let moves = answered a c runs.came runs.new b (known view sum at.0 a at.2) own runs.step in
-            (leads.0, subst (λ (x : Reply). Moves sum size a c x b) (sym runs.is_told) moves.0, recovers view Leads b cs rs leads.0 leads.1);
+            (leads.0, subst (λ (x : Reply). Moves sum size a c x b) (sym runs.is_told) moves, recovers view Leads b cs rs leads.0 leads.1);
       }
   recovers view Leads a [] (r ∷ rs) at runs = absurd runs
   recovers view Leads a (c ∷ cs) [] at runs = absurd runs

@@ -11,15 +11,18 @@ use Rattle.sled_codec.specs.History.{Batch, ChangesPage, History, Message}
 use Rattle.sled_codec.specs.PageTables.{IsTable, entry_of, page_with}
 use Rattle.sled_codec.specs.Snapshots.{Free, Page, Present, Uninitialized, page_of}
 use Rattle.sled_store.specs.Device.{Trace}
+use Rattle.sled_store.specs.SegmentStates.{Machine}
 use Rattle.sled_store.proofs.Histories.TableParts.{from_page}
-use Rattle.sled_log.proofs.Sessions.BegunHeads.{heads_kept, only_begun}
-use Rattle.sled_core.specs.Account.{Account}
+use Rattle.sled_log.proofs.Sessions.BegunHeads.{HasOnlyBegun, heads_kept}
+use Rattle.sled_log.proofs.Sessions.PinsTaken.{origin_kept, pinned_log, some_out, unmarked_none}
 use Rattle.sled_core.specs.declared.logger.Log.{Log}
+use Rattle.sled_core.specs.declared.reservation.Guard.{Guard}
 use Rattle.sled_core.specs.declared.reservation.Reservation.{Reservation}
 use Rattle.sled_core.specs.Buffers.{most_open}
-use Rattle.sled_core.specs.Fits.{Awaits, FitsInline, IsUsedUpFor, fault_of, next_place, open_for, open_places, reserved_end, segment_size_of, size_for, target_of, start_of}
+use Rattle.sled_core.specs.Fits.{Awaits, FitsInline, IsUsedUpFor, fault_of, is_moved, machine_at, next_place, open_for, open_places, pins_of, reserved_end, segment_size_of, size_for, target_of, start_of}
 use Rattle.sled_core.specs.Keeps.{KeepsSeen, Preserves}
 use Rattle.sled_core.specs.Manifests.{manifest_page}
+use Rattle.sled_core.specs.Marked.{BeginsMarked}
 use Rattle.sled_core.specs.Positions.{Position, behind_record}
 use Rattle.sled_core.specs.Reading.{IsInline}
 use Rattle.sled_core.specs.Reserves.{StandsBehind}
@@ -34,12 +37,12 @@ use Rattle.sled_log.specs.declared.session.command.Reply.{Reply}
 use Rattle.sled_log.specs.declared.session.Phase.TheVariants as phase
 use Rattle.sled_log.specs.Made.{HasReplaceBelow, JoinsWithBlob, MayJoin}
 use Rattle.sled_log.specs.Reservations.{HoldsTicket, MayReserve}
-use Rattle.sled_log.specs.RunPhases.{AreRising, BeginsBatch, HasBatch, HasTickets, IsOpenAt, IsTicketFor, Unstored, device_in, seen, stands, traces}
+use Rattle.sled_log.specs.RunPhases.{AreRising, BeginsBatch, HasBatch, HasTickets, IsOpenAt, IsTicketFor, Unstored, device_in, seen, shown_due, stands, traces}
 use Rattle.sled_log.specs.RunStates.{DeviceView, has_page, is_present, open_messages, page_now, target_in, top, MarkAt, heads_at}
 use Rattle.sled_log.specs.TicketSteps.{HasReserved, own_of}
 use Rattle.sled_log.proofs.Sessions.SafeItems.{safe_on}
 use Rattle.sled_log.proofs.Sessions.TicketsSeen.{page_has}
-use Rattle.sled_log.proofs.Sessions.ReservedPlaces.{beside_count, in_reach, reserved_below, start_with_seen, waiting_seen}
+use Rattle.sled_log.proofs.Sessions.ReservedPlaces.{beside_count, in_reach, machine_seen, reserved_below, start_with_seen, waiting_seen}
 use Rattle.sled_log.proofs.Sessions.MoreTickets.{batch_push, busy_set, open_all, open_push, page_push, push_cases, rising_push}
 
 -- Pages.
@@ -61,21 +64,37 @@ replace_below H pages page place table less below =
     let found = from_page H.messages top page has.message has.there in
     record { message = has.message; there = found.0; of = found.1; replaces = has.replaces; below = All-contains (λ m. m.place < place) H.messages has.message below found.0 }
 
--- A log kept a place for a message whose record has a body of n bytes, and kept no failure.
+-- the slots behind a reservation: where its record needs a further segment, that has its own
+abbrev pub slots_behind : {D C : Type 0} → Log D C → ℕ → ℕ → Machine
+slots_behind log page n = if is_moved log page n then (target_of log page n).machine else machine_at log
+
+-- A log kept a place for a message whose record has a body of n bytes, with a pin that was taken for it, and kept no failure.
 pub record KeptPlace {D C : Type 0} (trace : D → Trace) (sum : List ℕ → ℕ) (old new : Log D C) (n : ℕ) (m : Message) (reservation : Reservation) : Type 0 where
   pub place : m.place ≡ (target_of old m.page n).place
   pub size : m.size ≡ size_for old m.page n
   pub ticket : Awaits new reservation m
   pub own : own_blob reservation ≡ own_of m
   pub stored : IsStored trace sum new m
-  pub behind : StandsBehind sum old new m.page n
+  pub behind : StandsBehind sum (pinned_log old) new m.page n
+  pub machine : machine_at new ≡ slots_behind old m.page n
   pub others : (ticket : Reservation) (x : Message) → Awaits old ticket x → Awaits new ticket x
   pub fault : fault_of old ≡ None
   pub sound : fault_of new ≡ None
   pub free : IsUsedUpFor old m.page n → ⊥
   pub few : open_for old m.page n < most_open
   pub keeps : Preserves trace sum old new
-  pub seen : KeepsSeen old new
+  pub seen : KeepsSeen (pinned_log old) new
+
+-- A session is another one but for its log, its tickets, and what is noted of them; and no mark was due.
+pub record IsSameBut {D C : Type 0} (old new : Opened D C) : Type 0 where
+  pub pages : new.pages ≡ old.pages
+  pub origin : new.origin ≡ old.origin
+  pub due : new.due ≡ old.due
+  pub none : old.due ≡ None
+
+-- A log has only what was begun, however many pins are out.
+pub begun_pinned : {D C : Type 0} (sum : List ℕ → ℕ) (old new : Log D C) → BeginsMarked sum (pinned_log old) new → HasOnlyBegun sum old new
+begun_pinned sum old new marked = record { marked = marked.heads; filled = marked.fillings }
 
 -- with one more ticket, for this message, and with these buffers begun
 abbrev pub with_ticket : Unstored → Message → List MarkAt → Unstored
@@ -92,8 +111,8 @@ put_behind trace sum opened k at page n inline =
 
 -- The session with a ticket for it.
 module _ {D C : Type 0} (view : D → DeviceView) (sum : List ℕ → ℕ) (old new : Opened D C) (n : ℕ) (its : Message) (reservation : Reservation)
-    (kept : KeptPlace (traces view) sum old.log new.log n its reservation) (pages : new.pages ≡ old.pages)
-    (tickets : new.tickets.items ≡ old.tickets.items ++ Some (record { kind = its.kind; page = its.page; reservation = reservation }) ∷ [])
+    (guard : Guard) (kept : KeptPlace (traces view) sum old.log new.log n its reservation) (same : IsSameBut old new)
+    (tickets : new.tickets.items ≡ old.tickets.items ++ Some (record { kind = its.kind; page = its.page; reservation = reservation; guard = guard }) ∷ [])
     (k : Unstored) (at : IsOpenAt (traces view) sum old k) (inline : FitsInline (segment_size_of old.log) n) (idle : has_page its.page (open_messages k.tickets) ≡ false) where
   abbrev begun_pages : ℕ
   begun_pages = length old.pages.items
@@ -102,7 +121,7 @@ module _ {D C : Type 0} (view : D → DeviceView) (sum : List ℕ → ℕ) (old 
   more = with_ticket k its (heads_at (seen old k.tickets k.given_up k.heads) (start_of new.log))
 
   abbrev its_ticket : Ticket
-  its_ticket = record { kind = its.kind; page = its.page; reservation = reservation }
+  its_ticket = record { kind = its.kind; page = its.page; reservation = reservation; guard = guard }
 
   -- its place lies behind all that was reserved
   behind : reserved_end old.log ≤ its.place
@@ -201,6 +220,14 @@ module _ {D C : Type 0} (view : D → DeviceView) (sum : List ℕ → ℕ) (old 
     noted p message =
         busy p message ∙ ap (λ (b : Bool). if its.page == p then true else b) (at.tickets.busy p message) ∙ sym (ap (has_page p) (open_push k.tickets its) ∙ page_push p (open_messages k.tickets) its)
 
+    -- a pin is out for it
+    pinned : pins_of new.log ≡ length (open_messages more.tickets) + length at.unmarked
+    pinned =
+        let one = kept.seen.pins in
+        let were = at.pinned in
+        let long = ap length (open_push k.tickets its) ∙ length-append (open_messages k.tickets) (its ∷ []) in
+        omega (arith, one, were, long)
+
     opens_with : open_places new.log ≡ open_places old.log ++ its.place ∷ []
     opens_with = kept.behind.opens ∙ ap (λ p. open_places old.log ++ p ∷ []) (sym kept.place)
 
@@ -222,14 +249,15 @@ module _ {D C : Type 0} (view : D → DeviceView) (sum : List ℕ → ℕ) (old 
         record {
           made = at.made;
           unmarked = at.unmarked;
+          due = unmarked_none old.log new.log k.history old.due new.due same.due same.none at.unmarked at.due;
           fits = kept.keeps.fits k.history k.acknowledged k.floor at.unmarked at.fits;
           zeros = at.zeros;
-          pinned = kept.seen.pins ∙ at.pinned;
-          joined = ap (λ (x : Account). x.mark) kept.seen.account ∙ at.joined;
-          table = subst (λ p. IsTable (map page_of p.items) k.history top) (sym pages) at.table;
+          pinned = pinned;
+          origin = origin_kept old.log new.log k.floor new.origin kept.keeps.goes_on.config (same.origin ∙ at.origin);
+          table = subst (λ p. IsTable (map page_of p.items) k.history top) (sym same.pages) at.table;
           tickets = has_tickets;
           given_up = λ m given. at.given_up m (kept.behind.given_up m given);
-          heads = heads_kept sum old.log new.log begun_pages k.tickets k.given_up k.heads (only_begun sum old.log new.log kept.behind.marked) at.heads;
+          heads = heads_kept sum old.log new.log begun_pages k.tickets k.given_up k.heads (begun_pinned sum old.log new.log kept.behind.marked) at.heads;
           ends = All-weaker (λ m. m.place + m.size ≤ reserved_end old.log) (λ m. m.place + m.size ≤ reserved_end new.log) (λ m low. omega (arith, low, up)) k.history.messages at.ends;
         }
 
@@ -242,6 +270,8 @@ module _ {D C : Type 0} (view : D → DeviceView) (sum : List ℕ → ℕ) (old 
         let waiting = ap spans kept.behind.waiting ∙ waiting_seen old.log begun_pages k.tickets k.given_up k.heads sum its.page n inline in
         let start = kept.behind.start ∙ start_with_seen old.log begun_pages k.tickets k.given_up k.heads sum its.page n inline in
         let fault = kept.sound ∙ sym kept.fault in
+        let machine = kept.machine ∙ machine_seen old.log begun_pages k.tickets k.given_up k.heads sum its.page n inline in
+        let pinned = some_out (pins_of old.log) in
         record {
           fault = kept.fault;
           in_reach = in_reach old.log begun_pages k.tickets k.given_up k.heads sum its.page n inline kept.free;
@@ -260,15 +290,17 @@ module _ {D C : Type 0} (view : D → DeviceView) (sum : List ℕ → ℕ) (old 
               end = ends_with i;
               waiting = waiting i;
               start = start i;
-              begun = length (pages i).items;
+              begun = length (same.pages i).items;
               fault = fault i;
               outstanding = opens_with i;
               tickets = k.tickets ++ Some its ∷ [];
               given_up = k.given_up;
               heads = heads_at (seen old k.tickets k.given_up k.heads) (start i);
               pins = kept.seen.pins i;
-              account = kept.seen.account i;
+              machine = machine i;
+              account = (kept.seen.account ∙ (λ j. record { mark = old.log.marks.joined; durable = old.log.marks.durable; pinned = pinned j })) i;
             });
+            due = shown_due (same.due i);
           };
         }
 
@@ -312,14 +344,18 @@ pub record HasHeld {D C : Type 0} (view : D → DeviceView) (sum : List ℕ → 
 
 -- a session over another log
 abbrev pub over_log : {D C : Type 0} → Opened D C → Log D C → Opened D C
-over_log old log = record { alloc = old.alloc; log = log; guard = old.guard; pages = old.pages; busy = old.busy; batch = old.batch; tickets = old.tickets }
+over_log old log =
+    record { alloc = old.alloc; log = log; origin = old.origin; pages = old.pages; busy = old.busy; batch = old.batch; tickets = old.tickets; due = old.due }
 
 -- With a ticket held in it, a reservation of a log is one of the session.
-module _ {D C : Type 0} (view : D → DeviceView) (sum : List ℕ → ℕ) (old new : Opened D C) (log : Log D C) (n : ℕ) (m : Message) (reservation : Reservation) (result : Reply) (k : Unstored)
-    (kept : KeptPlace (traces view) sum old.log log n m reservation) (holds : HoldsTicket (over_log old log) new m.kind m.page reservation result) (at : IsOpenAt (traces view) sum old k)
+module _ {D C : Type 0} (view : D → DeviceView) (sum : List ℕ → ℕ) (old new : Opened D C) (log : Log D C) (n : ℕ) (m : Message) (reservation : Reservation) (guard : Guard) (result : Reply) (k : Unstored)
+    (kept : KeptPlace (traces view) sum old.log log n m reservation) (holds : HoldsTicket (over_log old log) new m.kind m.page reservation guard result) (none : old.due ≡ None) (at : IsOpenAt (traces view) sum old k)
     (inline : FitsInline (segment_size_of old.log) n) where
   kept_new : KeptPlace (traces view) sum old.log new.log n m reservation
   kept_new = subst (λ x. KeptPlace (traces view) sum old.log x n m reservation) (sym holds.log) kept
+
+  same_but : IsSameBut old new
+  same_but = record { pages = holds.pages; origin = holds.origin; due = holds.due; none = none }
 
   -- a message of a page, whose blob is its own or that of another message, if it has one,
   pub held_message : ChangesPage m.kind → JoinsWithBlob k.history m m.pointer → m.page < length old.busy.items → m.page ≢ manifest_page → MayReserve k.history (seen old k.tickets k.given_up k.heads) m.kind m.page
@@ -332,8 +368,8 @@ module _ {D C : Type 0} (view : D → DeviceView) (sum : List ℕ → ℕ) (old 
       let busy : (p : ℕ) → p ≢ manifest_page → get_or new.busy.items p false ≡ (if m.page == p then true else get_or old.busy.items p false) = λ p ne. busy_set old.busy.items new.busy.items m.page p set_busy small in
       let batch = subst (HasBatch (k.tickets ++ Some m ∷ [])) (sym same_batch) (batch_push k.tickets m old.batch message at.tickets.batch) in
       record {
-        reserved = reserved_step view sum old new n m reservation kept_new holds.pages holds.tickets k at inline may.idle joins (λ is. absurd (message is)) busy batch;
-        at = reserved_at view sum old new n m reservation kept_new holds.pages holds.tickets k at inline may.idle joins (λ is. absurd (message is)) busy batch;
+        reserved = reserved_step view sum old new n m reservation guard kept_new same_but holds.tickets k at inline may.idle joins (λ is. absurd (message is)) busy batch;
+        at = reserved_at view sum old new n m reservation guard kept_new same_but holds.tickets k at inline may.idle joins (λ is. absurd (message is)) busy batch;
       }
 
   -- or the manifest of a batch
@@ -354,6 +390,6 @@ module _ {D C : Type 0} (view : D → DeviceView) (sum : List ℕ → ℕ) (old 
       ∙ sym (ap (λ (b : Bool). if b then true else get_or old.busy.items p false) (ne_eqb m.page p (λ is. ne (sym is ∙ manifest)))) in
       let batch = subst (HasBatch (k.tickets ++ Some m ∷ [])) (sym is_batch) (m, there_last k.tickets (Some m), manifest) in
       record {
-        reserved = reserved_step view sum old new n m reservation kept_new holds.pages holds.tickets k at inline idle (λ ne. absurd (ne manifest)) begins busy batch;
-        at = reserved_at view sum old new n m reservation kept_new holds.pages holds.tickets k at inline idle (λ ne. absurd (ne manifest)) begins busy batch;
+        reserved = reserved_step view sum old new n m reservation guard kept_new same_but holds.tickets k at inline idle (λ ne. absurd (ne manifest)) begins busy batch;
+        at = reserved_at view sum old new n m reservation guard kept_new same_but holds.tickets k at inline idle (λ ne. absurd (ne manifest)) begins busy batch;
       }

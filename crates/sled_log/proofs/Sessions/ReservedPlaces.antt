@@ -8,7 +8,7 @@ use Rattle.sled_store.specs.SegmentStates.{Machine, next_slot}
 use Rattle.sled_core.specs.Begun.{begin_of, segment_view}
 use Rattle.sled_core.specs.Buffers.{most_open}
 use Rattle.sled_core.specs.declared.logger.Log.{Log}
-use Rattle.sled_core.specs.Fits.{FitsInline, IsLeastOpen, IsUsedUpFor, current_begin, current_of, fault_of, in_blob, is_moved, line_of, next_place, open_for, open_of, open_places, position_of, reserved_end, segment_size_of, start_behind, start_of, waiting_behind, waiting_of}
+use Rattle.sled_core.specs.Fits.{FitsInline, IsLeastOpen, IsUsedUpFor, current_begin, current_of, fault_of, in_blob, is_moved, line_of, machine_at, next_place, open_for, open_of, open_places, position_of, reserved_end, segment_size_of, start_behind, start_of, target_of, waiting_behind, waiting_of}
 use Rattle.sled_core.specs.OpenPlaces.{places_from}
 use Rattle.sled_core.specs.Positions.{Position}
 use Rattle.sled_core.specs.Waiting.{at_last, closed_now, spans, unwritten}
@@ -17,7 +17,7 @@ use Rattle.sled_core.proofs.Holds.Facts.{current_facts}
 use Rattle.sled_core.proofs.Line.Targets.{LiesHere, LiesNext, lies}
 use Rattle.sled_core.proofs.PublicLaws.{current_count, current_least, shows_behind, target_above as put_above}
 use Rattle.sled_log.specs.RunPhases.{seen_log}
-use Rattle.sled_log.specs.RunStates.{EndsInReach, LogView, body_in, current_span, is_behind, next_start, start_with, target_in, waiting_with, MarkAt}
+use Rattle.sled_log.specs.RunStates.{EndsInReach, LogView, body_in, current_span, is_behind, machine_with, next_start, start_with, target_in, waiting_with, MarkAt}
 use Rattle.sled_log.specs.TicketSteps.{IsFullOfOpen, opens_beside}
 use Rattle.sled_core.proofs.Holds.ReachLemmas.{position_past}
 
@@ -92,6 +92,10 @@ module _ {D C : Type 0} (log : Log D C) (begun : ℕ) (tickets : List (Option Me
         let some = filled.0 in
         only_true (is_moved log page n) (λ no. absurd (grind (arith, nat_tests, no, at))) ∙ sym (only_true (is_behind l q) (λ no. absurd (grind (arith, nat_tests, no, begins, some)))))
   ]
+
+  -- the slots then: a further segment has its own
+  pub machine_seen : (if is_moved log page n then (target_of log page n).machine else machine_at log) ≡ machine_with l q
+  machine_seen = ap (λ (b : Bool). if b then q.machine else machine) moved_seen
 
   moved_next : is_moved log page n ≡ true → LiesNext size (current_of log) machine page n (position_of log)
   moved_next is = elim target [

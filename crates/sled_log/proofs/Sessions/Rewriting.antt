@@ -16,16 +16,17 @@ use Rattle.sled_codec.specs.History.{History, Message, is_replace, page_state, t
 use Rattle.sled_store.specs.Device.{Trace}
 use Rattle.sled_store.proofs.Segments.TableEntries.{from_table}
 use Rattle.sled_core.specs.declared.logger.Log.{Log}
+use Rattle.sled_core.specs.declared.reservation.Guard.{Guard}
 use Rattle.sled_core.specs.declared.reservation.Reservation.{Reservation}
-use Rattle.sled_core.specs.Causes.{RewriteAnswers}
-use Rattle.sled_core.specs.Fits.{Awaits, FitsInline, IsLeastOpen, IsUnchanged, IsUsedUpFor, KeepsAll, fault_of, message_rewriting, next_place, open_for, segment_size_of, target_of, start_of}
+use Rattle.sled_core.specs.Causes.{FaultOrMemory, RewriteAnswers}
+use Rattle.sled_core.specs.Fits.{Awaits, FitsInline, IsLeastOpen, IsUnchanged, IsUsedUpFor, KeepsAll, fault_of, machine_at, message_rewriting, next_place, open_for, segment_size_of, target_of, start_of}
 use Rattle.sled_core.specs.Keeps.{KeepsSeen, Preserves}
 use Rattle.sled_core.specs.Manifests.{manifest_page}
 use Rattle.sled_core.specs.Reserves.{StandsBehind}
 use Rattle.sled_core.specs.invariants.Running.{Fits}
 use Rattle.sled_core.specs.Running.{IsStored}
 use Rattle.sled_core.specs.Tickets.{own_blob}
-use Rattle.sled_core.proofs.PublicLaws.{can_rewrite, fits_reach, target_above}
+use Rattle.sled_core.proofs.PublicLaws.{can_rewrite, fits_reach, kept_further, target_above}
 use Rattle.sled_log.specs.declared.session.Phase.TheVariants.{Open}
 use Rattle.sled_log.specs.declared.session.command.Command.TheVariants as command
 use Rattle.sled_log.specs.declared.session.command.Reply.{Reply}
@@ -33,15 +34,16 @@ use Rattle.sled_log.specs.declared.session.command.Reply.TheVariants as reply
 use Rattle.sled_log.specs.declared.session.opened.Opened.{Opened}
 use Rattle.sled_log.specs.Made.{HasBlobIn, IsMade, JoinsWithBlob}
 use Rattle.sled_log.specs.Refusals.{has_no_blob, is_busy, reason_of, refusal_for}
-use Rattle.sled_log.specs.Reservations.{HoldsTicket, MakesRoom}
-use Rattle.sled_log.specs.RunPhases.{Does, IsOpenAt, Unstored, device_in, seen, seen_log, stands, traces}
-use Rattle.sled_log.specs.RunStates.{DeviceView, RunState, blob_in, is_present, one_blob, page_now, target_in, top, heads_at}
+use Rattle.sled_log.specs.Reservations.{GivesBack, HoldsTicket, MakesRoom}
+use Rattle.sled_log.specs.RunPhases.{DoesHere, IsOpenAt, Unstored, device_in, seen, seen_log, stands, traces}
+use Rattle.sled_log.specs.RunStates.{DeviceView, LogView, RunState, blob_in, is_present, one_blob, page_now, target_in, top, heads_at}
 use Rattle.sled_log.specs.TicketSteps.{RefusedStep, RewriteStep, own_of}
-use Rattle.sled_log.proofs.Sessions.Carried.{passes, stepping}
-use Rattle.sled_log.proofs.Sessions.KeptPlaces.{KeptPlace, held_message, over_log, with_ticket}
+use Rattle.sled_log.proofs.Sessions.Carried.{passes}
+use Rattle.sled_log.proofs.Sessions.KeptPlaces.{KeptPlace, held_message, over_log, slots_behind, with_ticket}
 use Rattle.sled_log.proofs.Sessions.MadeHistories.{of_page_same}
 use Rattle.sled_log.proofs.Sessions.ReservedPlaces.{beside_least, out_of_reach}
-use Rattle.sled_log.proofs.Sessions.Reserving.{by_room, room_at, room_stands, still_at, unchanged_heads, unchanged_holds, unchanged_stands}
+use Rattle.sled_log.proofs.Sessions.Reserving.{beside_log, by_room, room_at, room_stands, roomless_step, run_over, still_at, unchanged_heads, unchanged_holds, unchanged_stands, went_back}
+use Rattle.sled_log.proofs.Sessions.PinsTaken.{IsMadeWithPin, pinned_log, unpinned_log}
 use Rattle.sled_log.proofs.Sessions.Within.{untouched}
 
 -- only a Replace begins a page with something on it
@@ -132,15 +134,14 @@ pub record HasTriedAgain {D C : Type 0} (view : D → DeviceView) (sum : List �
   pub at : IsOpenAt (traces view) sum new tickets
 
 -- It is what the command comes to.
-pub rewrite_does : {D C : Type 0} (view : D → DeviceView) (sum : List ℕ → ℕ) (old : Opened D C) (page : ℕ) (new : Opened D C) (result : Reply) (k : Unstored) → IsOpenAt (traces view) sum old k → HasTriedAgain view sum old page new result k → Does view sum (Open old) (command.Rewrite page) (Open new, result) k
+pub rewrite_does : {D C : Type 0} (view : D → DeviceView) (sum : List ℕ → ℕ) (old : Opened D C) (page : ℕ) (new : Opened D C) (result : Reply) (k : Unstored) → IsOpenAt (traces view) sum old k → HasTriedAgain view sum old page new result k
+    → DoesHere view sum (Open old) (command.Rewrite page) (Open new, result) k
 rewrite_does view sum old page new result k at tried =
-    let size : ℕ = segment_size_of old.log in
-    let a : RunState = stands view (Open old) k in
     let now : DeviceView = device_in view (Open new) in
     record {
       not_refused = tried.not_refused;
       next = tried.tickets;
-      step = stepping sum size a (command.Rewrite page) result now (stands view (Open new) tried.tickets) tried.not_refused (tried.device, tried.step);
+      step = (tried.device, tried.step);
       at = λ own. tried.at;
       crash = λ own. untouched (traces view) sum old k at now.trace (ap (λ (d : DeviceView). d.trace) tried.device);
     }
@@ -153,39 +154,67 @@ rewrite_may view old k page free =
     let blob = passes (has_no_blob k.history page) _ _ first.1 in
     (blob.0, (passes (is_busy (seen old k.tickets k.given_up k.heads) page) _ _ blob.1).0)
 
+-- A place was tried to be kept with a pin that was taken for it.
+pub record IsPinnedAgain {D C : Type 0} (trace : D → Trace) (sum : List ℕ → ℕ) (old log : Log D C) : Type 0 where
+  pub pin : Preserves trace sum old (pinned_log old)
+  pub same : KeepsAll (pinned_log old) log
+  pub keeps : Preserves trace sum (pinned_log old) log
+
+pub pinned_again : {D C : Type 0} (trace : D → Trace) (sum : List ℕ → ℕ) (old pinned log : Log D C) → pinned ≡ pinned_log old → Preserves trace sum old pinned → KeepsAll pinned log → Preserves trace sum pinned log
+    → IsPinnedAgain trace sum old log
+pinned_again {D} {C} trace sum old pinned log taken pin same keeps = record {
+  pin = subst (λ (x : Log D C). Preserves trace sum old x) taken pin;
+  same = subst (λ (x : Log D C). KeepsAll x log) taken same;
+  keeps = subst (λ (x : Log D C). Preserves trace sum x log) taken keeps;
+}
+
 -- Room for its ticket is made first.
 module _ {D C : Type 0} (view : D → DeviceView) (sum : List ℕ → ℕ) (old mid : Opened D C) (k : Unstored) (page : ℕ) (room : MakesRoom old mid) (at : IsOpenAt (traces view) sum old k) where
   -- What it comes to once room was made it comes to before.
   over_room : (new : Opened D C) (result : Reply) → HasTriedAgain view sum mid page new result k → HasTriedAgain view sum old page new result k
   over_room new result tried =
       let now : DeviceView = device_in view (Open new) in
-      let run : Log D C → ℕ → RunState = λ x begun. record { device = view x.config.device; history = k.history; acknowledged = k.acknowledged; floor = k.floor; log = Some (seen_log x begun k.tickets k.given_up k.heads) } in
       record {
         not_refused = tried.not_refused;
         device = tried.device ∙ ap (λ x. view x.config.device) room.log;
         tickets = tried.tickets;
-        step = by_room old mid (λ x begun. RewriteStep (segment_size_of x) (run x begun) (seen_log x begun k.tickets k.given_up k.heads) page result now (stands view (Open new) tried.tickets)) room tried.step;
+        step = by_room old mid (λ x begun due. RewriteStep (segment_size_of x) (run_over view k x begun due) (seen_log x begun k.tickets k.given_up k.heads) page result now (stands view (Open new) tried.tickets)) room tried.step;
         at = tried.at;
       }
 
-  -- Without room nothing is done.
-  pub roomless_again : fault_of old.log ≡ None → HasTriedAgain view sum old page mid (reply.Failed error.OutOfMemory) k
-  roomless_again whole = record {
-    not_refused = refl;
-    device = ap (λ x. view x.config.device) room.log;
-    tickets = k;
-    step = (whole, room_stands view old mid k room);
-    at = room_at (traces view) sum old mid k room at;
-  }
+  -- Without room, or where the log keeps a failure, nothing is done.
+  pub roomless_again : (T : Type 0) (e : Error) → FaultOrMemory {T = T} (Err e) ⊥ (fault_of old.log) → HasTriedAgain view sum old page mid (reply.Failed e) k
+  roomless_again T e whole =
+      let size : ℕ = segment_size_of old.log in
+      let l : LogView = seen old k.tickets k.given_up k.heads in
+      record {
+        not_refused = refl;
+        device = ap (λ x. view x.config.device) room.log;
+        tickets = k;
+        step = roomless_step T size (stands view (Open old) k) l (target_in size l page 8) e (stands view (Open mid) k) whole (room_stands view old mid k room);
+        at = room_at (traces view) sum old mid k room at;
+      }
 
-  module _ (log : Log D C) (same : KeepsAll mid.log log) (keeps : Preserves (traces view) sum mid.log log) where
+  module _ (none_due : old.due ≡ None) (log : Log D C) (came : IsPinnedAgain (traces view) sum mid.log log) where
+    pin : Preserves (traces view) sum mid.log (pinned_log mid.log)
+    pin = came.pin
+
+    same : KeepsAll (pinned_log mid.log) log
+    same = came.same
+
+    keeps : Preserves (traces view) sum (pinned_log mid.log) log
+    keeps = came.keeps
+
     at_mid : IsOpenAt (traces view) sum mid k
     at_mid = room_at (traces view) sum old mid k room at
+
+    none_mid : mid.due ≡ None
+    none_mid = room.due ∙ none_due
 
     eight : FitsInline (segment_size_of mid.log) 8
     eight = let least = mid.log.config.config.least in omega (arith, least)
 
-    kept_seen : KeepsSeen mid.log log
+    kept_seen : KeepsSeen (pinned_log mid.log) log
     kept_seen = record { synced = same.synced; noted = same.noted; pins = same.pins; account = same.account }
 
     -- A log that kept no place is as it was.
@@ -197,20 +226,44 @@ module _ {D C : Type 0} (view : D → DeviceView) (sum : List ℕ → ℕ) (old 
     refused_step a b (error.Held p) is answers = (beside_least mid.log (length mid.pages.items) k.tickets k.given_up k.heads sum page 8 eight p answers.0 answers.2 answers.3, is)
     refused_step a b _ is answers = absurd answers
 
-    pub failed_again : (e : Error) → RewriteAnswers {T = Reservation} (Err e) (fault_of mid.log) (IsUsedUpFor mid.log page 8) (open_for mid.log page 8) (IsLeastOpen mid.log) → IsUnchanged mid.log log
-        → HasTriedAgain view sum old page (over_log mid log) (reply.Failed e) k
-    failed_again e answers unchanged = over_room (over_log mid log) (reply.Failed e) (record {
-      not_refused = refl;
-      device = ap (λ x. view x.device) same.config;
-      tickets = k;
-      step = refused_step (stands view (Open mid) k) (stands view (Open (over_log mid log)) k) e (unchanged_stands view mid log k unchanged kept_seen) answers;
-      at = still_at (traces view) sum mid (over_log mid log) k k.heads (unchanged_heads sum mid.log log k.heads unchanged at_mid.heads) (unchanged_holds (traces view) sum mid.log log unchanged keeps) refl refl (λ p. refl) refl at_mid;
-    })
+    pub failed_again : (pinned : Log D C) → pinned ≡ pinned_log mid.log → (e : Error) → RewriteAnswers {T = Reservation} (Err e) (fault_of pinned) (IsUsedUpFor pinned page 8) (open_for pinned page 8) (IsLeastOpen pinned)
+        → IsUnchanged pinned log
+        → (new : Opened D C) (result : Reply) → GivesBack (traces view) sum (over_log mid log) new e result → HasTriedAgain view sum old page new result k
+    failed_again pinned taken e answered unchanged_pinned new result gives =
+        let unchanged : IsUnchanged (pinned_log mid.log) log = subst (λ (x : Log D C). IsUnchanged x log) taken unchanged_pinned in
+        let answers : RewriteAnswers {T = Reservation} (Err e) (fault_of mid.log) (IsUsedUpFor mid.log page 8) (open_for mid.log page 8) (IsLeastOpen mid.log) =
+        subst (λ (x : Log D C). RewriteAnswers {T = Reservation} (Err e) (fault_of x) (IsUsedUpFor x page 8) (open_for x page 8) (IsLeastOpen x)) taken answered in
+        let made : IsMadeWithPin (traces view) sum mid.log log = went_back (traces view) sum mid new log e result gives pin keeps kept_seen in
+        let back : Opened D C = over_log mid (unpinned_log log) in
+        over_room new result (subst (λ r. HasTriedAgain view sum mid page new r k) (sym gives.told) (subst (λ (o : Opened D C). HasTriedAgain view sum mid page o (reply.Failed e) k) (sym gives.given) (record {
+          not_refused = refl;
+          device = ap (λ x. view x.device) same.config;
+          tickets = k;
+          step = refused_step (stands view (Open mid) k) (stands view (Open back) k) e (unchanged_stands view sum mid log k unchanged made) answers;
+          at = still_at (traces view) sum mid back k k.heads (unchanged_heads sum mid.log log k.heads unchanged at_mid.heads) (unchanged_holds (traces view) sum mid.log log unchanged made)
+              (beside_log mid (unpinned_log log) k.history none_mid) at_mid;
+        })))
 
     -- The place that it kept has a ticket.
-    module _ (blob : ℤ) (one : one_blob (page_now k.history page) ≡ Some blob) (reservation : Reservation) (awaits : (item : List ℕ) → Awaits log reservation (message_rewriting mid.log page blob item)) (own : own_blob reservation ≡ None)
-        (answers : RewriteAnswers (Ok reservation) (fault_of mid.log) (IsUsedUpFor mid.log page 8) (open_for mid.log page 8) (IsLeastOpen mid.log)) (behind : StandsBehind sum mid.log log page 8)
-        (others : (ticket : Reservation) (m : Message) → Awaits mid.log ticket m → Awaits log ticket m) where
+    module _ (pinned : Log D C) (taken : pinned ≡ pinned_log mid.log) (blob : ℤ) (one : one_blob (page_now k.history page) ≡ Some blob) (reservation : Reservation)
+        (awaited : (item : List ℕ) → Awaits log reservation (message_rewriting pinned page blob item)) (own : own_blob reservation ≡ None)
+        (answered : RewriteAnswers (Ok reservation) (fault_of pinned) (IsUsedUpFor pinned page 8) (open_for pinned page 8) (IsLeastOpen pinned)) (stands_behind : StandsBehind sum pinned log page 8)
+        (others_pinned : (ticket : Reservation) (m : Message) → Awaits pinned ticket m → Awaits log ticket m) (slots : machine_at log ≡ slots_behind pinned page 8) where
+      awaits : (item : List ℕ) → Awaits log reservation (message_rewriting mid.log page blob item)
+      awaits = subst (λ (x : Log D C). (item : List ℕ) → Awaits log reservation (message_rewriting x page blob item)) taken awaited
+
+      answers : RewriteAnswers (Ok reservation) (fault_of mid.log) (IsUsedUpFor mid.log page 8) (open_for mid.log page 8) (IsLeastOpen mid.log)
+      answers = subst (λ (x : Log D C). RewriteAnswers (Ok reservation) (fault_of x) (IsUsedUpFor x page 8) (open_for x page 8) (IsLeastOpen x)) taken answered
+
+      behind : StandsBehind sum (pinned_log mid.log) log page 8
+      behind = subst (λ (x : Log D C). StandsBehind sum x log page 8) taken stands_behind
+
+      others : (ticket : Reservation) (m : Message) → Awaits mid.log ticket m → Awaits log ticket m
+      others = subst (λ (x : Log D C). (ticket : Reservation) (m : Message) → Awaits x ticket m → Awaits log ticket m) taken others_pinned
+
+      machine : machine_at log ≡ slots_behind mid.log page 8
+      machine = subst (λ (x : Log D C). machine_at log ≡ slots_behind x page 8) taken slots
+
       its_one : IsOneBlob (page_now k.history page) blob
       its_one = one_blob_is (page_now k.history page) blob one
 
@@ -220,27 +273,31 @@ module _ {D C : Type 0} (view : D → DeviceView) (sum : List ℕ → ℕ) (old 
       none : fault_of log ≡ None
       none = same.fault ∙ answers.0
 
+      kept_all : Preserves (traces view) sum mid.log log
+      kept_all = kept_further (traces view) sum mid.log (pinned_log mid.log) log pin keeps
+
       kept : KeptPlace (traces view) sum mid.log log 8 its reservation
       kept = record {
         place = refl;
         size = refl;
         ticket = awaits its_one.message.bytes;
         own = own ∙ sym (rewriting_apart (traces view) sum mid k at_mid page blob its_one);
-        stored = keeps.goes_on.items none its tt (rewriting_stored (traces view) sum mid k at_mid page blob its_one);
+        stored = kept_all.goes_on.items none its tt (rewriting_stored (traces view) sum mid k at_mid page blob its_one);
         behind = behind;
+        machine = machine;
         others = others;
         fault = answers.0;
         sound = none;
         free = answers.1;
         few = answers.2;
-        keeps = keeps;
+        keeps = kept_all;
         seen = kept_seen;
       }
 
-      pub held_again : (new : Opened D C) (result : Reply) → HoldsTicket (over_log mid log) new does.Replace page reservation result → page < length mid.busy.items → page ≢ manifest_page
+      pub held_again : (new : Opened D C) (guard : Guard) (result : Reply) → HoldsTicket (over_log mid log) new does.Replace page reservation guard result → page < length mid.busy.items → page ≢ manifest_page
           → is_busy (seen old k.tickets k.given_up k.heads) page ≡ false → HasTriedAgain view sum old page new result k
-      held_again new result holds small message idle =
-          let held = held_message view sum mid new log 8 its reservation result k kept holds at_mid eight (inl refl) (rewriting_joins (traces view) sum mid k at_mid page blob its_one) small message
+      held_again new guard result holds small message idle =
+          let held = held_message view sum mid new log 8 its reservation guard result k kept holds none_mid at_mid eight (inl refl) (rewriting_joins (traces view) sum mid k at_mid page blob its_one) small message
           (record { known = inr (one_present (page_now k.history page) blob its_one); idle = idle; few = λ is. cc }) in
           over_room new result (subst (λ r. HasTriedAgain view sum mid page new r k) (sym holds.told) (record {
             not_refused = refl;

@@ -1,6 +1,5 @@
 -- What holds at the joints of a run: one trace behind another, what a crash leaves, and how a phase leads to the next one.
 use Rattle.std.proofs.Common.{◌≡◌, ◌∙◌, ◌<◌, ◌≤◌, ◌^◌, ℕ, ℤ, Bool, true, false, if◌then◌else◌, IsTrue, List, [], ◌∷◌, Option, None, Some, refl, sym, ap, subst, arith}
-use Rattle.std.proofs.lemmas.Int.{ints}
 use Rattle.std.specs.Prelude.{Result, Ok, Err, OnErr, OnOk, is_err, ◌&&◌, ◌↔◌}
 use Rattle.sled_codec.specs.declared.result.Error.{Error}
 use Rattle.sled_codec.specs.declared.result.Error.TheVariants as error
@@ -33,8 +32,8 @@ use Rattle.sled_log.specs.declared.session.command.Reply.TheVariants as reply
 use Rattle.sled_log.specs.Refusals.{reason_of, refusal_for, when}
 use Rattle.sled_log.specs.RunStates.{DeviceView, RunState}
 use Rattle.sled_log.specs.OpenSteps.{IsCause, IsStartCause}
-use Rattle.sled_log.specs.Runs.{Carries, IsOwn, IsStep, KeepsOwn, StaysRecoverable, StaysWithin, told}
-use Rattle.sled_log.specs.RunPhases.{AnswersIn, CarriesOut, Does, IsAt, IsClosedAt, IsOpenAt, RunsOn, StandsIn, Unstored, device_in, running, size_of, stands, traces}
+use Rattle.sled_log.specs.Runs.{Carries, CrashStep, IsOwn, IsStep, KeepsOwn, StaysRecoverable, StaysWithin, told}
+use Rattle.sled_log.specs.RunPhases.{AnswersIn, CarriesHere, CarriesOut, Does, DoesBy, IsAt, IsClosedAt, IsOpenAt, RunsOn, StandsIn, Unstored, device_in, running, size_of, stands, traces}
 use Rattle.sled_log.proofs.Sessions.MadeHistories.{none_made}
 use Rattle.sled_log.proofs.Sessions.Within.{still_there, untouched}
 pub use Rattle.sled_core.proofs.PublicLaws.{place_back}
@@ -136,8 +135,12 @@ pub closed_at : {D C : Type 0} (trace : D → Trace) (sum : List ℕ → ℕ) (o
     → IsClosedAt sum (segment_size_of opened.log) (trace (device_of opened.log)) k
 closed_at trace sum opened k at = record { made = at.made; left = fits_leaves trace sum opened.log k.history k.acknowledged k.floor at.unmarked at.fits }
 
+-- so of what it comes to with no mark made first
+pub carried_here : {D C : Type 0} (view : D → DeviceView) (sum : List ℕ → ℕ) (phase : Phase D C) (c d : Command) (result : Phase D C × Reply) → d ≡ c → CarriesHere view sum phase c result → CarriesHere view sum phase d result
+carried_here view sum phase c d result is carries = subst (λ (x : Command). CarriesHere view sum phase x result) (sym is) carries
+
 -- A log that is given up.
-pub halted : {D C : Type 0} (view : D → DeviceView) (sum : List ℕ → ℕ) (opened : Opened D C) (config : RunningConfig D C) → config ≡ config_of opened.log → CarriesOut view sum (phase.Open opened) command.Halt (phase.Closed config, reply.Halted)
+pub halted : {D C : Type 0} (view : D → DeviceView) (sum : List ℕ → ℕ) (opened : Opened D C) (config : RunningConfig D C) → config ≡ config_of opened.log → CarriesHere view sum (phase.Open opened) command.Halt (phase.Closed config, reply.Halted)
 halted view sum opened config is = λ k at free. record {
   not_refused = refl;
   next = k;
@@ -146,12 +149,14 @@ halted view sum opened config is = λ k at free. record {
   crash = λ own. untouched (traces view) sum opened k at (traces view config.device) (ap (λ (x : RunningConfig _ _). traces view x.device) is);
 }
 
--- A crash from any phase.
-module _ {D C : Type 0} (view : D → DeviceView) (sum : List ℕ → ℕ) (from : Phase D C) (config : RunningConfig D C) (choice copy : Choice) (result : Phase D C × Reply) (taken : Bool) where
+-- A crash from any phase, by what it comes to there.
+module _ {D C : Type 0} (view : D → DeviceView) (sum : List ℕ → ℕ) (from : Phase D C) (config : RunningConfig D C) (choice copy : Choice) (result : Phase D C × Reply) (taken : Bool)
+    (Step : RunState → Command → Reply → DeviceView → RunState → Type 0)
+    (by_crash : (a : RunState) (new : DeviceView) (b : RunState) → CrashStep a choice (reply.Crashed taken) new b → Step a (command.Crash choice) (reply.Crashed taken) new b) where
   abbrev Crashes : Unstored → RunState → DeviceView → DeviceView → Left → Type 0
   Crashes k to new old l = ((IsTrue taken ↔ MayBeLeft l (state_of old.trace))
       × (new ≡ record { trace = Crashed (if taken then l else Settled []) ∷ old.trace; failures = old.failures; is_stopped = false }))
-      × (to ≡ record { device = new; history = k.history; acknowledged = k.acknowledged; floor = k.floor; log = None })
+      × (to ≡ record { device = new; history = k.history; acknowledged = k.acknowledged; floor = k.floor; log = None; due = None })
 
   abbrev Own : ℕ → DeviceView → Left → Type 0
   Own size old l = NoForeign sum size (state_of old.trace) (content_left (if taken then l else Settled []) (state_of old.trace))
@@ -165,7 +170,8 @@ module _ {D C : Type 0} (view : D → DeviceView) (sum : List ℕ → ℕ) (from
   closes (phase.Open opened) k at = closed_at (traces view) sum opened k at
 
   -- what was copied of a choice asks for the same
-  pub crashed : config ≡ running from → left_of copy ≡ left_of choice → result.1 ≡ reply.Crashed taken → CarriesOut view sum (phase.Closed config) (command.Crash copy) result → CarriesOut view sum from (command.Crash choice) result
+  pub crashed : config ≡ running from → left_of copy ≡ left_of choice → result.1 ≡ reply.Crashed taken → CarriesOut view sum (phase.Closed config) (command.Crash copy) result
+      → (k : Unstored) → IsAt (traces view) sum from k → refusal_for (stands view from k) (command.Crash choice) ≡ None → DoesBy Step view sum from (command.Crash choice) result k
   crashed is same told_is carries = λ k at free.
       let closed : IsAt (traces view) sum (phase.Closed config) k = subst (λ (x : RunningConfig D C). IsAt (traces view) sum (phase.Closed x) k) (sym is) (closes from k at) in
       by k (carries k closed (never (view config.device).is_stopped why.Stopped None))
@@ -190,25 +196,23 @@ module _ {D C : Type 0} (view : D → DeviceView) (sum : List ℕ → ℕ) (from
       leaves k stays = subst (λ (d : DeviceView). StaysRecoverable sum (size_of from) (stands view from k) d.trace new.trace) from_device
           (subst (λ n. StaysRecoverable sum n (stands view from k) (view config.device).trace new.trace) sizes stays)
 
-      by : (k : Unstored) → Does view sum (phase.Closed config) (command.Crash copy) result k → Does view sum from (command.Crash choice) result k
+      by : (k : Unstored) → Does view sum (phase.Closed config) (command.Crash copy) result k → DoesBy Step view sum from (command.Crash choice) result k
       by k does = let to : RunState = stands view result.0 does.next in record {
         not_refused = does.not_refused;
         next = does.next;
-        step = subst (λ (r : Reply). IsStep sum (size_of from) (stands view from k) (command.Crash choice) r new to) (sym told_is)
-            (subst (λ (d : DeviceView). Crashes k to new d (left_of choice)) from_device (subst (Crashes k to new (view config.device)) same
-            (subst (λ (r : Reply). IsStep sum config.config.segment_size (stands view (phase.Closed config) k) (command.Crash copy) r new to) told_is does.step)));
+        step = subst (λ (r : Reply). Step (stands view from k) (command.Crash choice) r new to) (sym told_is)
+            (by_crash (stands view from k) new to (subst (λ (d : DeviceView). Crashes k to new d (left_of choice)) from_device (subst (Crashes k to new (view config.device)) same
+            (subst (λ (r : Reply). IsStep sum config.config.segment_size (stands view (phase.Closed config) k) (command.Crash copy) r new to) told_is does.step))));
         at = λ own. does.at (owned own);
         crash = λ own. leaves k (does.crash (owned own));
       }
 
 -- A command that is carried out is told, or it was refused.
 module _ {D C : Type 0} (view : D → DeviceView) (sum : List ℕ → ℕ) (from : Phase D C) (c : Command) where
-  -- While a log is open that keeps no failure, what is read is its own.
+  -- While a log is open that keeps no failure, and no mark joined above the floor, what is read is its own.
   phase_own : (phase : Phase D C) (k : Unstored) → IsAt (traces view) sum phase k → KeepsOwn sum (size_of phase) (stands view phase k)
   phase_own (phase.Closed config) k at = tt
-  phase_own (phase.Open opened) k at = λ none.
-      fits_reads_own (traces view) sum opened.log k.history k.acknowledged k.floor at.unmarked at.fits none at.zeros
-      (let same = at.joined in omega (arith, ints, same))
+  phase_own (phase.Open opened) k at = λ none low. fits_reads_own (traces view) sum opened.log k.history k.acknowledged k.floor at.unmarked at.fits none at.zeros low
 
   -- Where nothing is done a crash leaves what it left.
   here : (phase : Phase D C) (k : Unstored) → IsAt (traces view) sum phase k → StaysRecoverable sum (size_of phase) (stands view phase k) (device_in view phase).trace (device_in view phase).trace

@@ -5,7 +5,7 @@ ghost use Rattle.sled_codec.specs.declared.serialization.message.LogKind.TheVari
 ghost use Rattle.sled_core.specs.Manifests.{manifest_page};
 ghost use Rattle.sled_core.specs.Tickets.{place_of, pointer_of};
 ghost use Rattle.sled_log.specs.declared.session.command.Command.TheVariants as told;
-ghost use Rattle.sled_log.specs.Reservations.{HoldsTicket, MakesRoom, Reserves};
+ghost use Rattle.sled_log.specs.Reservations.{GivesBack, HoldsTicket, MakesRoom, Reserves};
 ghost use Rattle.sled_log.specs.RunPhases.{CarriesHere, RunsOn, view_by};
 ghost use Rattle.sled_core.specs.Causes.{FaultOrMemory};
 ghost use Rattle.sled_core.specs.Fits.{config_of, fault_of, pins_of};
@@ -90,6 +90,7 @@ fn give_back<D: CrashDevice, C: Checksum>(
     guard: Guard,
     why: Error,
 ) -> Reply
+    ensures { GivesBack D.trace C.sum_of opened.old opened.new why result }
 {
     unpin(&mut opened.log, guard);
     Reply::Failed(why)

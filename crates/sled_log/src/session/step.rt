@@ -157,13 +157,14 @@ fn carry_out_open<D: CrashDevice, C: Checksum>(
     ensures device { TouchesIn (view_by D.trace D.faults D.is_stopped) C.sum_of (Phase.Open opened) command.now result.0 result.1 }
     ensures on { RunsOn D.trace (config_of opened.log) (running result.0) }
 {
-    let mut opened = opened;
-    if calls_log(command) {
-        if let Err(e) = make_due(&mut opened) {
-            return (Phase::Open(opened), Reply::Failed(e));
-        }
+    if !calls_log(command) {
+        return carry_out_marked(opened, command);
     }
-    carry_out_marked(opened, command)
+    let mut opened = opened;
+    match make_due(&mut opened) {
+        Ok(()) => carry_out_marked(opened, command),
+        Err(e) => (Phase::Open(opened), Reply::Failed(e)),
+    }
 }
 
 /// Whether a command calls the log that is open.
@@ -210,7 +211,7 @@ fn carry_out_marked<D: CrashDevice, C: Checksum>(
 
 /// Has the device of a log stop.
 fn stop_open<D: CrashDevice, C: Checksum>(opened: &mut Opened<D, C>, n: u64) -> Reply
-    ensures step { CarriesOut (view_by D.trace D.faults D.is_stopped) C.sum_of
+    ensures step { CarriesHere (view_by D.trace D.faults D.is_stopped) C.sum_of
         (Phase.Open opened.old) (command.Stop n) (Phase.Open opened.new, result) }
     ensures device { TouchesIn (view_by D.trace D.faults D.is_stopped) C.sum_of
         (Phase.Open opened.old) (command.Stop n) (Phase.Open opened.new) result }
@@ -225,7 +226,7 @@ fn crash_open<D: CrashDevice, C: Checksum>(
     opened: Opened<D, C>,
     choice: &Choice,
 ) -> (Phase<D, C>, Reply)
-    ensures step { CarriesOut (view_by D.trace D.faults D.is_stopped) C.sum_of (Phase.Open opened) (command.Crash choice.now) result }
+    ensures step { CarriesHere (view_by D.trace D.faults D.is_stopped) C.sum_of (Phase.Open opened) (command.Crash choice.now) result }
     ensures device { TouchesIn (view_by D.trace D.faults D.is_stopped) C.sum_of (Phase.Open opened) (command.Crash choice.now) result.0 result.1 }
     ensures on { RunsOn D.trace (config_of opened.log) (running result.0) }
 {

@@ -57,7 +57,7 @@ not_refusing size old s _ new starts = absurd starts
 
 -- What was recovered and started is an opening.
 opens : (sum : List ℕ → ℕ) (size : ℕ) (device new : DeviceView) (H : History) (A f : ℕ) (r : Reply) (b : RunState) → reason_of r ≡ None
-    → let a : RunState = record { device = device; history = H; acknowledged = A; floor = f; log = None } in HasOpened sum size a r new b → IsStep sum size a command.Open r new b
+    → let a : RunState = record { device = device; history = H; acknowledged = A; floor = f; log = None; due = None } in HasOpened sum size a r new b → IsStep sum size a command.Open r new b
 opens sum size device new H A f (reply.Failed e) b none opened = inr opened
 opens sum size device new H A f (reply.Refused w) b none opened = cc
 opens sum size device new H A f r b none opened = opened
@@ -82,7 +82,7 @@ returns-in-Ok-clause-step g c = λ k at free.
     let new : DeviceView = device_in view c.start.result.0 in
     let s : SnapshotModel = model_of c.in-Ok.snapshot in
     let ok = c.in-Ok.ensures.ok in
-    let a : RunState = record { device = old; history = k.history; acknowledged = k.acknowledged; floor = k.floor; log = None } in
+    let a : RunState = record { device = old; history = k.history; acknowledged = k.acknowledged; floor = k.floor; log = None; due = None } in
     let sizes : config.config.segment_size ≡ size = ap (λ (x : Config). x.segment_size) c.read_snapshot_or_default.ensures.config.config in
     let has : HasRecovered sum size old mid s = record { conclusion = ok.conclusion; recovers = ok.recovers; shown = ok.model; written = ok.done; failures = c.in-Ok.ensures.answers } in
     let starts = subst (λ n. HasStarted n c.start.result.1 mid s new) sizes c.start.ensures.acts in
@@ -113,7 +113,7 @@ returns-in-Ok-clause-step g c = λ k at free.
         good = still_good sum size (let least = given.least in omega (arith, least)) mid new s c.start.result.1 starts k.history k.acknowledged k.floor good;
         active = active;
         why = why;
-        leads = λ i. record { device = new; history = H'; acknowledged = k.acknowledged; floor = cut; log = log i };
+        leads = λ i. record { device = new; history = H'; acknowledged = k.acknowledged; floor = cut; log = log i; due = started.due i };
       },
       started.at,
       (

@@ -34,8 +34,8 @@ returns-in-Ok-clause-acts g c = (
   },
   c.in-Ok.ensures.answers.0,
   c.in-Ok.ensures.answers.1,
-  ap (λ l. g.D.Device.trace l.config.device) c.pin-guard.ensures.taken ∙ c.in-Ok.ensures.made,
-  ap (λ l. g.D.Device.faults l.config.device) c.pin-guard.ensures.taken ∙ c.in-Ok.ensures.answers.2,
+  c.in-Ok.ensures.made,
+  c.in-Ok.ensures.answers.2,
 )
 
 pub returns-in-Ok-clause-starts : goal.returns-in-Ok-clause-starts
@@ -45,37 +45,47 @@ returns-in-Ok-clause-starts g c = λ H A f at.
     let size : ℕ = c.args.config.config.segment_size in
     let s : SnapshotModel = model_of c.args.snapshot in
     let begins = c.in-Ok.ensures.begins in
-    let taken = c.pin-guard.ensures.taken in
-    let new = c.pin-guard.new.self in
+    let new = c.in-Ok.log in
     let some : 0 < size = let least = c.args.config.config.least in omega (arith, least) in
     let place = starts_at size (stable_place s.stable) s.active some at.active in
-    let position : position_of new ≡ _ = ap position_of taken ∙ begins.position in
-    let synced : synced_end new ≡ stable_place s.stable = ap synced_end taken ∙ begins.synced ∙ place in
-    let end : reserved_end new ≡ stable_place s.stable = ap reserved_end taken ∙ begins.reserved ∙ begins.synced ∙ place in
-    let noted : noted_in new ≡ [] = ap noted_in taken ∙ begins.noted in
-    let waiting : spans (waiting_of new) ≡ [] = ap (λ x. spans (waiting_of x)) taken ∙ ap spans begins.unsealed in
-    let first : start_of new ≡ _ = ap start_of taken ∙ begins.start in
-    let fault : fault_of new ≡ None = ap fault_of taken ∙ begins.fault in
-    let empty : open_places new ≡ [] = ap open_places taken ∙ (none_is_empty c.in-Ok.log).0 begins.ended in
+    let synced : synced_end new ≡ stable_place s.stable = begins.synced ∙ place in
+    let end : reserved_end new ≡ stable_place s.stable = begins.reserved ∙ synced in
+    let waiting : spans (waiting_of new) ≡ [] = ap spans begins.unsealed in
+    let empty : open_places new ≡ [] = (none_is_empty new).0 begins.ended in
     let pages : length c.args.snapshot.pt.items ≡ length s.pages = simp length-map in
     let len : ℕ = length (state_of (trace c.args.config.device)).log.bytes in
-    let begin : current_begin c.in-Ok.log ≡ (start_from size len s).place = ap (λ x. x.place) begins.start in
-    let ends : synced_end c.in-Ok.log ≡ stable_place s.stable = begins.synced ∙ place in
-    let bare : noted_in c.in-Ok.log ≡ [] = begins.noted in
-    let stable : stable_end c.in-Ok.log ≡ stable_place s.stable = (λ i. stable_below (ends i) (bare i)) in
-    let pinned : pins_of new ≡ 1 = ap pins_of taken ∙ ap (λ n. n + 1) begins.pins in
-    let joined : ℤ = pos (stable_place s.stable) in
-    let account : account_of new ≡ record { mark = joined; durable = joined; pinned = true } =
-    ap account_of taken ∙ (λ i. record { mark = (begins.account i).mark; durable = (begins.account i).durable; pinned = nat_lt 0 (begins.pins i + 1) }) in
+    let begin : current_begin new ≡ (start_from size len s).place = ap (λ x. x.place) begins.start in
+    let bare : noted_in new ≡ [] = begins.noted in
+    let stable : stable_end new ≡ stable_place s.stable = (λ i. stable_below (synced i) (bare i)) in
+    let floor = c.stable_place.ensures.place ∙ sym at.floor in
+    let sized = sym begins.sized in
     record {
-      log = λ i. Some (record { position = position i; synced = synced i; noted = noted i; end = end i; waiting = waiting i; start = first i; begun = pages i; fault = fault i; outstanding = empty i; tickets = []; given_up = []; heads = heads_on size len s; pins = pinned i; account = account i });
+      log = λ i. Some (record {
+        position = begins.position i;
+        synced = synced i;
+        noted = begins.noted i;
+        end = end i;
+        waiting = waiting i;
+        start = begins.start i;
+        begun = pages i;
+        fault = begins.fault i;
+        outstanding = empty i;
+        tickets = [];
+        given_up = [];
+        heads = heads_on size len s;
+        pins = begins.pins i;
+        machine = begins.machine i;
+        account = begins.account i;
+      });
+      due = refl;
       at = record {
         made = at.closed.made;
         unmarked = [];
-        fits = c.pin-guard.ensures.keeps.fits H A f [] (c.in-Ok.ensures.fits H A f at.ready);
+        due = refl;
+        fits = c.in-Ok.ensures.fits H A f at.ready;
         zeros = at.zeros;
-        pinned = pinned;
-        joined = ap (λ (x : Account). x.mark) account ∙ ap pos (sym at.floor);
+        pinned = begins.pins;
+        origin = λ i. record { size = sized i; floor = floor i };
         table = at.table;
         tickets = record {
           as_many = search rules;
@@ -87,18 +97,18 @@ returns-in-Ok-clause-starts g c = λ H A f at.
           busy = λ page message. search rules;
           batch = refl;
         };
-        given_up = λ m given. subst (λ (l : List Message). Contains l m) (ap given_up_of taken ∙ begins.given_up) given;
+        given_up = λ m given. subst (λ (l : List Message). Contains l m) begins.given_up given;
         heads = record {
           marked = λ h there.
-              let is = c.in-Ok.ensures.marked.heads h (subst (λ (l : List HeadAt). Contains l h) (ap heads_of taken) there) in
+              let is = c.in-Ok.ensures.marked.heads h there in
               let first : MarkAt = record { place = (start_from size len s).place; mark = pos (stable_place s.stable) -ℤ pos 1; end = stable_place s.stable } in
               let one : headed sum first ≡ h = sym (λ i. record { place = (is.0 ∙ begin) i; bytes = (is.1 ∙ (λ j. short_header sum (pos (begin j)) (pos (stable j) -ℤ pos 1))) i }) in
               subst (λ (x : HeadAt). Contains (headed sum first ∷ []) x) one (in_first (headed sum first) []);
-          filled = λ f there. absurd (in_nothing f (subst (λ (l : List FillingAt). Contains l f) (ap fillings_of taken ∙ c.in-Ok.ensures.marked.fillings) there));
+          filled = λ f there. absurd (in_nothing f (subst (λ (l : List FillingAt). Contains l f) c.in-Ok.ensures.marked.fillings there));
         };
         ends = subst (λ e. All (λ m. m.place + m.size ≤ e) H.messages) (sym end) at.ends;
       };
-      crash = subst (λ (x : Log _ _). LeavesOnly (RecoverableIfOwn sum size H A f) (trace c.args.config.device) (trace x.config.device)) (sym taken) (c.in-Ok.ensures.crash H A f at.ready);
+      crash = c.in-Ok.ensures.crash H A f at.ready;
       why = tt;
     }
 
@@ -112,6 +122,7 @@ returns-in-Err-clause-starts g c = λ H A f at.
     let starts = c.in-Err.ensures.starts H A f at.ready in
     record {
       log = refl;
+      due = refl;
       at = record {
         made = at.closed.made;
         left = subst (λ n. LeavesRecoverable sum n H A f (state_of (trace c.in-Err.config.device))) (sym (ap (λ x. x.segment_size) c.in-Err.ensures.config.config))

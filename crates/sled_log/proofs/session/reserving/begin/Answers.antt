@@ -1,14 +1,13 @@
 -- A place is kept for the manifest of a batch, or nothing is done but that room is made.
-use Rattle.std.proofs.Common.{◌≡◌, ◌∙◌, Bool, None, ap, if◌then◌else◌, length, refl, subst, sym}
+use Rattle.std.proofs.Common.{◌≡◌, ◌∙◌, Bool, None, if◌then◌else◌, length, refl, subst, sym, Ok, Err}
 use Rattle.sled_codec.specs.declared.serialization.message.LogKind.TheVariants as does
 use Rattle.sled_core.specs.declared.logger.Log.{Log}
-use Rattle.sled_core.specs.Fits.{body_length, fault_of, in_blob_of}
+use Rattle.sled_core.specs.Fits.{body_length, in_blob_of}
 use Rattle.sled_core.specs.Manifests.{kind_for, manifest_page}
 use Rattle.sled_log.specs.RunPhases.{view_by}
 use Rattle.sled_log.specs.TicketSteps.{blank_manifest}
 use Rattle.sled_log.proofs.Sessions.Carried.{begin_does, begin_idle, manifest_inline}
-use Rattle.sled_log.proofs.Sessions.Reserving.{failed_tried, manifest_tried, room_at, room_tried, roomless_tried}
-use Rattle.sled_log.proofs.Sessions.RunLemmas.{on_failure, on_success}
+use Rattle.sled_log.proofs.Sessions.Reserving.{came_pinned, failed_tried, given_tried, manifest_tried, pin_taken, room_at, room_tried, roomless_tried, went_back}
 use Rattle.sled_log.proofs.session.reserving.begin.Goals as goal
 
 -- a manifest is written, with its item in its record
@@ -16,30 +15,27 @@ manifest_written : {D C : Type 0} (log : Log D C) → kind_for does.Skip manifes
 manifest_written log = subst (λ (b : Bool). kind_for does.Skip manifest_page b (if b then 8 else length blank_manifest) ≡ None → ⊥) (sym (manifest_inline log)) (λ none. cc)
 
 -- Without room for a ticket nothing is done.
-pub returns-then-is_err-clause-step : goal.returns-then-is_err-clause-step
-returns-then-is_err-clause-step g c = λ k at asked.
+pub returns-in-Err-clause-step : goal.returns-in-Err-clause-step
+returns-in-Err-clause-step g c = λ none k at asked.
     let view = view_by g.D.Device.trace g.D.Device.faults g.D.CrashDevice.is_stopped in
     let sum = g.C.Checksum.sum_of in
     let old = c.args.opened.now in
     let mid = c.room_for_ticket.new.opened in
     begin_does view sum old k mid _
-    (roomless_tried view sum old mid does.Skip manifest_page blank_manifest k c.room_for_ticket.ensures.room (on_failure c.room_for_ticket.result _ (sym c.is_err.ensures.value ∙ c.if-is_err.true) c.room_for_ticket.ensures.whole) at)
-
-pub hold_manifest-requires : goal.hold_manifest-requires
-hold_manifest-requires g c =
-    on_success c.room_for_ticket.result _ (sym c.is_err.ensures.value ∙ c.if-is_err.false) c.room_for_ticket.ensures.enough (sym (ap (λ x. fault_of x) c.room_for_ticket.ensures.room.log) ∙ c.in-Ok.ensures.answers.0.0)
+    (roomless_tried _ view sum old mid does.Skip manifest_page blank_manifest k c.in-Err.e c.room_for_ticket.ensures.room c.in-Err.ensures.whole at)
 
 -- The place that the log kept has a ticket.
 pub returns-in-Ok-clause-step : goal.returns-in-Ok-clause-step
-returns-in-Ok-clause-step g c = λ k at asked.
+returns-in-Ok-clause-step g c = λ none k at asked.
+    let trace = g.D.Device.trace in
     let view = view_by g.D.Device.trace g.D.Device.faults g.D.CrashDevice.is_stopped in
     let sum = g.C.Checksum.sum_of in
     let old = c.args.opened.now in
     let mid = c.room_for_ticket.new.opened in
+    let log = c.reserve.new.self in
     let room = c.room_for_ticket.ensures.room in
-    begin_does view sum old k c.hold_manifest.new.opened c.hold_manifest.result
-    (room_tried view sum old mid c.hold_manifest.new.opened does.Skip manifest_page blank_manifest c.hold_manifest.result k room
-    (manifest_tried view sum mid c.hold_manifest.new.opened c.reserve.new.self does.Skip manifest_page blank_manifest c.in-Ok.reservation c.hold_manifest.result k
+    let taken = c.pin-guard.ensures.taken in
+    let came = came_pinned trace g.D.Device.faults sum (Ok c.in-Ok.reservation) does.Skip manifest_page blank_manifest mid.log c.pin-guard.new.self log taken
     (record {
       ticket = c.in-Ok.ensures.ticket;
       stored = c.in-Ok.ensures.stored;
@@ -52,20 +48,27 @@ returns-in-Ok-clause-step g c = λ k at asked.
       keeps = c.reserve.ensures.keeps;
       seen = c.reserve.ensures.seen;
       left = tt;
-    })
-    c.hold_manifest.ensures (room_at _ sum old mid k room at) refl refl (manifest_inline mid.log) (begin_idle view sum old k asked)))
+    }) in
+    begin_does view sum old k c.hold_manifest.new.opened c.hold_manifest.result
+    (room_tried view sum old mid c.hold_manifest.new.opened does.Skip manifest_page blank_manifest c.hold_manifest.result k room
+    (manifest_tried view sum mid c.hold_manifest.new.opened log does.Skip manifest_page blank_manifest c.in-Ok.reservation c.pin-guard.result c.hold_manifest.result k
+    (pin_taken trace sum mid.log c.pin-guard.new.self taken c.pin-guard.ensures.keeps) came came.behind.machine
+    c.hold_manifest.ensures (room.due ∙ none) (room_at _ sum old mid k room at) refl refl (manifest_inline mid.log) (begin_idle view sum old k asked)))
 
--- A log that kept no place is as it was.
-pub returns-in-Err-clause-step : goal.returns-in-Err-clause-step
-returns-in-Err-clause-step g c = λ k at asked.
+-- A log that kept no place is as it was, and the pin went back.
+pub returns-in-Err-reserve-clause-step : goal.returns-in-Err-reserve-clause-step
+returns-in-Err-reserve-clause-step g c = λ none k at asked.
+    let trace = g.D.Device.trace in
     let view = view_by g.D.Device.trace g.D.Device.faults g.D.CrashDevice.is_stopped in
     let sum = g.C.Checksum.sum_of in
     let old = c.args.opened.now in
     let mid = c.room_for_ticket.new.opened in
+    let log = c.reserve.new.self in
     let room = c.room_for_ticket.ensures.room in
-    begin_does view sum old k _ _
-    (room_tried view sum old mid _ does.Skip manifest_page blank_manifest _ k room
-    (failed_tried view sum mid c.reserve.new.self does.Skip manifest_page blank_manifest k (room_at _ sum old mid k room at) c.in-Err.e (manifest_written mid.log)
+    let e = c.in-Err-reserve.e in
+    let gives = c.give_back.ensures in
+    let taken = c.pin-guard.ensures.taken in
+    let came = came_pinned trace g.D.Device.faults sum (Err e) does.Skip manifest_page blank_manifest mid.log c.pin-guard.new.self log taken
     (record {
       ticket = tt;
       stored = tt;
@@ -73,9 +76,14 @@ returns-in-Err-clause-step g c = λ k at asked.
       own = tt;
       behind = tt;
       others = c.reserve.ensures.others;
-      answers = c.in-Err.ensures.answers;
-      device = c.in-Err.ensures.device;
+      answers = c.in-Err-reserve.ensures.answers;
+      device = c.in-Err-reserve.ensures.device;
       keeps = c.reserve.ensures.keeps;
       seen = c.reserve.ensures.seen;
-      left = c.in-Err.ensures.left;
-    })))
+      left = c.in-Err-reserve.ensures.left;
+    }) in
+    let made = went_back trace sum mid c.give_back.new.opened log e c.give_back.result gives (pin_taken trace sum mid.log c.pin-guard.new.self taken c.pin-guard.ensures.keeps) came.keeps came.seen in
+    begin_does view sum old k _ _
+    (room_tried view sum old mid c.give_back.new.opened does.Skip manifest_page blank_manifest c.give_back.result k room
+    (given_tried view sum mid c.give_back.new.opened log does.Skip manifest_page blank_manifest k e c.give_back.result gives
+    (failed_tried view sum mid log does.Skip manifest_page blank_manifest k (room.due ∙ none) (room_at _ sum old mid k room at) made e (manifest_written mid.log) came (λ ready. ready.machine))))

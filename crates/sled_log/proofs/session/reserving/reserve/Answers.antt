@@ -1,40 +1,33 @@
 -- A place is kept for a message, or nothing is done but that room is made.
-use Rattle.std.proofs.Common.{◌∙◌, length, sym}
-use Rattle.sled_core.specs.Fits.{body_length, in_blob_of}
+use Rattle.std.proofs.Common.{◌≡◌, ◌∙◌, length, subst, Ok, Err}
+use Rattle.sled_core.specs.Fits.{body_length, in_blob_of, machine_at}
 use Rattle.sled_log.specs.RunPhases.{view_by}
-use Rattle.sled_log.proofs.Sessions.Reserving.{enough, failed_tried, held_tried, kind_some, none_inline, noted_page, room_at, room_may, room_tried, roomless_tried}
-use Rattle.sled_log.proofs.Sessions.RunLemmas.{on_failure}
+use Rattle.sled_log.proofs.Sessions.KeptPlaces.{slots_behind}
+use Rattle.sled_log.proofs.Sessions.Reserving.{came_pinned, failed_tried, given_tried, held_tried, kind_some, none_inline, noted_page, pin_taken, room_at, room_may, room_tried, roomless_tried, went_back}
 use Rattle.sled_log.proofs.session.reserving.reserve.Goals as goal
 
 -- Without room for a ticket nothing is done.
-pub returns-then-is_err-clause-step : goal.returns-then-is_err-clause-step
-returns-then-is_err-clause-step g c = λ k at may.
-    roomless_tried (view_by g.D.Device.trace g.D.Device.faults g.D.CrashDevice.is_stopped) g.C.Checksum.sum_of c.args.opened.now c.room_for.new.opened c.args.kind c.args.page
-    (g.T.Serialize.short (g.T.Serialize.meaning c.args.item.now)) k c.room_for.ensures.room (on_failure c.room_for.result _ (sym c.is_err.ensures.value ∙ c.if-is_err.true) c.room_for.ensures.whole) at
-
-pub hold-requires-clause-room : goal.hold-requires-clause-room
-hold-requires-clause-room g c =
-    (enough c.room_for.result c.args.opened.now c.room_for.new.opened _ (sym c.is_err.ensures.value ∙ c.if-is_err.false) c.room_for.ensures.enough c.room_for.ensures.room.log c.in-Ok.ensures.answers.0.0).0
-
-pub hold-requires-clause-page : goal.hold-requires-clause-page
-hold-requires-clause-page g c =
-    (enough c.room_for.result c.args.opened.now c.room_for.new.opened _ (sym c.is_err.ensures.value ∙ c.if-is_err.false) c.room_for.ensures.enough c.room_for.ensures.room.log c.in-Ok.ensures.answers.0.0).1
+pub returns-in-Err-clause-step : goal.returns-in-Err-clause-step
+returns-in-Err-clause-step g c = λ none k at may.
+    roomless_tried _ (view_by g.D.Device.trace g.D.Device.faults g.D.CrashDevice.is_stopped) g.C.Checksum.sum_of c.args.opened.now c.room_for.new.opened c.args.kind c.args.page
+    (g.T.Serialize.short (g.T.Serialize.meaning c.args.item.now)) k c.in-Err.e c.room_for.ensures.room c.in-Err.ensures.whole at
 
 pub hold-requires-clause-message : goal.hold-requires-clause-message
-hold-requires-clause-message g c = noted_page c.room_for.new.opened.busy c.args.page
-    (enough c.room_for.result c.args.opened.now c.room_for.new.opened _ (sym c.is_err.ensures.value ∙ c.if-is_err.false) c.room_for.ensures.enough c.room_for.ensures.room.log c.in-Ok.ensures.answers.0.0).1
+hold-requires-clause-message g c = noted_page c.room_for.new.opened.busy c.args.page c.in_default.ensures.enough.2
 
 -- The place that the log kept has a ticket.
 pub returns-in-Ok-clause-step : goal.returns-in-Ok-clause-step
-returns-in-Ok-clause-step g c = λ k at may.
+returns-in-Ok-clause-step g c = λ none k at may.
+    let trace = g.D.Device.trace in
     let view = view_by g.D.Device.trace g.D.Device.faults g.D.CrashDevice.is_stopped in
     let sum = g.C.Checksum.sum_of in
     let bytes = g.T.Serialize.short (g.T.Serialize.meaning c.args.item.now) in
     let old = c.args.opened.now in
     let mid = c.room_for.new.opened in
+    let log = c.reserve.new.self in
     let room = c.room_for.ensures.room in
-    room_tried view sum old mid c.hold.new.opened c.args.kind c.args.page bytes c.hold.result k room
-    (held_tried view sum mid c.hold.new.opened c.reserve.new.self c.args.kind c.args.page bytes c.in-Ok.reservation c.hold.result k
+    let taken = c.pin-guard.ensures.taken in
+    let came = came_pinned trace g.D.Device.faults sum (Ok c.in-Ok.reservation) c.args.kind c.args.page bytes mid.log c.pin-guard.new.self log taken
     (record {
       ticket = c.in-Ok.ensures.ticket;
       stored = c.in-Ok.ensures.stored;
@@ -47,24 +40,31 @@ returns-in-Ok-clause-step g c = λ k at may.
       keeps = c.reserve.ensures.keeps;
       seen = c.reserve.ensures.seen;
       left = tt;
-    })
-    c.hold.ensures.held (room_at _ sum old mid k room at) c.requires.kind
-    (enough c.room_for.result old mid _ (sym c.is_err.ensures.value ∙ c.if-is_err.false) c.room_for.ensures.enough room.log c.in-Ok.ensures.answers.0.0).1
-    (hold-requires-clause-message g c.before)
+    }) in
+    let slots = came.behind.machine in
+    room_tried view sum old mid c.hold.new.opened c.args.kind c.args.page bytes c.hold.result k room
+    (held_tried view sum mid c.hold.new.opened log c.args.kind c.args.page bytes c.in-Ok.reservation c.pin-guard.result c.hold.result k
+    (pin_taken trace sum mid.log c.pin-guard.new.self taken c.pin-guard.ensures.keeps) came slots
+    c.hold.ensures.held (room.due ∙ none) (room_at _ sum old mid k room at) c.requires.kind
+    c.in_default.ensures.enough.2 (hold-requires-clause-message g c.before)
     (room_may old mid k c.args.kind c.args.page room may))
 
--- A log that kept no place is as it was, or ready for a record that it has none of.
-pub returns-in-Err-clause-step : goal.returns-in-Err-clause-step
-returns-in-Err-clause-step g c = λ k at may.
+-- A log that kept no place is as it was, or ready for a record that it has none of, and the pin went back.
+pub returns-in-Err-reserve-clause-step : goal.returns-in-Err-reserve-clause-step
+returns-in-Err-reserve-clause-step g c = λ none k at may.
+    let trace = g.D.Device.trace in
     let view = view_by g.D.Device.trace g.D.Device.faults g.D.CrashDevice.is_stopped in
     let sum = g.C.Checksum.sum_of in
     let bytes = g.T.Serialize.short (g.T.Serialize.meaning c.args.item.now) in
     let old = c.args.opened.now in
     let mid = c.room_for.new.opened in
+    let log = c.reserve.new.self in
     let room = c.room_for.ensures.room in
+    let e = c.in-Err-reserve.e in
+    let gives = c.give_back.ensures in
+    let taken = c.pin-guard.ensures.taken in
     let written = kind_some c.args.kind c.args.page (body_length mid.log (length bytes)) (in_blob_of mid.log (length bytes)) c.requires.kind (λ is. none_inline mid.log bytes (c.requires.plain is)) in
-    room_tried view sum old mid _ c.args.kind c.args.page bytes _ k room
-    (failed_tried view sum mid c.reserve.new.self c.args.kind c.args.page bytes k (room_at _ sum old mid k room at) c.in-Err.e written
+    let came = came_pinned trace g.D.Device.faults sum (Err e) c.args.kind c.args.page bytes mid.log c.pin-guard.new.self log taken
     (record {
       ticket = tt;
       stored = tt;
@@ -72,9 +72,13 @@ returns-in-Err-clause-step g c = λ k at may.
       own = tt;
       behind = tt;
       others = c.reserve.ensures.others;
-      answers = c.in-Err.ensures.answers;
-      device = c.in-Err.ensures.device;
+      answers = c.in-Err-reserve.ensures.answers;
+      device = c.in-Err-reserve.ensures.device;
       keeps = c.reserve.ensures.keeps;
       seen = c.reserve.ensures.seen;
-      left = c.in-Err.ensures.left;
-    }))
+      left = c.in-Err-reserve.ensures.left;
+    }) in
+    let made = went_back trace sum mid c.give_back.new.opened log e c.give_back.result gives (pin_taken trace sum mid.log c.pin-guard.new.self taken c.pin-guard.ensures.keeps) came.keeps came.seen in
+    room_tried view sum old mid c.give_back.new.opened c.args.kind c.args.page bytes c.give_back.result k room
+    (given_tried view sum mid c.give_back.new.opened log c.args.kind c.args.page bytes k e c.give_back.result gives
+    (failed_tried view sum mid log c.args.kind c.args.page bytes k (room.due ∙ none) (room_at _ sum old mid k room at) made e written came (λ ready. ready.machine)))

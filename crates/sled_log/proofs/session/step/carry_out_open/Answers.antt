@@ -1,125 +1,46 @@
--- Each command is carried out by a function of its own.
-use Rattle.std.proofs.Common.{SFits, rules, ◌≡◌, refl, sym, ap, subst, Bool, None, Some}
-use Rattle.std.specs.Int.{w64}
-use Rattle.std.proofs.lemmas.Int.{to_z-of_z}
-use Rattle.sled_core.specs.Fits.{config_of}
-use Rattle.sled_log.specs.declared.session.Phase.TheVariants as phase
-use Rattle.sled_log.specs.declared.session.opened.Opened.{Opened}
-use Rattle.sled_log.specs.declared.session.command.Command.{Command}
-use Rattle.sled_log.specs.declared.session.command.Command.TheVariants as command
-use Rattle.sled_log.specs.declared.session.command.Refusal.{Refusal}
-use Rattle.sled_log.specs.declared.session.command.Refusal.TheVariants as why
-use Rattle.sled_log.specs.declared.session.command.Reply.{Reply}
+-- What calls the log makes the mark first that is due, and is carried out then; where memory for that is refused it is postponed.
+use Rattle.std.proofs.Common.{◌∙◌, sym}
 use Rattle.sled_log.specs.declared.session.command.Reply.TheVariants as reply
-use Rattle.sled_log.specs.Refusals.{when}
-use Rattle.sled_log.specs.RunPhases.{CarriesOut, RunsOn, view_by}
-use Rattle.sled_log.proofs.Sessions.Carried.{free_does, free_may, link_does, link_may, passes, replace_does, replace_may}
-use Rattle.sled_log.proofs.Sessions.RunLemmas.{carried, halted, runs_on_same}
-use Rattle.sled_log.specs.Devices.{TouchesIn}
-use Rattle.sled_log.proofs.Sessions.DeviceLemmas.{goes_on, halts, touched, touched_open, went_on}
-use Rattle.sled_log.proofs.session.step.carry_out_open.Goals.{in-Replace, in-Link, in-Free, in-Rewrite, in-BeginBatch, in-EndBatch, in-Complete, in-Abort, in-Write, in-Flush, in-Stable, in-Read, in-Stop, in-Open}
+use Rattle.sled_log.specs.RunPhases.{view_by}
+use Rattle.sled_log.proofs.Sessions.DeviceLemmas.{went_on}
+use Rattle.sled_log.proofs.Sessions.DueFirst.{carried_plain, due_first, due_touches, not_false, not_true, postponed}
+use Rattle.sled_log.proofs.Sessions.RunLemmas.{runs_on_both}
 use Rattle.sled_log.proofs.session.step.carry_out_open.Goals as goal
 
--- an opening is refused while a log is open
-never_open : (b : Bool) (w v : Refusal) → when b w (Some v) ≡ None → ⊥
-never_open b w v free = let some = (passes b w (Some v) free).1 in cc
-
-pub returns-in-Halt-clause-step : goal.returns-in-Halt-clause-step
-returns-in-Halt-clause-step g c =
+-- What doesn't call the log is carried out as it is.
+pub returns-then-not-calls_log-clause-step : goal.returns-then-not-calls_log-clause-step
+returns-then-not-calls_log-clause-step g c =
     let view = view_by g.D.Device.trace g.D.Device.faults g.D.CrashDevice.is_stopped in
-    carried view g.C.Checksum.sum_of (phase.Open c.args.opened) command.Halt c.args.command.now (phase.Closed c.halt.result, reply.Halted) c.in-Halt.is (halted view g.C.Checksum.sum_of c.args.opened c.halt.result c.halt.ensures)
+    carried_plain view g.C.Checksum.sum_of c.args.opened c.args.command.now c.carry_out_marked.result
+    (sym c.calls_log.ensures ∙ not_true c.calls_log.result c.if-not-calls_log.true) c.carry_out_marked.ensures.step
 
-pub returns-in-Crash-clause-step : goal.returns-in-Crash-clause-step
-returns-in-Crash-clause-step g c =
+-- The mark was made.
+pub returns-in-Ok-clause-step : goal.returns-in-Ok-clause-step
+returns-in-Ok-clause-step g c =
     let view = view_by g.D.Device.trace g.D.Device.faults g.D.CrashDevice.is_stopped in
-    carried view g.C.Checksum.sum_of (phase.Open c.args.opened) (command.Crash c.in-Crash.choice) c.args.command.now c.crash_open.result c.in-Crash.is c.crash_open.ensures.step
+    due_first view g.C.Checksum.sum_of c.args.opened c.make_due.new.opened c.args.command.now (sym c.calls_log.ensures ∙ not_false c.calls_log.result c.if-not-calls_log.false)
+    c.in-Ok.ensures.same c.carry_out_marked-in-Ok.result
+    (λ k at. (let made = c.in-Ok.ensures.makes k at in (made.at, made.none, made.made))) c.carry_out_marked-in-Ok.ensures.step
 
-pub returns-clause-step : goal.returns-clause-step
-returns-clause-step g c =
+-- Memory for it was refused.
+pub returns-in-Err-clause-step : goal.returns-in-Err-clause-step
+returns-in-Err-clause-step g c =
     let view = view_by g.D.Device.trace g.D.Device.faults g.D.CrashDevice.is_stopped in
-    let sum = g.C.Checksum.sum_of in
-    let old = c.args.opened in
-    let cmd : Command = c.args.command.now in
-    let Goal : Opened g.row.D.Denot g.row.C.Denot → Reply → Type 0 = λ o r. CarriesOut view sum (phase.Open old) cmd (phase.Open o, r) in
-    let put : (o : Opened g.row.D.Denot g.row.C.Denot) (r : Reply) → c.match-command.opened ≡ o → c.match-command.reply ≡ r → Goal o r → Goal c.match-command.opened c.match-command.reply =
-    λ o r opened_is reply_is done. subst (λ x. Goal x c.match-command.reply) (sym opened_is) (subst (Goal o) (sym reply_is) done) in
-    elim c.match-command.branch [
-      | in-Complete w ↦ put w.complete-reply.new.opened w.complete-reply.result w.opened-is w.reply-is (carried view sum (phase.Open old) (command.Complete w.in-Complete.number) cmd (phase.Open w.complete-reply.new.opened, w.complete-reply.result) w.in-Complete.is w.complete-reply.ensures.step)
-      | in-BeginBatch w ↦ put w.begin-reply.new.opened w.begin-reply.result w.opened-is w.reply-is (carried view sum (phase.Open old) command.BeginBatch cmd (phase.Open w.begin-reply.new.opened, w.begin-reply.result) w.in-BeginBatch.is w.begin-reply.ensures.step)
-      | in-EndBatch w ↦ put w.end-reply.new.opened w.end-reply.result w.opened-is w.reply-is (carried view sum (phase.Open old) command.EndBatch cmd (phase.Open w.end-reply.new.opened, w.end-reply.result) w.in-EndBatch.is w.end-reply.ensures.step)
-      | in-Abort w ↦ put w.abort-reply.new.opened w.abort-reply.result w.opened-is w.reply-is (carried view sum (phase.Open old) (command.Abort w.in-Abort.number) cmd (phase.Open w.abort-reply.new.opened, w.abort-reply.result) w.in-Abort.is w.abort-reply.ensures.step)
-      | in-Write w ↦ put w.write-reply.new.opened w.write-reply.result w.opened-is w.reply-is (carried view sum (phase.Open old) (command.Write w.in-Write.i) cmd (phase.Open w.write-reply.new.opened, w.write-reply.result) w.in-Write.is w.write-reply.ensures.step)
-      | in-Flush w ↦ put w.flush-reply.new.opened w.flush-reply.result w.opened-is w.reply-is (carried view sum (phase.Open old) command.Flush cmd (phase.Open w.flush-reply.new.opened, w.flush-reply.result) w.in-Flush.is w.flush-reply.ensures.step)
-      | in-Stable w ↦ (
-          let fits : SFits w64 w.in-Stable.place = search rules in
-          put w.stabilize-reply.new.opened w.stabilize-reply.result w.opened-is w.reply-is (carried view sum (phase.Open old) (command.Stable w.in-Stable.place) cmd (phase.Open w.stabilize-reply.new.opened, w.stabilize-reply.result) w.in-Stable.is
-          (subst (λ z. CarriesOut view sum (phase.Open old) (command.Stable z) (phase.Open w.stabilize-reply.new.opened, w.stabilize-reply.result)) (to_z-of_z w64 w.in-Stable.place fits) w.stabilize-reply.ensures.step)))
-      | in-Read w ↦ put w.read-reply.new.opened w.read-reply.result w.opened-is w.reply-is (carried view sum (phase.Open old) (command.Read w.in-Read.page) cmd (phase.Open w.read-reply.new.opened, w.read-reply.result) w.in-Read.is w.read-reply.ensures.step)
-      | in-Stop w ↦ put w.stop_open-reply.new.opened w.stop_open-reply.result w.opened-is w.reply-is (carried view sum (phase.Open old) (command.Stop w.in-Stop.n) cmd (phase.Open w.stop_open-reply.new.opened, w.stop_open-reply.result) w.in-Stop.is w.stop_open-reply.ensures.step)
-      | in-Replace w ↦ put w.reserve-reply.new.opened w.reserve-reply.result w.opened-is w.reply-is (carried view sum (phase.Open old) (command.Replace w.in-Replace.page w.in-Replace.item) cmd (phase.Open w.reserve-reply.new.opened, w.reserve-reply.result) w.in-Replace.is
-          (λ k at free. replace_does view sum old k w.in-Replace.page w.reserve-reply.new.opened w.reserve-reply.result w.in-Replace.item (w.reserve-reply.ensures.step k at (replace_may view sum old k w.in-Replace.page w.in-Replace.item free))))
-      | in-Rewrite w ↦ put w.rewrite-reply.new.opened w.rewrite-reply.result w.opened-is w.reply-is (carried view sum (phase.Open old) (command.Rewrite w.in-Rewrite.page) cmd (phase.Open w.rewrite-reply.new.opened, w.rewrite-reply.result) w.in-Rewrite.is w.rewrite-reply.ensures.step)
-      | in-Link w ↦ put w.reserve-reply-in-Link.new.opened w.reserve-reply-in-Link.result w.opened-is w.reply-is (carried view sum (phase.Open old) (command.Link w.in-Link.page w.in-Link.item) cmd (phase.Open w.reserve-reply-in-Link.new.opened, w.reserve-reply-in-Link.result) w.in-Link.is
-          (λ k at free. link_does view sum old k w.in-Link.page w.reserve-reply-in-Link.new.opened w.reserve-reply-in-Link.result w.in-Link.item (w.reserve-reply-in-Link.ensures.step k at (link_may view sum old k w.in-Link.page w.in-Link.item free))))
-      | in-Free w ↦ put w.reserve-reply-in-Free.new.opened w.reserve-reply-in-Free.result w.opened-is w.reply-is (carried view sum (phase.Open old) (command.Free w.in-Free.page) cmd (phase.Open w.reserve-reply-in-Free.new.opened, w.reserve-reply-in-Free.result) w.in-Free.is
-          (λ k at free. free_does view sum old k w.in-Free.page w.reserve-reply-in-Free.new.opened w.reserve-reply-in-Free.result (w.reserve-reply-in-Free.ensures.step k at (free_may view sum old k w.in-Free.page free))))
-      | in-Open w ↦ put old (reply.Refused why.Open) w.opened-is w.reply-is (carried view sum (phase.Open old) command.Open cmd (phase.Open old, reply.Refused why.Open) w.in-Open.is (λ k at free. absurd (never_open _ _ _ free)))
-    ]
+    postponed view g.C.Checksum.sum_of c.args.opened c.make_due.new.opened c.args.command.now (sym c.calls_log.ensures ∙ not_false c.calls_log.result c.if-not-calls_log.false)
+    c.in-Err.ensures.same c.in-Err.e c.in-Err.ensures.err
+    (λ k at. (let made = c.in-Err.ensures.makes k at in (made.at, made.some, made.kept)))
 
-pub returns-clause-on : goal.returns-clause-on
-returns-clause-on g c =
-    let old = c.args.opened in
-    let Goes : Opened g.row.D.Denot g.row.C.Denot → Type 0 = λ o. RunsOn g.D.Device.trace (config_of old.log) (config_of o.log) in
-    elim c.match-command.branch [
-      | in-Complete w ↦ subst Goes (sym w.opened-is) w.complete-reply.ensures.on
-      | in-BeginBatch w ↦ subst Goes (sym w.opened-is) w.begin-reply.ensures.on
-      | in-EndBatch w ↦ subst Goes (sym w.opened-is) w.end-reply.ensures.on
-      | in-Abort w ↦ subst Goes (sym w.opened-is) w.abort-reply.ensures.on
-      | in-Write w ↦ subst Goes (sym w.opened-is) w.write-reply.ensures.on
-      | in-Flush w ↦ subst Goes (sym w.opened-is) w.flush-reply.ensures.on
-      | in-Stable w ↦ subst Goes (sym w.opened-is) w.stabilize-reply.ensures.on
-      | in-Read w ↦ subst Goes (sym w.opened-is) w.read-reply.ensures.on
-      | in-Stop w ↦ subst Goes (sym w.opened-is) w.stop_open-reply.ensures.on
-      | in-Replace w ↦ subst Goes (sym w.opened-is) w.reserve-reply.ensures.on
-      | in-Rewrite w ↦ subst Goes (sym w.opened-is) w.rewrite-reply.ensures.on
-      | in-Link w ↦ subst Goes (sym w.opened-is) w.reserve-reply-in-Link.ensures.on
-      | in-Free w ↦ subst Goes (sym w.opened-is) w.reserve-reply-in-Free.ensures.on
-      | in-Open w ↦ subst Goes (sym w.opened-is) (runs_on_same g.D.Device.trace (config_of old.log) (config_of old.log) refl)
-    ]
-
--- What each does to the device.
-pub returns-in-Halt-clause-device : goal.returns-in-Halt-clause-device
-returns-in-Halt-clause-device g c =
+pub returns-in-Ok-clause-device : goal.returns-in-Ok-clause-device
+returns-in-Ok-clause-device g c =
     let view = view_by g.D.Device.trace g.D.Device.faults g.D.CrashDevice.is_stopped in
-    touched view g.C.Checksum.sum_of (phase.Open c.args.opened) command.Halt c.args.command.now (phase.Closed c.halt.result) reply.Halted c.in-Halt.is (halts view g.C.Checksum.sum_of c.args.opened c.halt.result c.halt.ensures)
+    due_touches view g.C.Checksum.sum_of c.args.opened c.make_due.new.opened c.args.command.now (sym c.calls_log.ensures ∙ not_false c.calls_log.result c.if-not-calls_log.false)
+    c.in-Ok.ensures.same c.carry_out_marked-in-Ok.result.0 c.carry_out_marked-in-Ok.result.1 c.carry_out_marked-in-Ok.ensures.device
 
-pub returns-in-Crash-clause-device : goal.returns-in-Crash-clause-device
-returns-in-Crash-clause-device g c =
+pub returns-in-Err-clause-device : goal.returns-in-Err-clause-device
+returns-in-Err-clause-device g c =
     let view = view_by g.D.Device.trace g.D.Device.faults g.D.CrashDevice.is_stopped in
-    touched view g.C.Checksum.sum_of (phase.Open c.args.opened) (command.Crash c.in-Crash.choice) c.args.command.now c.crash_open.result.0 c.crash_open.result.1 c.in-Crash.is c.crash_open.ensures.device
+    went_on view g.C.Checksum.sum_of c.args.opened c.make_due.new.opened c.args.command.now (reply.Failed c.in-Err.e)
+    (sym c.calls_log.ensures ∙ not_false c.calls_log.result c.if-not-calls_log.false) c.in-Err.ensures.on
 
-pub returns-clause-device : goal.returns-clause-device
-returns-clause-device g c =
-    let view = view_by g.D.Device.trace g.D.Device.faults g.D.CrashDevice.is_stopped in
-    let sum = g.C.Checksum.sum_of in
-    let old = c.args.opened in
-    let cmd : Command = c.args.command.now in
-    let Goal : Opened g.row.D.Denot g.row.C.Denot → Reply → Type 0 = λ o r. TouchesIn view sum (phase.Open old) cmd (phase.Open o) r in
-    let put : (o : Opened g.row.D.Denot g.row.C.Denot) (r : Reply) → c.match-command.opened ≡ o → c.match-command.reply ≡ r → Goal o r → Goal c.match-command.opened c.match-command.reply =
-    λ o r opened_is reply_is done. subst (λ x. Goal x c.match-command.reply) (sym opened_is) (subst (Goal o) (sym reply_is) done) in
-    elim c.match-command.branch [
-      | in-Complete w ↦ put w.complete-reply.new.opened w.complete-reply.result w.opened-is w.reply-is (went_on view sum old w.complete-reply.new.opened cmd w.complete-reply.result (ap goes_on w.in-Complete.is) w.complete-reply.ensures.on)
-      | in-BeginBatch w ↦ put w.begin-reply.new.opened w.begin-reply.result w.opened-is w.reply-is (went_on view sum old w.begin-reply.new.opened cmd w.begin-reply.result (ap goes_on w.in-BeginBatch.is) w.begin-reply.ensures.on)
-      | in-EndBatch w ↦ put w.end-reply.new.opened w.end-reply.result w.opened-is w.reply-is (went_on view sum old w.end-reply.new.opened cmd w.end-reply.result (ap goes_on w.in-EndBatch.is) w.end-reply.ensures.on)
-      | in-Abort w ↦ put w.abort-reply.new.opened w.abort-reply.result w.opened-is w.reply-is (went_on view sum old w.abort-reply.new.opened cmd w.abort-reply.result (ap goes_on w.in-Abort.is) w.abort-reply.ensures.on)
-      | in-Write w ↦ put w.write-reply.new.opened w.write-reply.result w.opened-is w.reply-is (went_on view sum old w.write-reply.new.opened cmd w.write-reply.result (ap goes_on w.in-Write.is) w.write-reply.ensures.on)
-      | in-Flush w ↦ put w.flush-reply.new.opened w.flush-reply.result w.opened-is w.reply-is (went_on view sum old w.flush-reply.new.opened cmd w.flush-reply.result (ap goes_on w.in-Flush.is) w.flush-reply.ensures.on)
-      | in-Stable w ↦ put w.stabilize-reply.new.opened w.stabilize-reply.result w.opened-is w.reply-is (went_on view sum old w.stabilize-reply.new.opened cmd w.stabilize-reply.result (ap goes_on w.in-Stable.is) w.stabilize-reply.ensures.on)
-      | in-Read w ↦ put w.read-reply.new.opened w.read-reply.result w.opened-is w.reply-is (went_on view sum old w.read-reply.new.opened cmd w.read-reply.result (ap goes_on w.in-Read.is) w.read-reply.ensures.on)
-      | in-Replace w ↦ put w.reserve-reply.new.opened w.reserve-reply.result w.opened-is w.reply-is (went_on view sum old w.reserve-reply.new.opened cmd w.reserve-reply.result (ap goes_on w.in-Replace.is) w.reserve-reply.ensures.on)
-      | in-Rewrite w ↦ put w.rewrite-reply.new.opened w.rewrite-reply.result w.opened-is w.reply-is (went_on view sum old w.rewrite-reply.new.opened cmd w.rewrite-reply.result (ap goes_on w.in-Rewrite.is) w.rewrite-reply.ensures.on)
-      | in-Link w ↦ put w.reserve-reply-in-Link.new.opened w.reserve-reply-in-Link.result w.opened-is w.reply-is (went_on view sum old w.reserve-reply-in-Link.new.opened cmd w.reserve-reply-in-Link.result (ap goes_on w.in-Link.is) w.reserve-reply-in-Link.ensures.on)
-      | in-Free w ↦ put w.reserve-reply-in-Free.new.opened w.reserve-reply-in-Free.result w.opened-is w.reply-is (went_on view sum old w.reserve-reply-in-Free.new.opened cmd w.reserve-reply-in-Free.result (ap goes_on w.in-Free.is) w.reserve-reply-in-Free.ensures.on)
-      | in-Stop w ↦ put w.stop_open-reply.new.opened w.stop_open-reply.result w.opened-is w.reply-is (touched view sum (phase.Open old) (command.Stop w.in-Stop.n) cmd (phase.Open w.stop_open-reply.new.opened) w.stop_open-reply.result w.in-Stop.is w.stop_open-reply.ensures.device)
-      | in-Open w ↦ put old (reply.Refused why.Open) w.opened-is w.reply-is (touched view sum (phase.Open old) command.Open cmd (phase.Open old) (reply.Refused why.Open) w.in-Open.is (touched_open view sum old))
-    ]
+pub returns-in-Ok-clause-on : goal.returns-in-Ok-clause-on
+returns-in-Ok-clause-on g c = runs_on_both g.D.Device.trace _ _ _ c.in-Ok.ensures.on c.carry_out_marked-in-Ok.ensures.on

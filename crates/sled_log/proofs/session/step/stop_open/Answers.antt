@@ -1,9 +1,11 @@
 -- The device of a log is to be stopped, and nothing else is another.
-use Rattle.std.proofs.Common.{refl, sym, ◌∙◌, length, Some}
+use Rattle.std.proofs.Common.{refl, ◌∙◌, length, Some}
 use Rattle.sled_core.specs.Waiting.{spans}
-use Rattle.sled_log.specs.RunPhases.{view_by}
+use Rattle.sled_log.specs.RunPhases.{shown_due, view_by}
 use Rattle.sled_log.proofs.Sessions.Carried.{asked_going}
-use Rattle.sled_log.proofs.Sessions.Writing.{still_with}
+use Rattle.sled_log.proofs.Sessions.KeptPlaces.{over_log}
+use Rattle.sled_log.proofs.Sessions.PinsTaken.{unmarked_kept}
+use Rattle.sled_log.proofs.Sessions.Reserving.{still_at, still_over}
 use Rattle.sled_log.proofs.Sessions.Within.{going_on}
 use Rattle.sled_log.proofs.session.step.stop_open.Goals as goal
 use Rattle.sled_log.proofs.Sessions.BegunHeads.{heads_left, other_same}
@@ -11,6 +13,7 @@ use Rattle.sled_log.proofs.Sessions.BegunHeads.{heads_left, other_same}
 pub returns-clause-step : goal.returns-clause-step
 returns-clause-step g c = λ k at free.
     let trace = g.D.Device.trace in
+    let sum = g.C.Checksum.sum_of in
     let view = view_by g.D.Device.trace g.D.Device.faults g.D.CrashDevice.is_stopped in
     let opened = c.args.opened.now in
     let new = c.stop_after.new.self in
@@ -40,12 +43,24 @@ returns-clause-step g c = λ k at free.
             given_up = k.given_up;
             heads = k.heads;
             pins = did.rest.pins i;
+            machine = did.rest.machine i;
             account = did.rest.account i;
           });
+          due = shown_due opened.due;
         }),
       );
-      at = λ own. still_with trace g.C.Checksum.sum_of opened new k k.acknowledged k.heads (heads_left g.C.Checksum.sum_of opened.log new k.heads (other_same opened.log new did.rest.line) at.heads) at did.keeps.tickets did.keeps.position (λ none. sym did.rest.fault ∙ none) did.keeps.preserves (did.keeps.preserves.fits k.history k.acknowledged k.floor at.unmarked at.fits);
-      crash = λ own. going_on trace g.C.Checksum.sum_of opened k at new did.keeps.preserves.goes_on;
+      at = λ own. still_at trace sum opened (over_log opened new) k k.heads (heads_left sum opened.log new k.heads (other_same opened.log new did.rest.line) at.heads)
+          (still_over trace sum opened.log new did.keeps did.rest)
+          (record {
+            pages = refl;
+            tickets = refl;
+            busy = λ p. refl;
+            batch = refl;
+            origin = refl;
+            due = unmarked_kept opened.log new k.history opened.due opened.due refl (λ none. did.rest.fault ∙ none);
+          })
+          at;
+      crash = λ own. going_on trace sum opened k at new did.keeps.preserves.goes_on;
     }
 
 pub returns-clause-device : goal.returns-clause-device
