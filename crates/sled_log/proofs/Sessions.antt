@@ -1,4 +1,3 @@
-pub mod Accounts
 pub mod BegunHeads
 pub mod Carried
 pub mod DeviceLemmas

@@ -86,7 +86,7 @@ abbrev pub heads_at : LogView → BufferStart → List MarkAt
 heads_at l start =
     if nat_lt l.start.place start.place then record { place = start.place; mark = pos (stable_of l) -ℤ pos 1; end = l.end } ∷ l.heads else l.heads
 
--- A mark of a completed message, of this page and known to the log by this, in place of these, which is all that the page was.
+-- A mark of a completed message, of this page and known to the log by this, in place of these: all that the page was, or none, where it is a Link.
 pub record DueMark : Type 0 where
   pub kind : LogKind
   pub page : ℕ

@@ -69,7 +69,7 @@ abbrev pub WhileClean : ℕ → Option LogView → Type 0 → Type 0
 WhileClean floor None P = Unit {0}
 WhileClean floor (Some l) P = l.fault ≡ None → l.account.mark ≤ℤ pos floor → P
 
--- a command calls the log that is open, and could make use of what it frees
+-- a command counts as calling the log that is open
 abbrev pub calls_log : Command → Bool
 calls_log command.Open = false
 calls_log command.Halt = false

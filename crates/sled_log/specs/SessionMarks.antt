@@ -1,4 +1,5 @@
--- The marks of a session: each message is marked once it is completed, in place of all that its page was; and each ticket has its pin until then.
+-- The marks of a session: each message is marked once it is completed, a Link as it is, and what begins its page in place of all that the page was; and each
+-- ticket has its pin until then.
 use Rattle.std.specs.Prelude.{◌≡◌, ◌+◌, ◌-◌, ◌/◌, ℕ, ℤ, pos, true, nat_lt, unsigned_abs, if◌then◌else◌, List, [], ◌∷◌, map, Option, None, Some}
 use Rattle.sled_codec.specs.declared.result.DiskPtr.{DiskPtr}
 use Rattle.sled_codec.specs.declared.serialization.message.LogKind.{LogKind}

@@ -172,9 +172,9 @@ pub record HasWrittenTo (sum : List ℕ → ℕ) (size : ℕ) (a : RunState) (l 
 abbrev pub ledger_after : ℕ → ℕ → LogView → List BufferAt → ℕ → Ledger
 ledger_after size to l bs count = ledger_behind size (take count bs) (ledger_below to l)
 
--- That failed: those that begin below the place are sealed, and so many at the front are written, but not all; or all the same so many, and the accountant's step
--- behind the last of them failed; or it wasn't held up, and none was sealed, nor written, though the current one begins below the place: the device was asked
--- for nothing then, and didn't fail.
+-- That failed: those that begin below the place are sealed, and so many at the front are written, but not all; or so many, perhaps all, and the accountant's
+-- step behind the last of them failed; or it wasn't held up, and none was sealed, nor written, though the current one begins below the place: the device was
+-- asked for nothing then, and didn't fail.
 abbrev pub FailsTo : (List ℕ → ℕ) → ℕ → RunState → LogView → ℕ → Error → DeviceView → RunState → Type 0
 FailsTo sum size a l to e new b =
     Fails l e (holding to l) ((l.start.place < to) × (EndsInReach size l.position → ⊥)) a.device new (λ fault.
@@ -186,7 +186,8 @@ FailsTo sum size a l to e new b =
     × LeavesLog a l new b (drop count (sealed_below to l)) (start_below to l) fault (record { machine = left; account = account }) (position_below size to l))
     ⊎ ((count ≡ 0) × (l.start.place < to) × IfHeld e ⊥ × (b ≡ with_log a new (Some l)) × (fault ≡ None))))
 
--- All that was reserved is written, so all completed messages are on the device: their records are, as the log has them, without the items that blobs have.
+-- All that was reserved is written. From the segment of the mark that joined on all completed messages are on the device, and of those in front of it what the
+-- table needs: their records are, as the log has them, without the items that blobs have.
 pub record HasFlushed (sum : List ℕ → ℕ) (size : ℕ) (a : RunState) (l : LogView) (n : ℕ) (new : DeviceView) (b : RunState) : Type 0 where
   pub written : HasWrittenTo sum size a l l.end n new b
   pub all : All (λ m. m.place + m.size ≤ stable_from l.end l) a.history.messages

@@ -265,7 +265,7 @@ pub record StillHolds {D C : Type 0} (trace : D → Trace) (sum : List ℕ → �
   pub safe : (m : Message) → IsSafe trace sum old m → IsSafe trace sum new m
 
 -- What a session keeps beside its log: its pages, tickets, notes, and what it was opened on; and which messages aren't marked yet.
-pub record KeepsBeside {D C : Type 0} (old new : Opened D C) (H : History) : Type 0 where
+pub record KeepsOpened {D C : Type 0} (old new : Opened D C) (H : History) : Type 0 where
   pub pages : new.pages ≡ old.pages
   pub tickets : new.tickets.items ≡ old.tickets.items
   pub busy : (page : ℕ) → get_or new.busy.items page false ≡ get_or old.busy.items page false
@@ -274,13 +274,13 @@ pub record KeepsBeside {D C : Type 0} (old new : Opened D C) (H : History) : Typ
   pub due : (U : List Message) → AreUnmarked old.log H old.due U → AreUnmarked new.log H new.due U
 
 -- So it does over another log, where no mark is due.
-pub beside_log : {D C : Type 0} (old : Opened D C) (log : Log D C) (H : History) → old.due ≡ None → KeepsBeside old (over_log old log) H
+pub beside_log : {D C : Type 0} (old : Opened D C) (log : Log D C) (H : History) → old.due ≡ None → KeepsOpened old (over_log old log) H
 beside_log old log H none =
     record { pages = refl; tickets = refl; busy = λ p. refl; batch = refl; origin = refl; due = unmarked_none old.log log H old.due old.due refl none }
 
 -- So does a session over it, with the same tickets and pages, with the buffers that were begun.
 pub still_at : {D C : Type 0} (trace : D → Trace) (sum : List ℕ → ℕ) (old new : Opened D C) (k : Unstored) (heads : List MarkAt) → HasHeads sum new.log heads → StillHolds trace sum old.log new.log
-    → KeepsBeside old new k.history → IsOpenAt trace sum old k → IsOpenAt trace sum new (begun_with k heads)
+    → KeepsOpened old new k.history → IsOpenAt trace sum old k → IsOpenAt trace sum new (begun_with k heads)
 still_at trace sum old new k heads among still beside at =
     let up = still.grown in
     record {
@@ -436,7 +436,7 @@ module _ {D C : Type 0} (view : D → DeviceView) (sum : List ℕ → ℕ) (old 
   fits : FitsInline size n
   fits = body_fits old.log (length bytes)
 
-  beside : KeepsBeside old after k.history
+  beside : KeepsOpened old after k.history
   beside = beside_log old back k.history none_due
 
   goes_back : StaysRecoverable sum size a a.device.trace now.trace
@@ -600,7 +600,7 @@ room_at {D} {C} trace sum old new k room at = still_at trace sum old new k k.hea
     safe = λ m. subst (λ x. IsSafe trace sum x m) (sym room.log);
   }
 
-  beside : KeepsBeside old new k.history
+  beside : KeepsOpened old new k.history
   beside = record {
     pages = room.pages;
     tickets = room.tickets;
