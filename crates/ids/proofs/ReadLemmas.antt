@@ -153,6 +153,7 @@ module _ {D C : Type 0} (trace : D → Trace) (sum : List ℕ → ℕ) (lsn : �
   read_keeps result only refuses = by (int_lt lsn (pos (synced_end old))) refl where
     still : new ≡ old → KeepsLog trace sum old new
     still same = subst (λ (l : Log D C). KeepsLog trace sum old l) (sym same) (log_still trace sum old)
+
     by : (b : Bool) → int_lt lsn (pos (synced_end old)) ≡ b → KeepsLog trace sum old new
     by true is = only (below_read lsn (pos (synced_end old)) is)
     by false is =

@@ -305,8 +305,8 @@ module _ {D C : Type 0} (view : D → DeviceView) (sum : List ℕ → ℕ) (old 
       let position : Machine → Position = position_around size at before in
       let from : Ledger = ledger_around at before in
       let some : (count : ℕ) → synced_writes new_view.trace ≡ count + synced_writes old_view.trace
-          → (fault_of new ≡ None → new_view.trace ≡ after_all (writings size (take count (chosen_around before at (sealed_at sum at old))) from) old_view.trace)
-          → WritesSome sum size before ss (chosen_around before at) from count e (fault_of new) old_view new_view =
+      → (fault_of new ≡ None → new_view.trace ≡ after_all (writings size (take count (chosen_around before at (sealed_at sum at old))) from) old_view.trace)
+      → WritesSome sum size before ss (chosen_around before at) from count e (fault_of new) old_view new_view =
       λ count written whole. record {
         buffers = sealed_at sum at old;
         shown = seen_so;

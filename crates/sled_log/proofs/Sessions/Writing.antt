@@ -496,47 +496,46 @@ module _ {D C : Type 0} (log : Log D C) (sum : List ℕ → ℕ) (begun : ℕ) (
                       held = held;
                     },
                     (let below : current_begin log < to = same.due none in
-                    inr (inr (
-                      refl,
-                      below,
-                      not_held e (current_begin log) (current_begin new) to below (ap (λ (x : BufferStart). x.place) same.start) sealed,
-                      left_alone trace new device now H A f due put same.waiting same.start same.fault same.ledger same.position,
-                      same.fault ∙ none,
-                    ))),
+                        inr (inr (
+                          refl,
+                          below,
+                          not_held e (current_begin log) (current_begin new) to below (ap (λ (x : BufferStart). x.place) same.start) sealed,
+                          left_alone trace new device now H A f due put same.waiting same.start same.fault same.ledger same.position,
+                          same.fault ∙ none,
+                        ))),
                   ))
               | inr front ↦ (
-                let left : spans (waiting_of new) ≡ drop front.count (sealed_below to l) = ap spans front.left ∙ drop_seen front.count (sealed_for sum to log) ∙ ap (λ (ss : List Span). drop front.count ss) sealed_seen in
-                let start : start_of new ≡ start_below to l = front.start ∙ start_seen in
-                let lies = lies_below new front.position in
-                let seen = ledger_below_seen log begun tickets given_up heads to in
-                (
-                  front.count,
-                  record {
-                    buffers = its_buffers;
-                    shown = shows_below records;
-                    made = made;
-                    written = ap synced_writes is ∙ front.written ∙ ap (λ (t : Trace). front.count + synced_writes t) (sym was);
-                    whole = λ sound. is ∙ front.whole sound ∙ (λ i. after_all (some_seen front.count i) (sym was i));
-                    held = held;
-                  },
-                  elim front.ledger.1 [
-                    | inl all ↦ (
-                        let behind : ledger_of new ≡ ledger_behind size (take front.count its_buffers) (ledger_for to log) = λ i. record { machine = all.0 i; account = front.ledger.0 i } in
-                        inl (
-                          leaves trace new device now H A f due put A (drop front.count (sealed_below to l)) (start_below to l) (fault_of new) (ledger_after size to l its_buffers front.count) (position_below size to l) left start refl
-                              (behind ∙ ap (ledger_behind size (take front.count its_buffers)) seen) lies,
-                          subst (λ n. n < to) (first_seen new ∙ (λ i. first_waiting (left i) (start i))) all.1,
-                        ))
-                    | inr failed ↦ inr (inl (
-                      failed.1,
-                      account_of new,
-                      front.ledger.0 ∙ ap (λ (x : Ledger). (ledger_behind size (take front.count its_buffers) x).account) seen,
-                      machine_at new,
-                      step_failed log begun tickets given_up heads trace new _ _ now.trace (ap (λ (x : Ledger). (ledger_behind size (take (front.count - 1) its_buffers) x).machine) seen) put.size (sym is) failed.0 failed.2,
-                      leaves trace new device now H A f due put A (drop front.count (sealed_below to l)) (start_below to l) (fault_of new) (record { machine = machine_at new; account = account_of new }) (position_below size to l) left start refl refl lies,
-                    ))
-                  ],
-                ))
+                  let left : spans (waiting_of new) ≡ drop front.count (sealed_below to l) = ap spans front.left ∙ drop_seen front.count (sealed_for sum to log) ∙ ap (λ (ss : List Span). drop front.count ss) sealed_seen in
+                  let start : start_of new ≡ start_below to l = front.start ∙ start_seen in
+                  let lies = lies_below new front.position in
+                  let seen = ledger_below_seen log begun tickets given_up heads to in (
+                    front.count,
+                    record {
+                      buffers = its_buffers;
+                      shown = shows_below records;
+                      made = made;
+                      written = ap synced_writes is ∙ front.written ∙ ap (λ (t : Trace). front.count + synced_writes t) (sym was);
+                      whole = λ sound. is ∙ front.whole sound ∙ (λ i. after_all (some_seen front.count i) (sym was i));
+                      held = held;
+                    },
+                    elim front.ledger.1 [
+                      | inl all ↦ (
+                          let behind : ledger_of new ≡ ledger_behind size (take front.count its_buffers) (ledger_for to log) = λ i. record { machine = all.0 i; account = front.ledger.0 i } in
+                          inl (
+                            leaves trace new device now H A f due put A (drop front.count (sealed_below to l)) (start_below to l) (fault_of new) (ledger_after size to l its_buffers front.count) (position_below size to l) left start refl
+                                (behind ∙ ap (ledger_behind size (take front.count its_buffers)) seen) lies,
+                            subst (λ n. n < to) (first_seen new ∙ (λ i. first_waiting (left i) (start i))) all.1,
+                          ))
+                      | inr failed ↦ inr (inl (
+                        failed.1,
+                        account_of new,
+                        front.ledger.0 ∙ ap (λ (x : Ledger). (ledger_behind size (take front.count its_buffers) x).account) seen,
+                        machine_at new,
+                        step_failed log begun tickets given_up heads trace new _ _ now.trace (ap (λ (x : Ledger). (ledger_behind size (take (front.count - 1) its_buffers) x).machine) seen) put.size (sym is) failed.0 failed.2,
+                        leaves trace new device now H A f due put A (drop front.count (sealed_below to l)) (start_below to l) (fault_of new) (record { machine = machine_at new; account = account_of new }) (position_below size to l) left start refl refl lies,
+                      ))
+                    ],
+                  ))
             ];
           }
 

@@ -45,7 +45,7 @@ page_told ms = by (last_beginning ms) where
 
   begun : (b : Message) (ls : List Message) (r : Bool)
       → map unsized (map told_of (entries_in (if r then Present (entry_of b) (map entry_of (if r then ls else [])) else Free (pos b.place) b.pointer)))
-          ≡ map (λ m. unsized (info_of m)) (b ∷ (if r then ls else []))
+      ≡ map (λ m. unsized (info_of m)) (b ∷ (if r then ls else []))
   begun b ls true = ap (λ (is : List CacheInfo). unsized (info_of b) ∷ is) (links ls)
   begun b ls false = refl
 

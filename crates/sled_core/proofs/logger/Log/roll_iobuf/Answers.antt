@@ -50,7 +50,7 @@ one_rolled : {D C : Type 0} (sum : List ℕ → ℕ) (old new : Log D C) → hol
 one_rolled sum old new any waits start with_slots position same =
     let begun : start_of new ≡ start_rolled old = start ∙ sym (ap (λ (o : Bool). if o then start_sealed old else start_of old) any) in
     let ledger : ledger_of new ≡ ledger_rolled old =
-        sealed_ledger old new with_slots position.position same.account ∙ sym (ap (λ (o : Bool). if o then ledger_sealed old else ledger_of old) any) in
+    sealed_ledger old new with_slots position.position same.account ∙ sym (ap (λ (o : Bool). if o then ledger_sealed old else ledger_of old) any) in
     let machine : machine_at new ≡ (ledger_rolled old).machine = ap (λ (l : Ledger). l.machine) ledger in
     let a = position.position in let b = position.reserved in let c = same.synced in let d = same.noted in let e = same.fault in let f = same.pins in let h = same.account in cc
 
