@@ -26,7 +26,7 @@ use std::process::ExitCode;
 use store_cases::{accountant, codecs, segment_headers, words};
 
 // The files under `data/`, one a kind.
-const FILES: [&str; 19] = [
+const FILES: [&str; 20] = [
     "codecs.txt",
     "segment_headers.txt",
     "words.txt",
