@@ -108,6 +108,8 @@ fn laws_of_segments() {
     segment_laws::tables_of_more_messages_are_linked();
     segment_laws::free_slots_are_not_needed();
     segment_laws::former_states_may_be_marked();
+    segment_laws::former_states_are_former_lists();
+    segment_laws::a_tables_entries_are_former_lists();
     segment_laws::messages_from_the_mark_are_linked();
     segment_laws::segments_lie_apart();
     segment_laws::gone_pages_are_replaced();
