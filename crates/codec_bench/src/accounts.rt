@@ -327,6 +327,18 @@ pub fn measure_segments(rt: &HostRuntime, name: &str, segments: u32) -> io::Resu
     turn.print(rt, name, "next, mark_replace and stabilize", segments)
 }
 
+/// Measures what a mark takes that leaves a segment of its own behind, where so many come free in an order that isn't
+/// theirs and few are begun, and prints the shortest run.
+pub fn measure_frees(rt: &HostRuntime, name: &str, segments: u32) -> io::Result<()> {
+    let mut turn = Shortest::new();
+    for _ in 0..runs(segments) {
+        let mut work = at_work(rt.alloc(), WHOLE, segments)?;
+        work.len = SMALL;
+        work.time_turn(rt, &mut turn)?;
+    }
+    turn.print(rt, name, "mark_replace, each frees a segment", segments)
+}
+
 /// An accountant over so many pages, each of which was replaced once, so that all turns that follow are alike.
 fn at_work(alloc: Global, len: u64, pages: u32) -> io::Result<Work>
     ensures { IfOk result (λ work. IsAccountant work.config.config.segment_size work.accountant) }

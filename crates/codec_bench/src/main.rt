@@ -130,6 +130,7 @@ fn shape(segment_size: u64, segments: u64, body: usize, pages: u64) -> Shape {
 
 // The accountant, over more and more pages and segments.
 fn measure_accounts(rt: &HostRuntime) -> io::Result<()> {
+    accounts::measure_marks(rt, "100 pages", 100)?;
     accounts::measure_marks(rt, "1000 pages", 1000)?;
     accounts::measure_marks(rt, "10000 pages", 10000)?;
     accounts::measure_marks(rt, "100000 pages", 100000)?;
@@ -137,6 +138,10 @@ fn measure_accounts(rt: &HostRuntime) -> io::Result<()> {
     accounts::measure_segments(rt, "1000 segments", 1000)?;
     accounts::measure_segments(rt, "10000 segments", 10000)?;
     accounts::measure_segments(rt, "100000 segments", 100000)?;
+    accounts::measure_frees(rt, "100 freed", 100)?;
+    accounts::measure_frees(rt, "1000 freed", 1000)?;
+    accounts::measure_frees(rt, "10000 freed", 10000)?;
+    accounts::measure_frees(rt, "100000 freed", 100000)?;
     accounts::measure_drains(rt, "100 slots", 100)?;
     accounts::measure_drains(rt, "1000 slots", 1000)?;
     accounts::measure_drains(rt, "10000 slots", 10000)?;

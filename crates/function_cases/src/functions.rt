@@ -1,7 +1,7 @@
 //! What a line of a file can't say: equality and conversion of errors, constants, functions over a format that answer
 //! no value of their own, and laws.
 
-use crate::{batches, identifiers, laws, orders, sessions};
+use crate::{batches, identifiers, laws, orders, sessions, sorted};
 use case_lines::tally::Tally;
 use sled_codec::serialization::bytes::copy_in;
 use sled_log::config::{Config, RunningConfig};
@@ -56,6 +56,13 @@ pub fn run(alloc: Global, tally: &mut Tally<'_>) {
         28,
         "the file of a snapshot",
         known(spells_snapshot(alloc)),
+    );
+    holds(tally, 29, "keys are found", known(sorted::find_all(alloc)));
+    holds(
+        tally,
+        30,
+        "keys come and go",
+        known(sorted::move_keys(alloc)),
     );
     hold_orders(alloc, tally);
     hold_identifiers(alloc, tally);

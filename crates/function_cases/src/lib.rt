@@ -10,3 +10,4 @@ mod identifiers;
 mod laws;
 mod orders;
 mod sessions;
+mod sorted;

@@ -6,7 +6,6 @@ pub mod IndexLemmas
 pub mod MarkLemmas
 pub mod MoveLemmas
 pub mod OldLemmas
-pub mod SortedLemmas
 pub mod StabilCut
 pub mod StabilDue
 pub mod StabilFirst

@@ -7,4 +7,5 @@ pub mod Names
 pub mod Own
 pub mod PublicLaws
 pub mod Segments
+pub mod Sorted
 pub mod Traces

@@ -1,5 +1,5 @@
 -- What an accountant keeps, as the machine that it stands for, and how its indexes are tied to the slots.
-use Rattle.std.specs.Prelude.{◌≡◌, ◌≤◌, ◌<◌, ◌+◌, ◌*◌, ◌^◌, ℕ, true, false, List, [], length, map, take, drop, vec_capacity, slice_index_or, Result, Ok, Err}
+use Rattle.std.specs.Prelude.{◌≡◌, ◌≤◌, ◌<◌, ◌+◌, ◌*◌, ◌^◌, ℕ, true, false, List, [], length, map, take, slice_index_or, Result, Ok, Err}
 use Rattle.std.specs.List.{All}
 use Rattle.std.specs.List.Sorted.{IsStrictlySortedBy}
 use Rattle.std.specs.Map.{keys_of}
@@ -9,7 +9,6 @@ use Rattle.sled_codec.specs.declared.result.Error.TheVariants.{OutOfMemory, Plac
 use Rattle.sled_store.specs.SegmentStates.{SlotState, Machine, is_free, is_draining, free_slot, free_among, inactive_among, active_among, waiting_among}
 use Rattle.sled_store.specs.SegmentStates.{next_slot}
 use Rattle.sled_store.specs.declared.segment.slot.Slot.{Slot}
-use Rattle.sled_store.specs.declared.segment.cleaner.Entry.{Entry}
 use Rattle.sled_store.specs.declared.segment.cleaner.SegmentCleaner.{SegmentCleaner}
 use Rattle.sled_store.specs.declared.segment.accountant.SegmentAccountant.{SegmentAccountant}
 
@@ -17,9 +16,13 @@ use Rattle.sled_store.specs.declared.segment.accountant.SegmentAccountant.{Segme
 abbrev pub slot_state : Slot → SlotState
 slot_state s = record { state = s.state; lsn = s.lsn; held = s.held; pages = s.pages.0; gone = s.gone.0; latest = s.latest; blobs = s.blobs.0 }
 
+-- a set of pages: the pages, and how many there is room for
+abbrev pub PageSet : Type 0
+PageSet = List ℕ × ℕ
+
 -- the pages of a slot of a cleaner that were not asked for yet
-abbrev pub left_in : Entry → List ℕ
-left_in e = drop e.next e.pages.items
+abbrev pub left_in : PageSet → List ℕ
+left_in s = s.0
 
 -- a slot, and what it has of the pages by slot
 abbrev pub with_pages : List (List ℕ) → ℕ → ℕ × List ℕ
@@ -39,7 +42,7 @@ size_of a = a.size
 
 -- a slot that may be drained has room for the pages that it then gives to the cleaner
 abbrev pub HasRoomToDrain : Slot → Type 0
-HasRoomToDrain s = is_draining s.state ≡ false → length s.pages.0 ≤ vec_capacity s.left
+HasRoomToDrain s = is_draining s.state ≡ false → length s.pages.0 ≤ s.left.1
 
 -- each slot is there once, in ascending order, and below a number
 pub record AreEntries (count : ℕ) (es : List (ℕ × List ℕ)) : Type 0 where

@@ -6,13 +6,13 @@ ghost use Rattle.sled_codec.specs.Places.{MayBegin};
 pub mod accountant;
 pub mod cleaner;
 pub mod laws;
-pub(crate) mod queue;
 pub(crate) mod slot;
 pub(crate) mod slot_set;
 pub mod slot_table;
 pub(crate) mod sorted;
 pub mod start;
 
+pub use crate::segment::sorted::{Count, SortedMap, SortedSet};
 use sled_codec::result::LogOffset;
 
 /// The longest header of a message, in bytes.

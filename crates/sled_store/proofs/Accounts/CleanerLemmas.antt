@@ -15,9 +15,8 @@ use Rattle.std.proofs.lemmas.Map.Keys.{sorted_head, sorted_tail}
 use Rattle.std.proofs.lemmas.Map.Views.{All-insert_key, All-remove_key}
 use Rattle.std.proofs.lemmas.List.Elements.{All-from_recursion, All-head, All-tail}
 use Rattle.sled_store.specs.SegmentStates.{popped, first_page}
-use Rattle.sled_store.specs.declared.segment.cleaner.Entry.{Entry}
-use Rattle.sled_store.specs.Accounts.{left_in, with_pages, AreEntries}
-use Rattle.sled_store.proofs.Accounts.SortedLemmas.{sorted_insert, sorted_remove}
+use Rattle.sled_store.specs.Accounts.{PageSet, left_in, with_pages, AreEntries}
+use Rattle.sled_store.proofs.Sorted.SortedLemmas.{sorted_insert, sorted_remove}
 
 itself : (k : ℕ) → nat_cmp k k ≡ Equal
 itself k = tied_itself nat_cmp_total k
@@ -128,12 +127,12 @@ module _ (count : ℕ) (ps qs : List (List ℕ)) (ks : List ℕ) (s : IsStrictly
 
 -- The same of entries.
 
-pub left_at : (es : List Entry) (k : ℕ) (d : Entry) → k < length es → d ≡ get_or es k d → left_in d ≡ get_or (map left_in es) k []
+pub left_at : (es : List PageSet) (k : ℕ) (d : PageSet) → k < length es → d ≡ get_or es k d → left_in d ≡ get_or (map left_in es) k []
 left_at [] k d lt is = absurd (omega arith)
 left_at (e ∷ es) zero d lt is = ap left_in is
 left_at (e ∷ es) (suc k) d lt is = left_at es k d (omega arith) is
 
-module _ (es : List Entry) (k : ℕ) (e : Entry) (ks : List ℕ) where
+module _ (es : List PageSet) (k : ℕ) (e : PageSet) (ks : List ℕ) where
   pub entries_put : (v : List ℕ) → left_in e ≡ v → map (with_pages (map left_in (set es k e))) ks ≡ map (with_pages (set (map left_in es) k v)) ks
   entries_put v is = ap (λ qs. map (with_pages qs) ks) (map-set left_in es k e ∙ ap (set (map left_in es) k) is)
 

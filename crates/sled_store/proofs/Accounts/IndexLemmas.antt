@@ -9,7 +9,7 @@ use Rattle.std.specs.BTreeSet.{insert_key}
 use Rattle.std.specs.Set.{remove_key}
 use Rattle.std.proofs.lemmas.Cmp.{ranked, nat_cmp_total, then_total, on_total}
 use Rattle.std.proofs.lemmas.Bool.Decides.{nat_tests}
-use Rattle.sled_store.proofs.Accounts.SortedLemmas.{length_inserted}
+use Rattle.sled_store.proofs.Sorted.SortedLemmas.{length_inserted}
 use Rattle.sled_store.specs.SegmentStates.{SlotState, slots_where, slots_by, beside, by_place}
 
 -- Numbers that are compared.
@@ -168,6 +168,18 @@ module _ (test : SlotState → Bool) where
   length_slots_where i (x ∷ xs) = by (test x) (length_slots_where (suc i) xs)
     where
       by : (b : Bool) → length (slots_where test (suc i) xs) ≤ length xs → length (cond b (i ∷ slots_where test (suc i) xs) (slots_where test (suc i) xs)) ≤ suc (length xs)
+      by true h = omega arith
+      by false h = omega arith
+
+  -- a slot that fails leaves room in the list
+  pub length_slots_where_less : (i k : ℕ) (xs : List SlotState) (d : SlotState) → k < length xs → test (get_or xs k d) ≡ false → length (slots_where test i xs) < length xs
+  length_slots_where_less i k [] d lt fails = absurd (omega arith)
+  length_slots_where_less i zero (x ∷ xs) d lt fails =
+      let same : length (slots_where test i (x ∷ xs)) ≡ length (slots_where test (suc i) xs) = ap (λ b. length (cond b (i ∷ slots_where test (suc i) xs) (slots_where test (suc i) xs))) fails in
+      omega (arith, same, length_slots_where (suc i) xs)
+  length_slots_where_less i (suc k) (x ∷ xs) d lt fails = by (test x) (length_slots_where_less (suc i) k xs d (omega arith) fails)
+    where
+      by : (b : Bool) → length (slots_where test (suc i) xs) < length xs → length (cond b (i ∷ slots_where test (suc i) xs) (slots_where test (suc i) xs)) < suc (length xs)
       by true h = omega arith
       by false h = omega arith
 

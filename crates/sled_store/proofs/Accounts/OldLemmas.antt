@@ -11,7 +11,7 @@ use Rattle.sled_store.specs.SegmentStates.{SlotState, Machine, free_slot, slot_a
 use Rattle.sled_store.specs.inside.Accounts.{IsUsed}
 use Rattle.sled_store.specs.Accounts.{slot_state}
 use Rattle.sled_store.specs.declared.segment.slot.Slot.{Slot}
-use Rattle.sled_store.proofs.Accounts.SortedLemmas.{length_inserted}
+use Rattle.sled_store.proofs.Sorted.SortedLemmas.{length_inserted}
 use Rattle.sled_store.proofs.Accounts.HandLemmas.{cases_eq}
 
 -- a segment still lies in a slot

@@ -1,47 +1,20 @@
 -- The first slot behind a place, in a list of slots by their places.
-use Rattle.std.proofs.Common.{◌≡◌, ◌≢◌, ◌∙◌, ◌==◌, ◌⊎◌, ℕ, zero, suc, ◌<◌, ◌≤◌, Bool, true, false, cond, ◌||◌, if◌then◌else◌, List, [], ◌∷◌, length, get_or, drop, map, filter, Option, None, Some, refl, sym, ap, subst, inl, inr, arith, is_some, eq-eqb}
+use Rattle.std.proofs.Common.{◌≡◌, ◌≢◌, ◌∙◌, ◌==◌, ◌⊎◌, ℕ, zero, suc, ◌<◌, ◌≤◌, Bool, true, false, cond, ◌||◌, if◌then◌else◌, List, [], ◌∷◌, length, drop, map, filter, Option, None, Some, refl, sym, ap, subst, inl, inr, arith, is_some, eq-eqb}
 use Rattle.std.specs.List.{All, list_any, slice_get}
 use Rattle.std.specs.List.Sorted.{IsStrictlySortedBy, IsPartitionPoint}
 use Rattle.std.specs.declared.cmp.Ordering.{Ordering}
 use Rattle.std.specs.declared.cmp.Ordering.TheVariants.{Less, Equal, Greater}
-use Rattle.std.specs.Ordering.{ordering_then, ordering_reverse, is_eq, nat_cmp}
-use Rattle.std.specs.Cmp.{IsTotalOrder}
+use Rattle.std.specs.Ordering.{ordering_then, is_eq, nat_cmp}
 use Rattle.std.specs.BTreeMap.{is_at}
 use Rattle.std.specs.Set.{remove_key}
-use Rattle.std.proofs.lemmas.Cmp.{alike_right, ranked}
+use Rattle.std.proofs.lemmas.Cmp.{ranked}
 use Rattle.std.proofs.lemmas.Bool.{ne_eqb}
 use Rattle.std.proofs.lemmas.Bool.Decides.{nat_tests}
-use Rattle.std.proofs.lemmas.Map.Keys.{sorted_head, sorted_tail, Less-from_sorted}
+use Rattle.std.proofs.lemmas.Map.Keys.{sorted_head, sorted_tail}
 use Rattle.std.proofs.lemmas.List.Elements.{All-from_recursion, All-tail}
 use Rattle.sled_store.specs.SegmentStates.{by_place}
 use Rattle.sled_store.specs.inside.Stabilizing.{slots_at}
 use Rattle.sled_store.proofs.Accounts.StabilIndex.{same_is}
-
--- Where a key belongs.
-module _ {K : Type 0} {R : K → K → Ordering} (o : IsTotalOrder R) (x : K) (xs : List K) (at : ℕ) where
-  abbrev Splits : Type 0
-  Splits = IsPartitionPoint (λ k. R k x ≡ Less) (λ k. R k x ≢ Less) xs at
-
-  pub splits_found : IsStrictlySortedBy R xs → at < length xs → ((d : K) → R (get_or xs at d) x ≡ Equal) → IsPartitionPoint (λ k. R k x ≡ Less) (λ k. R k x ≢ Less) xs at
-  splits_found s lt is = (
-    (λ k d low high. sym (alike_right o (get_or xs at d) x (get_or xs k d) (is d)) ∙ Less-from_sorted R xs k at d s high lt),
-    (λ k d low high. by k d low high (same_or_more at k low)),
-  ) where
-    same_or_more : (n m : ℕ) → n ≤ m → (n ≡ m) ⊎ (n < m)
-    same_or_more zero zero le = inl refl
-    same_or_more zero (suc m) le = inr (omega arith)
-    same_or_more (suc n) zero le = absurd (omega arith)
-    same_or_more (suc n) (suc m) le = elim (same_or_more n m (omega arith)) [ inl same ↦ inl (ap suc same) | inr less ↦ inr (omega arith) ]
-
-    by : (k : ℕ) (d : K) → at ≤ k → k < length xs → (at ≡ k) ⊎ (at < k) → R (get_or xs k d) x ≢ Less
-    by k d low high (inl same) less =
-        let here : R (get_or xs k d) x ≡ Equal = subst (λ n. R (get_or xs n d) x ≡ Equal) same (is d) in absurd (cc)
-    by k d low high (inr more) less =
-        let above : R x (get_or xs k d) ≡ Less = sym (o.congr (get_or xs at d) x (get_or xs k d) (is d)) ∙ Less-from_sorted R xs at k d s more high in
-        let back : R (get_or xs k d) x ≡ Greater = o.antisymm (get_or xs k d) x ∙ ap ordering_reverse above in absurd (cc)
-
-  pub splits_missing : IsPartitionPoint (λ k. R k x ≡ Less) (λ k. R k x ≡ Greater) xs at → IsPartitionPoint (λ k. R k x ≡ Less) (λ k. R k x ≢ Less) xs at
-  splits_missing p = (p.0, λ k d low high less. let more = p.1 k d low high in absurd (cc))
 
 -- what the first slot behind a place is, by the pair where that place belongs
 abbrev pub first_by : ℕ → Option (ℕ × ℕ) → Option ℕ

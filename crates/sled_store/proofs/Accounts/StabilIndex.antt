@@ -13,7 +13,7 @@ use Rattle.std.proofs.lemmas.Cmp.{ranked, tied_itself}
 use Rattle.std.proofs.lemmas.Bool.Decides.{nat_tests}
 use Rattle.std.proofs.lemmas.List.Elements.{All-cons, All-tail}
 use Rattle.std.proofs.lemmas.Map.Views.{All-insert_key}
-use Rattle.sled_store.proofs.Accounts.SortedLemmas.{sorted_nil, sorted_insert}
+use Rattle.sled_store.proofs.Sorted.SortedLemmas.{sorted_nil, sorted_insert}
 use Rattle.sled_store.proofs.Accounts.IndexLemmas.{by_place_total, slots_by_set, slots_by_was}
 use Rattle.sled_store.specs.SegmentStates.{SlotState, slots_where, slots_by, beside, by_place}
 pub use Rattle.sled_store.proofs.Accounts.IndexLemmas.{greater_is}

@@ -1,5 +1,5 @@
 -- One slot changes its state: it is emptied, or its segment is no longer active.
-use Rattle.std.proofs.Common.{◌≡◌, ◌≢◌, ◌∙◌, ◌⊎◌, ℕ, zero, suc, ◌<◌, ◌≤◌, ◌^◌, ◌&&◌, Bool, true, false, if◌then◌else◌, List, [], ◌∷◌, length, get_or, set, take, Option, None, Some, refl, sym, ap, subst, inl, inr, arith, length-take, length-set, get_or-set_same, get_or-set_other, get_or-take}
+use Rattle.std.proofs.Common.{◌≡◌, ◌≢◌, ◌∙◌, ◌⊎◌, ℕ, zero, suc, ◌<◌, ◌≤◌, ◌^◌, ◌&&◌, Bool, true, false, if◌then◌else◌, List, length, get_or, set, take, Option, None, Some, refl, sym, ap, subst, inl, inr, arith, length-take, length-set, get_or-set_same, get_or-set_other, get_or-take}
 use Rattle.std.specs.Ordering.{nat_cmp}
 use Rattle.std.specs.BTreeMap.{is_at}
 use Rattle.std.specs.BTreeSet.{insert_key}
@@ -12,7 +12,7 @@ use Rattle.sled_store.specs.declared.segment.slot.Slot.{Slot}
 use Rattle.sled_store.specs.declared.segment.accountant.SegmentAccountant.{SegmentAccountant}
 use Rattle.sled_store.specs.Accounts.{AreSlots, AreIndexes, slot_state, machine_of}
 use Rattle.sled_store.proofs.Accounts.AccountLemmas.{state_at, length_states}
-use Rattle.sled_store.proofs.Accounts.IndexLemmas.{slots_where_same, slots_by_same}
+use Rattle.sled_store.proofs.Accounts.IndexLemmas.{slots_where_same, length_slots_where_less, slots_by_same}
 use Rattle.sled_store.proofs.Accounts.StabilIndex.{slots_by_less, slots_where_more}
 use Rattle.sled_store.proofs.Accounts.ChangeLemmas.{not_waited as no_wait}
 pub use Rattle.sled_store.proofs.Accounts.HandLemmas.{take-set-lt as set_within}
@@ -101,6 +101,15 @@ module _ (tip : ℕ) (xs : List SlotState) (k : ℕ) (lt : k < length xs) (slots
 
   below_tip : k < tip
   below_tip = not_cut_off tip xs k lt slots (ap is_free state_is)
+
+  -- the list of free slots has room for it
+  pub free_room : (free : List ℕ) → free ≡ free_among (take tip xs) → (room : ℕ) → length xs ≤ room → length free < room
+  free_room free is room within =
+      let low : k < length (take tip xs) = omega (arith, below_tip, length-take tip xs) in
+      let fails : is_free (get_or (take tip xs) k free_slot).state ≡ false = ap (λ (s : SlotState). is_free s.state) (get_or-take tip xs k free_slot below_tip) ∙ ap is_free state_is in
+      let less = length_slots_where_less (λ s. is_free s.state) 0 k (take tip xs) free_slot low fails in
+      let cut = length-take tip xs in
+      omega (arith, less, ap length is, within, cut)
 
   pub emptied_slots : AreSlots tip (set xs k free_slot)
   emptied_slots = changed_slots tip xs k lt slots free_slot (λ free. refl) (λ above. refl) (omega arith)

@@ -1,4 +1,4 @@
--- A value of a struct with no fields is made from nothing: the step that both proofs over `GhostTrace` take. Assumes `Logic`.
+-- A value of a struct with no fields is made from nothing: the step that each proof over ghost data takes. Assumes `Logic`.
 use Rattle.std.proofs.Common.{List, [], ◌∷◌, refl}
 use seplogic.Ra.Ura.{Ura}
 use mir.Val.{Val, vstruct, vnil}

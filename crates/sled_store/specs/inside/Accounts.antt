@@ -1,5 +1,5 @@
 -- What proofs, and functions that no user calls, need beside `specs/Accounts.antt`. No public contract names it.
-use Rattle.std.specs.Prelude.{◌≡◌, ◌⊎◌, ◌≤◌, ◌<◌, ◌+◌, ℕ, false, IsTrue, length, vec_capacity, slice_index_or}
+use Rattle.std.specs.Prelude.{◌≡◌, ◌⊎◌, ◌≤◌, ◌<◌, ◌+◌, ℕ, false, IsTrue, length, slice_index_or}
 use Rattle.sled_store.specs.SegmentStates.{Machine, is_free, slot_at, has_page}
 use Rattle.sled_store.specs.declared.segment.slot.Slot.{Slot}
 use Rattle.sled_store.specs.declared.segment.accountant.SegmentAccountant.{SegmentAccountant}
@@ -7,7 +7,7 @@ use Rattle.sled_store.specs.declared.segment.accountant.SegmentAccountant.{Segme
 -- a page may be linked without taking memory
 pub record HasRoomToLink (s : Slot) : Type 0 where
   pub pages : length s.pages.0 < s.pages.1
-  pub left : length s.pages.0 + 1 ≤ vec_capacity s.left
+  pub left : length s.pages.0 + 1 ≤ s.left.1
 
 -- a page may be noted as replaced without taking memory
 abbrev pub HasRoomForGone : ℕ → Slot → Type 0

@@ -1,8 +1,8 @@
 //! The accountant: which slot a segment gets, and when a segment's slot is free again (`specs/SegmentStates.antt`).
 //!
-//! What a call looks for it finds by an index: free, inactive and draining slots in trees over all slots, active and
-//! waiting ones by their places in rings. All room is reserved before anything is changed, so that nothing has changed
-//! after `OutOfMemory`.
+//! What a call looks for it finds by an index: free slots, and active and waiting ones by their places, in sorted sets,
+//! inactive and draining ones in trees over all slots. All room is reserved before anything is changed, so that nothing
+//! has changed after `OutOfMemory`.
 ghost use Rattle.std.specs.Prelude.{◌≡◌, ◌↔◌, ◌≤ℤ◌, ◌≤◌, ◌+◌, ◌*◌, ◌/◌, ◌^◌, ◌<◌, length, slice_index_or, true, ℕ, [], pos, unsigned_abs, IsTrue, IsOkUnless, OnOk, OnErr, IfOk};
 ghost use Rattle.std.specs.List.{All};
 ghost use Rattle.sled_codec.specs.Pointers.{lid_of};
@@ -18,10 +18,10 @@ mod replacing;
 mod starting;
 
 use crate::segment::cleaner::SegmentCleaner;
-use crate::segment::queue::SortedQueue;
 pub use crate::segment::slot::CacheInfo;
 use crate::segment::slot::Slot;
 use crate::segment::slot_set::SlotSet;
+use crate::segment::sorted::SortedSet;
 use crate::{Device, RunningConfig};
 use sled_codec::result::{Error, LogOffset, Lsn, PageId, Result};
 use sled_codec::serialization::Checksum;
@@ -35,12 +35,12 @@ pub struct SegmentAccountant {
     // How many of them are not cut off.
     tip: u64,
     // The slots below the tip that no segment is in.
-    free: SlotSet,
+    free: SortedSet<u64>,
     // The active segments, by place and slot.
-    active: SortedQueue<(u64, u64)>,
+    active: SortedSet<(u64, u64)>,
     inactive: SlotSet,
     // The slots that are done, by the place of their latest replacement.
-    waiting: SortedQueue<(u64, u64)>,
+    waiting: SortedSet<(u64, u64)>,
     cleaner: SegmentCleaner,
 }
 
@@ -56,10 +56,10 @@ impl SegmentAccountant {
             size,
             slots: Vec::new(alloc),
             tip: 0,
-            free: SlotSet::new(alloc),
-            active: SortedQueue::new(alloc),
+            free: SortedSet::new(alloc),
+            active: SortedSet::new(alloc),
             inactive: SlotSet::new(alloc),
-            waiting: SortedQueue::new(alloc),
+            waiting: SortedSet::new(alloc),
             cleaner: SegmentCleaner::new(alloc, size),
         }
     }

@@ -1,9 +1,9 @@
 //! The pages that are to be written again, so that their segments come free.
 //!
-//! Which slots are being drained says a tree over all slots, and what pages each of them has left a vector by slot. So a
+//! Which slots are being drained says a tree over all slots, and what pages each of them has left a set by slot. So a
 //! page is asked for, and a slot is put in or taken out, in as many steps as the tree is deep, whatever else is being
 //! drained. Only a reservation takes memory.
-ghost use Rattle.std.specs.Prelude.{◌≡◌, [], ◌*◌, ◌≤◌, ◌<◌, ◌^◌, ℕ, drop, length, map, slice_get, slice_index_or, vec_capacity, OnOk};
+ghost use Rattle.std.specs.Prelude.{◌≡◌, [], ◌*◌, ◌≤◌, ◌<◌, ◌^◌, ℕ, length, map, slice_index_or, OnOk};
 ghost use Rattle.std.specs.List.Sorted.{IsStrictlySortedBy, IsStrictlySortedBy-prop};
 ghost use Rattle.std.specs.Ordering.{nat_cmp};
 ghost use Rattle.std.specs.BTreeMap.{insert_entry, is_at};
@@ -12,16 +12,9 @@ ghost use Rattle.std.specs.List.{All};
 ghost use Rattle.sled_store.specs.SegmentStates.{popped, first_page};
 
 use crate::segment::slot_set::SlotSet;
+use crate::segment::sorted::SortedSet;
 use sled_codec::result::{LogOffset, PageId};
 use std::alloc::{AllocError, Global};
-
-/// The pages of a slot.
-#[derive(Drop)]
-pub(crate) struct Entry {
-    pub(crate) pages: Vec<PageId>,
-    /// How many of them were asked for.
-    pub(crate) next: usize,
-}
 
 /// The pages that are to be written again, by slot.
 #[derive(Drop)]
@@ -29,39 +22,11 @@ pub struct SegmentCleaner {
     pub(crate) size: u64,
     /// The slots that are being drained.
     pub(crate) draining: SlotSet,
-    /// The pages of each slot; no memory is taken for one that isn't being drained.
-    pub(crate) entries: Vec<Entry>,
+    /// The pages of each slot that were not asked for yet; no memory is taken for one that isn't being drained.
+    pub(crate) entries: Vec<SortedSet<PageId>>,
     ghost ascending: { IsStrictlySortedBy nat_cmp draining.0 } by { IsStrictlySortedBy-prop nat_cmp draining.0 },
     ghost within: { All (λ k. k < length entries.items) draining.0 },
     ghost in_reach: { All (λ k. k * size < 2 ^ 63) draining.0 },
-}
-
-impl Entry {
-    ghost use Rattle.sled_store.specs.Accounts.{left_in};
-
-    /// Returns one with no pages.
-    fn new(alloc: Global) -> Entry
-        ensures left { left_in result ≡ [] }
-        ensures memory { vec_capacity result.pages ≡ 0 }
-    {
-        Entry {
-            pages: Vec::new(alloc),
-            next: 0,
-        }
-    }
-
-    /// Returns the least page that was not asked for yet.
-    fn take(&mut self) -> Option<PageId>
-        ensures page { result ≡ slice_get (left_in self.old) 0 }
-        ensures left { left_in self.new ≡ drop 1 (left_in self.old) }
-    {
-        if self.next >= self.pages.len() {
-            return None;
-        }
-        let page = self.pages[self.next];
-        self.next += 1;
-        Some(page)
-    }
 }
 
 impl SegmentCleaner {
@@ -89,7 +54,7 @@ impl SegmentCleaner {
         let Some(slot) = self.draining.first() else {
             return None;
         };
-        let Some(page) = self.entries[slot as usize].take() else {
+        let Some(page) = self.entries[slot as usize].take_first() else {
             self.remove(slot);
             return None;
         };
@@ -119,21 +84,21 @@ impl SegmentCleaner {
         ensures kept { length self.old.entries.items ≤ length self.new.entries.items }
     {
         let alloc = *self.entries.allocator();
-        self.entries.push(Entry::new(alloc))?;
+        self.entries.push(SortedSet::new(alloc))?;
         Ok(())
     }
 
     /// Notes the pages of a slot that is not there yet. There is room for it. It takes as many steps as the logarithm of
     /// the number of slots.
-    pub(crate) fn insert(&mut self, slot: u64, pages: Vec<PageId>)
+    pub(crate) fn insert(&mut self, slot: u64, pages: SortedSet<PageId>)
         requires room { slot < self.old.draining.1 }
         requires entry { slot < length self.old.entries.items }
         requires in_reach { slot * self.old.size < 2 ^ 63 }
-        ensures cleaner { cleaner_of self.new ≡ insert_entry nat_cmp (cleaner_of self.old) slot pages.items }
+        ensures cleaner { cleaner_of self.new ≡ insert_entry nat_cmp (cleaner_of self.old) slot pages.0 }
         ensures tie { (count : ℕ) → slot < count → IsCleaner self.old.size count self.old → IsCleaner self.old.size count self.new }
     {
         self.draining.insert(slot);
-        self.entries[slot as usize] = Entry { pages, next: 0 };
+        self.entries[slot as usize] = pages;
     }
 
     /// Forgets a slot, and gives the memory of its pages back. It takes as many steps as the logarithm of the number of
@@ -141,13 +106,13 @@ impl SegmentCleaner {
     pub(crate) fn remove(&mut self, slot: u64)
         ensures cleaner { cleaner_of self.new ≡ remove_entry (is_at (nat_cmp slot)) (cleaner_of self.old) }
         ensures tie { (count : ℕ) → IsCleaner self.old.size count self.old → IsCleaner self.old.size count self.new }
-        ensures memory { slice_index_or (map (λ e. vec_capacity e.pages) self.new.entries.items) slot 0 ≡ 0 }
+        ensures memory { slice_index_or (map (λ e. e.1) self.new.entries.items) slot 0 ≡ 0 }
     {
         self.draining.remove(slot);
         if slot >= self.entries.len() as u64 {
             return;
         }
         let alloc = *self.entries.allocator();
-        self.entries[slot as usize] = Entry::new(alloc);
+        self.entries[slot as usize] = SortedSet::new(alloc);
     }
 }

@@ -1,5 +1,7 @@
 //! A slot of the log file, and what is known of the segment in it (`specs/SegmentStates.antt`).
-ghost use Rattle.std.specs.Prelude.{ℕ, ◌≡◌, ◌↔◌, false, [], ◌∷◌, ◌≤◌, ◌<◌, ◌+◌, ◌++◌, ◌⊎◌, IsTrue, IfErr, OnOk, Some, filter, length, ◌==◌, if◌then◌else◌, vec_capacity, not};
+ghost use Rattle.std.specs.Prelude.{ℕ, ◌≡◌, ◌↔◌, false, [], ◌∷◌, ◌≤◌, ◌<◌, ◌+◌, ◌++◌, ◌⊎◌, IsTrue, IfErr, OnOk, Some, filter, length, ◌==◌, if◌then◌else◌, not};
+ghost use Rattle.std.specs.declared.cmp.Ordering.TheVariants.{Less};
+ghost use Rattle.std.specs.List.{All};
 ghost use Rattle.std.specs.Ordering.{nat_cmp};
 ghost use Rattle.std.specs.BTreeSet.{insert_key};
 ghost use Rattle.sled_store.specs.SegmentStates.{inactive_slot, free_slot, taken_slot, linked_slot, replaced_slot, outdated, has_page, is_free, is_active, is_sparse, is_done, is_draining, waited_place, left_pages, drained_slot, segment_in};
@@ -52,7 +54,7 @@ pub(crate) struct Slot {
     /// The blobs that go when the segment is deactivated.
     pub(crate) blobs: SortedSet<Lsn>,
     /// Room for the pages that a drain gives to the cleaner.
-    pub(crate) left: Vec<PageId>,
+    pub(crate) left: SortedSet<PageId>,
 }
 
 impl Slot {
@@ -69,7 +71,7 @@ impl Slot {
             gone: SortedSet::new(alloc),
             latest: None,
             blobs: SortedSet::new(alloc),
-            left: Vec::new(alloc),
+            left: SortedSet::new(alloc),
         }
     }
 
@@ -247,40 +249,42 @@ impl Slot {
     }
 
     /// Drains it: its pages that were not replaced.
-    pub(crate) fn drain(&mut self) -> Vec<PageId>
-        requires { length self.old.pages.0 ≤ vec_capacity self.old.left }
-        ensures pages { result.items ≡ left_pages (slot_state self.old) }
+    pub(crate) fn drain(&mut self) -> SortedSet<PageId>
+        requires { length self.old.pages.0 ≤ self.old.left.1 }
+        ensures pages { result.0 ≡ left_pages (slot_state self.old) }
         ensures state { slot_state self.new ≡ drained_slot (slot_state self.old) }
         ensures room { HasRoomToDrain self.new }
         ensures gone { self.new.gone ≡ self.old.gone }
     {
         self.state = State::Draining;
-        let alloc = *self.left.allocator();
-        let mut left = mem::replace(&mut self.left, Vec::new(alloc));
+        let alloc = self.left.allocator();
+        let mut left = mem::replace(&mut self.left, SortedSet::new(alloc));
         left.clear();
-        push_left(&mut left, self.pages.keys(), &self.gone);
+        push_left(&mut left, &self.pages, &self.gone);
         left
     }
 }
 
-/// Puts the pages that were not replaced behind what is there, where there is room for them.
-fn push_left(left: &mut Vec<PageId>, pages: &[PageId], gone: &SortedSet<PageId>)
-    requires { length left.old.items + length pages.now ≤ vec_capacity left.old }
-    ensures { left.new.items ≡ left.old.items ++ filter (λ p. not (has_page gone.now.0 p)) pages.now }
+/// Puts the pages that were not replaced in, where there is room for them.
+fn push_left(left: &mut SortedSet<PageId>, pages: &SortedSet<PageId>, gone: &SortedSet<PageId>)
+    requires empty { left.old.0 ≡ [] }
+    requires room { length pages.now.0 ≤ left.old.1 }
+    ensures { left.new.0 ≡ filter (λ p. not (has_page gone.now.0 p)) pages.now.0 }
 {
-    for pid in pages {
+    for pid in pages.keys() {
         push_if_left(left, *pid, gone);
     }
 }
 
 /// Puts a page behind what is there, where it was not replaced.
-fn push_if_left(left: &mut Vec<PageId>, pid: PageId, gone: &SortedSet<PageId>)
-    requires { length left.old.items < vec_capacity left.old }
-    ensures items { left.new.items ≡ left.old.items ++ filter (λ p. not (has_page gone.now.0 p)) (pid ∷ []) }
-    ensures len { length left.new.items ≤ length left.old.items + 1 }
-    ensures room { vec_capacity left.old ≤ vec_capacity left.new }
+fn push_if_left(left: &mut SortedSet<PageId>, pid: PageId, gone: &SortedSet<PageId>)
+    requires greatest { All (λ p. nat_cmp p pid ≡ Less) left.old.0 }
+    requires room { length left.old.0 < left.old.1 }
+    ensures items { left.new.0 ≡ left.old.0 ++ filter (λ p. not (has_page gone.now.0 p)) (pid ∷ []) }
+    ensures len { length left.new.0 ≤ length left.old.0 + 1 }
+    ensures room { left.old.1 ≤ left.new.1 }
 {
-    if !gone.has(pid) {
-        let _ = left.push(pid);
+    if !gone.contains(pid) {
+        left.push(pid);
     }
 }

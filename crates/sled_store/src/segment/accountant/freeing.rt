@@ -14,7 +14,7 @@ ghost use Rattle.sled_store.specs.Accounts.{IsAccountant, machine_of, size_of};
 
 use crate::segment::accountant::SegmentAccountant;
 use crate::segment::accountant::replacing::forget_waiting;
-use crate::segment::queue::SortedQueue;
+use crate::segment::sorted::SortedSet;
 use crate::{Device, RunningConfig};
 use sled_codec::result::{Error, Lsn, Result};
 use sled_codec::serialization::Checksum;
@@ -290,7 +290,7 @@ impl SegmentAccountant {
 }
 
 /// Returns the first slot that is there behind a place.
-fn first_at(slots: &SortedQueue<(u64, u64)>, place: u64) -> Option<u64>
+fn first_at(slots: &SortedSet<(u64, u64)>, place: u64) -> Option<u64>
     ensures { result ≡ slice_get (slots_at place slots.now.0) 0 }
 {
     let at = slots.place((place, 0));

@@ -11,8 +11,8 @@ ghost use Rattle.sled_store.specs.Accounts.{IsAccountant, machine_of, size_of};
 ghost use Rattle.sled_store.specs.inside.Accounts.{IsUsed, GoneFits, HasRoomToLink, HasRoomForBlobs};
 
 use crate::segment::accountant::SegmentAccountant;
-use crate::segment::queue::SortedQueue;
 use crate::segment::slot::{CacheInfo, Slot};
+use crate::segment::sorted::SortedSet;
 use crate::{Device, RunningConfig};
 use sled_codec::result::{DiskPtr, Error, Lsn, PageId, Result};
 use sled_codec::serialization::Checksum;
@@ -187,7 +187,7 @@ fn outdate_all(slot: &mut Slot, pointer: DiskPtr, old: &[CacheInfo])
 }
 
 /// A slot no longer waits for a place, if it waited.
-pub(super) fn forget_waiting(waiting: &mut SortedQueue<(u64, u64)>, before: Option<u64>, slot: u64)
+pub(super) fn forget_waiting(waiting: &mut SortedSet<(u64, u64)>, before: Option<u64>, slot: u64)
     ensures keys { waiting.new.0 ≡ not_beside before slot waiting.old.0 }
     ensures room { waiting.new.1 ≡ waiting.old.1 }
 {
@@ -197,7 +197,7 @@ pub(super) fn forget_waiting(waiting: &mut SortedQueue<(u64, u64)>, before: Opti
 }
 
 /// A slot waits for a place, if it waits.
-fn note_waiting(waiting: &mut SortedQueue<(u64, u64)>, after: Option<u64>, slot: u64)
+fn note_waiting(waiting: &mut SortedSet<(u64, u64)>, after: Option<u64>, slot: u64)
     requires { length waiting.old.0 < waiting.old.1 }
     ensures keys { waiting.new.0 ≡ beside after slot waiting.old.0 }
     ensures room { waiting.old.1 ≤ waiting.new.1 }

@@ -1,8 +1,7 @@
 -- One message more lies in a segment.
-use Rattle.std.proofs.Common.{◌≡◌, refl, subst, arith, take_all, List, [], ◌∷◌, ℕ, zero, suc, ◌<◌, length, get_or}
+use Rattle.std.proofs.Common.{refl, subst, arith, take_all}
 use Rattle.std.specs.List.{All}
 use Rattle.sled_store.specs.SegmentStates.{LiesIn}
-use Rattle.sled_store.specs.declared.segment.slot.CacheInfo.{CacheInfo}
 use Rattle.sled_store.specs.Accounts.{machine_of, size_of}
 use Rattle.sled_store.proofs.Segments.FitLemmas.{all_one}
 use Rattle.sled_store.proofs.segment.accountant.SegmentAccountant.all_lie.Goals as goal

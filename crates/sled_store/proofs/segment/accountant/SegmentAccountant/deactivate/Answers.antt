@@ -79,7 +79,7 @@ returns-in_err-remove_blobs-clause-step g c =
     let a : SegmentAccountant = c.args.self.now in
     let old : Trace = g.D.Device.trace c.args.device.now in
     let new : Trace = g.D.Device.trace c.remove_blobs.new.device in
-    let blobs = blobs_are a c.args.slot c.index-s.result.now c.keys.result.now c.requires.slot c.index-s.ensures c.keys.ensures in
+    let blobs = blobs_are a c.args.slot c.index-s.result.now c.keys.result.now c.requires.slot c.index-s.ensures c.keys.ensures.keys in
     let begun = failed_gone a.size c.args.place c.args.slot (machine_of a) old new
     (subst (λ (l : List ℤ). IsBegun (removing_blobs l) old new) blobs
     (record { calls = c.remove_blobs.ensures.calls; due = c.in_err-remove_blobs.ensures.due })) in
@@ -99,7 +99,7 @@ returns-in_err-free_waiting-clause-step g c =
     let old : Trace = g.D.Device.trace c.args.device.now in
     let h1 : Trace = g.D.Device.trace c.remove_blobs.new.device in
     let m1 : Machine = machine_of c.make_inactive.new.self in
-    let blobs = blobs_are a c.args.slot c.index-s.result.now c.keys.result.now c.requires.slot c.index-s.ensures c.keys.ensures in
+    let blobs = blobs_are a c.args.slot c.index-s.result.now c.keys.result.now c.requires.slot c.index-s.ensures c.keys.ensures.keys in
     let made1 : IsMade (gone a.size c.args.place c.args.slot (machine_of a) old) old m1 h1 =
     record { machine = c.make_inactive.ensures.machine; trace = subst (λ (l : List ℤ). h1 ≡ after_all (removing_blobs l) old) blobs c.in_ok-remove_blobs.ensures.made } in
     let failed = c.in_err-free_waiting.ensures.step in
@@ -124,7 +124,7 @@ returns-in_err-test-clause-step g c =
     let m1 : Machine = machine_of c.make_inactive.new.self in
     let h2 : Trace = g.D.Device.trace c.free_waiting.new.device in
     let m2 : Machine = machine_of c.free_waiting.new.self in
-    let blobs = blobs_are a c.args.slot c.index-s.result.now c.keys.result.now c.requires.slot c.index-s.ensures c.keys.ensures in
+    let blobs = blobs_are a c.args.slot c.index-s.result.now c.keys.result.now c.requires.slot c.index-s.ensures c.keys.ensures.keys in
     let made1 : IsMade (gone a.size c.args.place c.args.slot (machine_of a) old) old m1 h1 =
     record { machine = c.make_inactive.ensures.machine; trace = subst (λ (l : List ℤ). h1 ≡ after_all (removing_blobs l) old) blobs c.in_ok-remove_blobs.ensures.made } in
     let same1 : c.make_inactive.new.self.size ≡ a.size = c.make_inactive.ensures.account.size_is in
@@ -155,7 +155,7 @@ returns-clause-step g c =
     let m2 : Machine = machine_of c.free_waiting.new.self in
     let h3 : Trace = g.D.Device.trace c.test.new.device in
     let m3 : Machine = machine_of c.test.new.self in
-    let blobs = blobs_are a c.args.slot c.index-s.result.now c.keys.result.now c.requires.slot c.index-s.ensures c.keys.ensures in
+    let blobs = blobs_are a c.args.slot c.index-s.result.now c.keys.result.now c.requires.slot c.index-s.ensures c.keys.ensures.keys in
     let made1 : IsMade (gone a.size c.args.place c.args.slot (machine_of a) old) old m1 h1 =
     record { machine = c.make_inactive.ensures.machine; trace = subst (λ (l : List ℤ). h1 ≡ after_all (removing_blobs l) old) blobs c.in_ok-remove_blobs.ensures.made } in
     let same1 : c.make_inactive.new.self.size ≡ a.size = c.make_inactive.ensures.account.size_is in
@@ -195,7 +195,7 @@ returns-in_err-remove_blobs-clause-moves g c mark due =
     let m : Machine = machine_of c.args.self.now in
     let old : Trace = g.D.Device.trace c.args.device.now in
     let new : Trace = g.D.Device.trace c.remove_blobs.new.device in
-    let blobs = blobs_are c.args.self.now c.args.slot c.index-s.result.now c.keys.result.now c.requires.slot c.index-s.ensures c.keys.ensures in
+    let blobs = blobs_are c.args.self.now c.args.slot c.index-s.result.now c.keys.result.now c.requires.slot c.index-s.ensures c.keys.ensures.keys in
     exit_begun size mark c.from_residual.result m m m old old new (λ P. search rules) (none_moved size mark m m old old refl refl)
     (removes c.args.slot (left_behind size mark m c.args.slot c.args.place c.requires.active due) refl
     (subst (λ (l : List ℤ). Performs (removing_blobs l) old new) blobs c.remove_blobs.ensures.calls))
@@ -212,7 +212,7 @@ returns-in_err-free_waiting-clause-moves g c mark due =
     let same = c.make_inactive.ensures.account.size_is in
     let first = first_moved size mark c.args.place c.args.slot c.args.self.now m1 c.index-s.result.now c.keys.result.now old h1 c.requires.slot
     c.index-s.ensures
-    c.keys.ensures c.requires.active due c.make_inactive.ensures.machine c.in_ok-remove_blobs.ensures.made in
+    c.keys.ensures.keys c.requires.active due c.make_inactive.ensures.machine c.in_ok-remove_blobs.ensures.made in
     exit_failed size mark c.from_residual-in_err-free_waiting.result m m1 m2 old h1 h2 (λ P. search rules) first c.free_waiting.result
     (moves_same size c.make_inactive.new.self.size mark c.free_waiting.result m1 m2 h1 h2 same
     (c.free_waiting.ensures.moves mark (ap (λ n. is_due n mark c.args.place) same ∙ due)))
@@ -231,7 +231,7 @@ returns-in_err-test-clause-moves g c mark due =
     let same = c.make_inactive.ensures.account.size_is in
     let first = first_moved size mark c.args.place c.args.slot c.args.self.now m1 c.index-s.result.now c.keys.result.now old h1 c.requires.slot
     c.index-s.ensures
-    c.keys.ensures c.requires.active due c.make_inactive.ensures.machine c.in_ok-remove_blobs.ensures.made in
+    c.keys.ensures.keys c.requires.active due c.make_inactive.ensures.machine c.in_ok-remove_blobs.ensures.made in
     let second = whole_moved size mark _ m1 m2 h1 h2 (moves_same size c.make_inactive.new.self.size mark _ m1 m2 h1 h2 same
     (c.in_ok-free_waiting.ensures.moves mark (ap (λ n. is_due n mark c.args.place) same ∙ due))) in
     exit_failed size mark c.from_residual-in_err-test.result m m2 m3 old h2 h3 (λ P. search rules)
@@ -254,7 +254,7 @@ returns-clause-moves g c mark due =
     let same = c.make_inactive.ensures.account.size_is in
     let first = first_moved size mark c.args.place c.args.slot c.args.self.now m1 c.index-s.result.now c.keys.result.now old h1 c.requires.slot
     c.index-s.ensures
-    c.keys.ensures c.requires.active due c.make_inactive.ensures.machine c.in_ok-remove_blobs.ensures.made in
+    c.keys.ensures.keys c.requires.active due c.make_inactive.ensures.machine c.in_ok-remove_blobs.ensures.made in
     let second = whole_moved size mark _ m1 m2 h1 h2 (moves_same size c.make_inactive.new.self.size mark _ m1 m2 h1 h2 same
     (c.in_ok-free_waiting.ensures.moves mark (ap (λ n. is_due n mark c.args.place) same ∙ due))) in
     let third = whole_moved size mark _ m2 m3 h2 h3 (moves_same size c.free_waiting.new.self.size mark _ m2 m3 h2 h3

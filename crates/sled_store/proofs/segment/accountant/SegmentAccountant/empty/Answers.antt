@@ -1,16 +1,18 @@
 -- The slot is free now, and no list has it but that of the free ones.
-use Rattle.std.proofs.Common.{◌≡◌, ◌∙◌, ℕ, List, length, refl, ap, arith}
+use Rattle.std.proofs.Common.{◌≡◌, ◌∙◌, ℕ, List, length, refl, ap, arith, inr}
 use Rattle.sled_store.specs.SegmentStates.{SlotState, Machine, free_slot}
 use Rattle.sled_store.specs.inside.Stabilizing.{not_beside}
 use Rattle.sled_store.specs.declared.segment.accountant.SegmentAccountant.{SegmentAccountant}
 use Rattle.sled_store.specs.Accounts.{machine_of}
 use Rattle.sled_store.proofs.Accounts.AccountLemmas.{states_set, updated_account}
 use Rattle.sled_store.proofs.Accounts.HandLemmas.{indexes_same}
-use Rattle.sled_store.proofs.Accounts.StabilSlots.{emptied_slots, emptied_indexes, slot_is}
+use Rattle.sled_store.proofs.Accounts.StabilSlots.{emptied_slots, emptied_indexes, free_room, slot_is}
 use Rattle.sled_store.proofs.segment.accountant.SegmentAccountant.empty.Goals as goal
 
 pub insert-requires : goal.insert-requires
-insert-requires c = omega (arith, c.requires.slot, c.requires.account.rooms.free)
+insert-requires c =
+    let a : SegmentAccountant = c.args.self.now in
+    inr (free_room a.tip (machine_of a).slots c.args.slot c.requires.slot c.requires.account.slots c.requires.done a.free.0 c.requires.account.indexes.free_is a.free.1 c.requires.account.rooms.free)
 
 emptied_is : (xs ys : List SlotState) (tip : ℕ) (c d : List (ℕ × List ℕ)) → xs ≡ ys → c ≡ d → ◌≡◌ {A = Machine} (record { slots = xs; tip = tip; cleaner = c }) (record { slots = ys; tip = tip; cleaner = d })
 emptied_is xs ys tip c d same cleaner = λ i. record { slots = same i; tip = tip; cleaner = cleaner i }

@@ -44,9 +44,9 @@ returns-clause-account g c = bare_account _ _ (record {
   size_is = refl;
   slots = c.new.ensures.items;
   tip = refl;
-  free = c.new-2.ensures;
-  active = c.new-3.ensures;
+  free = c.new-2.ensures.keys;
+  active = c.new-3.ensures.keys;
   inactive = c.new-4.ensures;
-  waiting = c.new-5.ensures;
+  waiting = c.new-5.ensures.keys;
   cleaner = c.new-6.ensures.tie;
 }) (omega (arith, c.args.config.now.config.least)) (omega (arith, c.args.config.now.config.most))

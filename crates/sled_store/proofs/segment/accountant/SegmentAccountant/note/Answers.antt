@@ -21,6 +21,12 @@ module _ (slots : List Slot) (k : ℕ) (s : Slot) (free : List ℕ) (active : Li
       subst (λ l. AreNoted l (noted_as st s.lsn k free active inactive).0 (noted_as st s.lsn k free active inactive).1 (noted_as st s.lsn k free active inactive).2) (sym more)
       (noted_more (take k xs) (slot_state s) st k free active inactive is (omega (arith, length-take k xs)) are)
 
+  free_few : length free ≤ k
+  free_few =
+      let within = noted_within (take k (map slot_state slots)) free active inactive are in
+      let cut = length-take k (map slot_state slots) in
+      omega (arith, within.0, cut)
+
   active_room : length active ≤ k
   active_room =
       let within = noted_within (take k (map slot_state slots)) free active inactive are in
@@ -28,7 +34,7 @@ module _ (slots : List Slot) (k : ℕ) (s : Slot) (free : List ℕ) (active : Li
       omega (arith, within.1, cut)
 
 pub insert-requires : goal.insert-requires
-insert-requires c = omega (arith, c.requires.room.free, c.requires.slot)
+insert-requires c = inr (let few = free_few c.args.self.now.slots.items c.args.slot c.index-s.result.now _ _ _ c.requires.slot c.requires.noted in omega (arith, few, c.requires.room.free, c.requires.slot))
 
 pub insert-requires-in-Active : goal.insert-requires-in-Active
 insert-requires-in-Active c = inr (let few = active_room c.args.self.now.slots.items c.args.slot c.index-s.result.now _ _ _ c.requires.slot c.requires.noted in omega (arith, few, c.requires.room.active, c.requires.slot))

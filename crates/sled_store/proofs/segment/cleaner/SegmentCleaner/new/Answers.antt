@@ -3,7 +3,7 @@ use Rattle.std.proofs.Common.{◌<◌, ◌*◌, ◌^◌, length, sym, subst, ari
 use Rattle.std.specs.List.{All}
 use Rattle.std.specs.List.Sorted.{IsStrictlySortedBy}
 use Rattle.std.specs.Ordering.{nat_cmp}
-use Rattle.sled_store.proofs.Accounts.SortedLemmas.{sorted_nil}
+use Rattle.sled_store.proofs.Sorted.SortedLemmas.{sorted_nil}
 use Rattle.sled_store.proofs.segment.cleaner.SegmentCleaner.new.Goals as goal
 
 pub invariant_of-result : goal.invariant_of-result

@@ -16,7 +16,7 @@ returns-in-Draining c =
     let pages : List ℕ = c.args.self.now.pages.0 in
     let gone : List ℕ = c.args.self.now.gone.0 in
     c.eq.ensures
-    ∙ ap (λ (l : List ℕ). pointwise eqb l c.keys-in-Draining.result.now) c.keys.ensures
-    ∙ ap (λ (l : List ℕ). pointwise eqb pages l) c.keys-in-Draining.ensures
+    ∙ ap (λ (l : List ℕ). pointwise eqb l c.keys-in-Draining.result.now) c.keys.ensures.keys
+    ∙ ap (λ (l : List ℕ). pointwise eqb pages l) c.keys-in-Draining.ensures.keys
     ∙ pointwise_same pages gone
     ∙ ap (λ (s : State). is_draining s && same_pages pages gone) (sym c.in-Draining.is)

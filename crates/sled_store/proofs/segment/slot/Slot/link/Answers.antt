@@ -1,7 +1,7 @@
 -- One page more at most.
 use Rattle.std.proofs.Common.{arith}
 use Rattle.std.specs.Ordering.{nat_cmp}
-use Rattle.sled_store.proofs.Accounts.SortedLemmas.{length_inserted}
+use Rattle.sled_store.proofs.Sorted.SortedLemmas.{length_inserted}
 use Rattle.sled_store.proofs.segment.slot.Slot.link.Goals as goal
 
 pub returns-clause-room : goal.returns-clause-room

@@ -2,7 +2,7 @@
 use Rattle.std.proofs.Common.{◌≡◌, true, inl, subst, sym, List, ℕ}
 use Rattle.std.proofs.lemmas.Cmp.{nat_cmp_total}
 use Rattle.sled_store.specs.SegmentStates.{has_page}
-use Rattle.sled_store.proofs.Accounts.SortedLemmas.{there_inserted}
+use Rattle.sled_store.proofs.Sorted.SortedLemmas.{there_inserted}
 use Rattle.sled_store.proofs.segment.slot.Slot.note_gone.Goals as goal
 
 pub returns-then-place-self-clause-room : goal.returns-then-place-self-clause-room

@@ -1,0 +1,4 @@
+pub mod EntryLemmas
+pub mod FrontLemmas
+pub mod SearchLemmas
+pub mod SortedLemmas

@@ -1,7 +1,0 @@
-use Rattle.sled_store.proofs.Accounts.SortedLemmas.{sorted_nil}
-use Rattle.std.specs.List.Sorted.{IsStrictlySortedBy}
-use Rattle.std.proofs.Common.{subst, sym}
-use Rattle.sled_store.proofs.segment.queue.SortedQueue.new.Goals as goal
-
-pub invariant_of-result : goal.invariant_of-result
-invariant_of-result g c = subst (IsStrictlySortedBy g.K.Ord.cmp) (sym c.new.ensures.items) (sorted_nil g.K.Ord.cmp)

@@ -1,0 +1,11 @@
+-- So far: the keys in front are less, those behind greater, and what is left may be searched.
+use Rattle.std.proofs.Common.{◌-◌}
+use Rattle.std.specs.Map.{keys_of}
+use Rattle.sled_store.proofs.Sorted.SearchLemmas.{IsSearching}
+use Rattle.sled_store.proofs.segment.sorted.map.search.Given as goal
+
+abbrev pub invariant-loop-low : goal.invariant-loop-low
+invariant-loop-low g l = IsSearching g.K.Ord.cmp l.key (keys_of l.entries) l.fn.count l.count l.low l.high
+
+abbrev pub decreases-loop-low : goal.decreases-loop-low
+decreases-loop-low g l = l.high - l.low
