@@ -11,6 +11,7 @@ pub mod Facts
 pub mod Filled
 pub mod FitsAnew
 pub mod FitsBatches
+pub mod FitsGrown
 pub mod HeldFrom
 pub mod HoldsLemmas
 pub mod HoldsRaised

@@ -1,4 +1,3 @@
-pub mod Behind
 pub mod Blobs
 pub mod Cleared
 pub mod Crash

@@ -28,5 +28,6 @@ pub mod SealedCalls
 pub mod SealedCounts
 pub mod SealedFile
 pub mod Slices
+pub mod Spent
 pub mod WriteMoments
 pub mod Zeros

@@ -5,7 +5,7 @@ use Rattle.sled_codec.specs.History.{Message}
 use Rattle.sled_store.specs.Device.{Trace}
 use Rattle.sled_core.specs.declared.logger.Log.{Log}
 use Rattle.sled_core.specs.declared.reservation.Reservation.{Reservation}
-use Rattle.sled_core.specs.Fits.{Awaits, KeepsBuffers, fillings_of, given_up_of, heads_of, machine_at, open_places}
+use Rattle.sled_core.specs.Fits.{Awaits, KeepsBuffers, fillings_of, given_up_of, heads_of, machine_at, open_places, pooled_of}
 use Rattle.sled_core.specs.Among.{AreAmong}
 use Rattle.sled_core.specs.Keeps.{KeepsOthers, SamePosition}
 use Rattle.sled_core.specs.Logged.{in_log}
@@ -22,6 +22,7 @@ pub record EndsTicket {T D C : Type 0} (trace : D → Trace) (sum : List ℕ →
   pub heads : AreAmong (heads_of new) (heads_of old)
   pub fillings : AreAmong (fillings_of new) (fillings_of old)
   pub machine : machine_at new ≡ machine_at old
+  pub pooled : pooled_of new ≡ pooled_of old
 
 -- The message that a ticket awaits is given up: each that counts as given up then is that message, as the log has it, or was given up before.
 abbrev pub GivesUp : {D C : Type 0} → Reservation → Log D C → Log D C → Type 0

@@ -34,6 +34,7 @@ use Rattle.sled_core.specs.LogSegments.{begins_from, held_from}
 use Rattle.sled_core.specs.Logged.{in_log, logged}
 use Rattle.sled_core.specs.OpenBatches.{batch_of, not_whole, stable_below}
 use Rattle.sled_core.specs.OpenPlaces.{open_places_along}
+use Rattle.sled_core.specs.Pool.{count_unwritten}
 use Rattle.sled_core.specs.Positions.{Position, behind_record, is_short, placed_at, lid_at, position_in, size_at}
 use Rattle.sled_core.specs.SealedBuffers.{sealed_count}
 use Rattle.sled_core.specs.Tickets.{index_of, IsFor}
@@ -109,6 +110,14 @@ stable_end log = stable_below (synced_end log) (noted_in log)
 -- the place behind the greatest record that was reserved; before the first reservation that is the place behind the stable end with which the log began
 abbrev pub reserved_end : {D C : Type 0} → Log D C → ℕ
 reserved_end log = log.reserved_to
+
+-- how many buffers of segments that were written a log keeps for further ones
+abbrev pub pooled_of : {D C : Type 0} → Log D C → ℕ
+pooled_of log = log.pool.count
+
+-- how many of its segments aren't wholly on the device
+abbrev pub unwritten_segments : {D C : Type 0} → Log D C → ℕ
+unwritten_segments log = count_unwritten (segment_size_of log) (line_of log)
 
 -- how many pins are out
 abbrev pub pins_of : {D C : Type 0} → Log D C → ℕ
@@ -225,6 +234,10 @@ start_behind log page n =
 -- and which slots there are then: where it needs one, that one's is handed out
 abbrev pub machine_behind : {D C : Type 0} → Log D C → ℕ → ℕ → Machine
 machine_behind log page n = if is_moved log page n then (target_of log page n).machine else machine_at log
+
+-- how many buffers of segments it keeps then: where it needs one, that takes one of them
+abbrev pub pooled_behind : {D C : Type 0} → Log D C → ℕ → ℕ → ℕ
+pooled_behind log page n = if is_moved log page n then pooled_of log - 1 else pooled_of log
 
 -- To seal the current buffer takes a further segment, since no further record has room in its own, and there is none in reach.
 abbrev pub IsUsedUp : {D C : Type 0} → Log D C → Type 0
@@ -393,6 +406,7 @@ pub record IsUnchanged {D C : Type 0} (old new : Log D C) : Type 0 where
   pub noted : noted_in new ≡ noted_in old
   pub kept : kept_batches new ≤ kept_batches old
   pub config : new.config ≡ old.config
+  pub pooled : pooled_of new ≡ pooled_of old
 
 -- what the log runs on
 abbrev pub config_of : {D C : Type 0} → Log D C → RunningConfig D C

@@ -15,7 +15,7 @@ use Rattle.sled_core.specs.declared.iterator.log_iter.Source.{Source}
 use Rattle.sled_core.specs.declared.iterator.log_iter.Source.TheVariants as source
 use Rattle.sled_core.specs.declared.logger.Log.{Log}
 use Rattle.sled_core.specs.Causes.{failure_in}
-use Rattle.sled_core.specs.Fits.{KeepsBuffers, KeepsTickets, device_of, fault_of, fillings_of, heads_of, machine_at, segment_size_of, stable_end}
+use Rattle.sled_core.specs.Fits.{KeepsBuffers, KeepsTickets, device_of, fault_of, fillings_of, heads_of, machine_at, pooled_of, segment_size_of, stable_end}
 use Rattle.sled_core.specs.Keeps.{OnlyReads, Preserves, SamePosition}
 use Rattle.sled_core.specs.Iterates.{Item, Damage, IsIteration, NextGives, NextAnswers, BehindLast}
 use Rattle.sled_core.specs.LogSegments.{AreSegments, begins_from}
@@ -64,6 +64,7 @@ pub record IsOnlyRead {D C : Type 0} (trace : D → Trace) (sum : List ℕ → �
   pub heads : AreAmong (heads_of new) (heads_of old)
   pub fillings : AreAmong (fillings_of new) (fillings_of old)
   pub machine : machine_at new ≡ machine_at old
+  pub pooled : pooled_of new ≡ pooled_of old
   pub account : account_of new ≡ account_of old
 
 -- So it was for an item, and it keeps a failure of its device.

@@ -12,7 +12,7 @@ use Rattle.sled_core.specs.Account.{account_of}
 use Rattle.sled_core.specs.declared.logger.Log.{Log}
 use Rattle.sled_core.specs.declared.reservation.Reservation.{Reservation}
 use Rattle.sled_core.specs.Fits.{KeepsTickets, Awaits, NoneSealed, buffers_of, config_of, current_begin, current_of, device_of, fault_of, kept_batches}
-use Rattle.sled_core.specs.Fits.{line_of, machine_at}
+use Rattle.sled_core.specs.Fits.{line_of, machine_at, pooled_of}
 use Rattle.sled_core.specs.Fits.{ledger_for, ledger_of, next_place, noted_in, pins_of, position_of, position_sealed, position_with, reserved_end}
 use Rattle.sled_core.specs.Fits.{segment_size_of, start_of, synced_end, waiting_of}
 use Rattle.sled_core.specs.invariants.Fits.{Holds}
@@ -158,6 +158,7 @@ pub record IsUnchangedOver {D C : Type 0} (old new : Log D C) : Type 0 where
   pub account : account_of new ≡ account_of old
   pub machine : machine_at new ≡ machine_at old
   pub config : ConfigKept (config_of old) (config_of new)
+  pub pooled : pooled_of new ≡ pooled_of old
 
 -- where the current buffer begins once it is sealed: behind itself, or with the next segment, where no further record has room in its own
 abbrev pub start_sealed : {D C : Type 0} → Log D C → BufferStart

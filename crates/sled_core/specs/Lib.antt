@@ -35,6 +35,8 @@ pub mod OpenPlaces
 pub mod Own
 pub mod OwnBlobs
 pub mod OwnNames
+pub mod Pool
+pub mod Pooled
 pub mod Positions
 pub mod Prepared
 pub mod ReadBuffer

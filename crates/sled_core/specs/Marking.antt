@@ -38,6 +38,7 @@ pub record ChangesAccount {D C : Type 0} (old new : Log D C) : Type 0 where
   pub pins : new.pins ≡ old.pins
   pub marks : new.marks ≡ old.marks
   pub batches : new.batches ≡ old.batches
+  pub pool : new.pool ≡ old.pool
 
 -- What a mark makes of a log: this of the slots, at Ok, and of nothing else anything. Where it failed the slots are as they were.
 pub record Marks {T D C : Type 0} (result : Result T Error) (step : Machine → Machine) (old new : Log D C) : Type 0 where

@@ -1,7 +1,7 @@
 -- What a log is made ready for: a record that will stand behind all bytes of its current segment.
 use Rattle.std.specs.Prelude.{◌≡◌, ℕ, List}
 use Rattle.sled_core.specs.declared.logger.Log.{Log}
-use Rattle.sled_core.specs.Fits.{KeepsTickets, machine_at, machine_behind, position_of, reserved_end, start_behind, start_of, target_of, waiting_behind, waiting_of}
+use Rattle.sled_core.specs.Fits.{KeepsTickets, machine_at, machine_behind, pooled_behind, pooled_of, position_of, reserved_end, start_behind, start_of, target_of, waiting_behind, waiting_of}
 use Rattle.sled_core.specs.Keeps.{KeepsSeen}
 use Rattle.sled_core.specs.Marked.{BeginsMarked}
 
@@ -14,4 +14,5 @@ pub record IsMadeReady {D C : Type 0} (sum : List ℕ → ℕ) (old new : Log D 
   pub position : position_of new ≡ target_of old page n
   pub seals : (waiting_of new ≡ waiting_behind sum old page n) × (start_of new ≡ start_behind old page n)
   pub machine : machine_at new ≡ machine_behind old page n
+  pub pooled : pooled_of new ≡ pooled_behind old page n
   pub marked : BeginsMarked sum old new

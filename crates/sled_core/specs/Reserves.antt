@@ -16,7 +16,7 @@ use Rattle.sled_store.specs.Script.{Performs, after_all}
 use Rattle.sled_core.specs.declared.logger.Log.{Log}
 use Rattle.sled_core.specs.Causes.{ReserveAnswers, ReserveCauses}
 use Rattle.sled_core.specs.Fits.{Awaits, IsLeastOpen, IsUnchanged, IsUsedUpFor, blob_at, config_of, device_of, fault_of, given_up_of, message_as, open_for}
-use Rattle.sled_core.specs.Fits.{machine_at, machine_behind, open_places}
+use Rattle.sled_core.specs.Fits.{machine_at, machine_behind, open_places, pooled_behind, pooled_of}
 use Rattle.sled_core.specs.Fits.{position_behind, position_of, reserved_end, size_for, start_behind, start_of, target_of, waiting_behind, waiting_of}
 use Rattle.sled_core.specs.Among.{AreAmong}
 use Rattle.sled_core.specs.Keeps.{KeepsSeen, Preserves}
@@ -84,6 +84,7 @@ pub record StandsBehind {D C : Type 0} (sum : List ℕ → ℕ) (old new : Log D
   pub waiting : waiting_of new ≡ waiting_behind sum old page n
   pub start : start_of new ≡ start_behind old page n
   pub machine : machine_at new ≡ machine_behind old page n
+  pub pooled : pooled_of new ≡ pooled_behind old page n
   pub marked : BeginsMarked sum old new
 
 -- What a reservation comes to, by whether the item goes to a blob, and how long the body of its record is.

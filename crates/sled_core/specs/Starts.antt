@@ -12,7 +12,7 @@ use Rattle.sled_store.specs.Device.{Trace, state_of}
 use Rattle.sled_store.specs.Script.{Performs, after_all}
 use Rattle.sled_store.specs.Started.{started}
 use Rattle.sled_core.specs.Fits.{NoneOpen, NoneSealed, config_of, fault_of, given_up_of, kept_batches, machine_at, noted_in, pins_of, position_of, reserved_end}
-use Rattle.sled_core.specs.Fits.{segment_size_of}
+use Rattle.sled_core.specs.Fits.{pooled_of, segment_size_of}
 use Rattle.sled_core.specs.Fits.{start_of, synced_end}
 use Rattle.sled_core.specs.FreeSlots.{begun_machine}
 use Rattle.sled_core.specs.Positions.{Position, is_short, next_segment_at}
@@ -64,6 +64,7 @@ pub record BeginsBehind {D C : Type 0} (size len : ℕ) (s : SnapshotModel) (log
   -- the marks begin as the snapshot's place
   pub account : account_of log ≡ record { mark = pos (stable_place s.stable); durable = pos (stable_place s.stable); pinned = false }
   pub fault : fault_of log ≡ None
+  pub pooled : pooled_of log ≡ 0
   pub sized : segment_size_of log ≡ size
 
 -- All calls of a start were made: the free slots of the file were filled and synced, and cut off its end but for one.

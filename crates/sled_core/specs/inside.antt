@@ -11,6 +11,9 @@ pub mod FreeSlots
 pub mod Full
 pub mod Hides
 pub mod Iterators
+pub mod Laid
+pub mod LaidBytes
+pub mod LaidView
 pub mod Lasting
 pub mod Lending
 pub mod LogFacts
@@ -23,6 +26,8 @@ pub mod OneWritten
 pub mod OpenBatches
 pub mod OpenPlaces
 pub mod OwnLog
+pub mod Pool
+pub mod Pooling
 pub mod Positions
 pub mod Prepared
 pub mod Reached

@@ -8,17 +8,20 @@ ghost use Rattle.sled_core.specs.declared.iobuf.Reserved.{Reserved};
 ghost use Rattle.sled_core.specs.inside.Buffers.{IsChain, IsHeaded, canceling, completing, ended, ending, ending_as, marking, placeholder_head, reserved_for};
 ghost use Rattle.sled_core.specs.Buffers.{first_open_in, most_open, open_in, open_state};
 ghost use Rattle.sled_core.specs.Manifests.{is_manifest};
+ghost use Rattle.sled_core.specs.inside.Laid.{IsLaid, IsLaid-prop};
 ghost use Rattle.sled_core.specs.inside.SealedBuffers.{AreSealed, FirstUnwritten};
 ghost use Rattle.sled_core.specs.SealedBuffers.{sealed_count, sealed_end};
 ghost use Rattle.sled_core.specs.inside.SealedProps.{IsChain-prop, AreSealed-prop, FirstUnwritten-prop};
 
+pub(crate) mod bytes;
 pub(crate) mod closing;
 pub mod intervals;
 pub(crate) mod record;
 pub(crate) mod sealing;
 pub(crate) mod start;
 
-use crate::iobuf::record::{Head, push_placeholder, sum_around};
+use crate::iobuf::bytes::SegmentBytes;
+use crate::iobuf::record::Head;
 use crate::iobuf::sealing::{all_ended, end_sealed};
 use sled_codec::result::{Error, LogOffset, Lsn, PageId, Result};
 use sled_codec::serialization::{Checksum, LogKind, MessageKind, Serialize};
@@ -113,7 +116,7 @@ pub(crate) struct Sealed {
 /// that are on the device, the sealed ones, and the current one.
 #[derive(Drop)]
 pub(crate) struct IoBuf {
-    pub(crate) bytes: Vec<u8>,
+    pub(crate) bytes: SegmentBytes,
     /// Where the first sealed buffer begins: all before it is on the device.
     pub(crate) written_len: usize,
     /// The reservations behind that, by place.
@@ -143,31 +146,54 @@ pub(crate) struct IoBuf {
     ghost chain: { IsChain (max 20 begin) (drop first reserved.items) (length bytes.items) } by { IsChain-prop _ _ _ },
     ghost counted: { writers_of word ≡ open_in (drop first reserved.items) },
     ghost few: { writers_of word ≤ most_open },
+    ghost laid: { IsLaid bytes reserved.items sealed.items } by { IsLaid-prop bytes reserved.items sealed.items },
 }
 
 impl IoBuf {
     ghost use Rattle.sled_core.specs.Begun.{view_at};
-    ghost use Rattle.sled_core.specs.inside.Turned.{EndsAs, reserved_now};
+    ghost use Rattle.sled_core.specs.inside.Turned.{EndsAs, HasRoomIn, reserved_now};
     ghost use Rattle.sled_core.specs.Buffers.{none_open};
 
-    /// The bytes of a segment that has its header alone, with room for so many, and for a reservation.
+    /// A segment that has its header alone, with room for so many bytes, and for a reservation.
     pub(crate) fn new(alloc: Global, header: &[u8; 20], room: usize) -> Result<IoBuf>
+        requires { 52 ≤ room }
         ensures bytes { IfOk result (λ b. b.bytes.items ≡ header.now) }
         ensures from { IfOk result (λ b. b.written_len ≡ 0) }
         ensures reserved { IfOk result (λ b. b.reserved.items ≡ []) }
         ensures sealed { IfOk result (λ b. b.sealed.items ≡ []) }
-        ensures gone { IfOk result (λ b. b.gone ≡ 0) }
         ensures filled { IfOk result (λ b. b.filled ≡ None) }
-        ensures room { IfOk result (λ b. room ≤ vec_capacity b.bytes) }
-        ensures place { IfOk result (λ b. 0 < deque_capacity b.reserved) }
+        ensures there { IfOk result (λ b. 0 < b.bytes.room) }
         ensures err { IsOkUnless result Error.OutOfMemory }
     {
-        let mut bytes = Vec::with_capacity(alloc, room)?;
-        bytes.extend_from_slice(header)?;
-        let mut reserved = VecDeque::new(alloc);
-        reserved.reserve(1)?;
-        Ok(IoBuf {
-            bytes,
+        let bytes = Vec::with_capacity(alloc, room)?;
+        let reserved = room_for_one(alloc)?;
+        Ok(IoBuf::begun(alloc, header, bytes, reserved))
+    }
+
+    /// A segment that has its header alone, in bytes that are empty, and that have room for it and for what is summed behind a record.
+    pub(crate) fn begun(
+        alloc: Global,
+        header: &[u8; 20],
+        bytes: Vec<u8>,
+        reserved: VecDeque<Reserved>,
+    ) -> IoBuf
+        requires empty { bytes.items ≡ [] }
+        requires room { 52 ≤ vec_capacity bytes }
+        requires none { reserved.items ≡ [] }
+        requires place { 0 < deque_capacity reserved }
+        ensures bytes { result.bytes.items ≡ header.now }
+        ensures from { result.written_len ≡ 0 }
+        ensures reserved { result.reserved.items ≡ [] }
+        ensures sealed { result.sealed.items ≡ [] }
+        ensures gone { result.gone ≡ 0 }
+        ensures filled { result.filled ≡ None }
+        ensures there { vec_capacity bytes ≤ result.bytes.room }
+        ensures room { (len : ℕ) → len + 52 ≤ vec_capacity bytes → HasRoomIn result len }
+    {
+        let mut bytes = bytes;
+        let _ = bytes.extend_from_slice(header);
+        IoBuf {
+            bytes: SegmentBytes::new(bytes),
             written_len: 0,
             reserved,
             gone: 0,
@@ -176,22 +202,25 @@ impl IoBuf {
             begin: 0,
             first: 0,
             word: 0,
-        })
+        }
     }
 
-    /// The buffer of a segment of which so many bytes are on the device.
-    pub(crate) fn resumed(alloc: Global, from: usize) -> Result<IoBuf>
+    /// The buffer of a segment of which so many bytes are on the device, with room for so many.
+    pub(crate) fn resumed(alloc: Global, from: usize, room: usize) -> Result<IoBuf>
         requires begun { 20 ≤ from }
-        requires small { from < 2 ^ 63 }
+        requires room { from + 32 ≤ room }
         ensures len { IfOk result (λ b. length b.bytes.items ≡ from) }
         ensures from { IfOk result (λ b. b.written_len ≡ from) }
         ensures reserved { IfOk result (λ b. b.reserved.items ≡ []) }
         ensures filled { IfOk result (λ b. b.filled ≡ None) }
         ensures sealed { IfOk result (λ b. b.sealed.items ≡ []) }
+        ensures there { IfOk result (λ b. 0 < b.bytes.room) }
         ensures err { IsOkUnless result Error.OutOfMemory }
     {
+        let mut bytes = Vec::with_capacity(alloc, room)?;
+        bytes.resize(from, 0)?;
         Ok(IoBuf {
-            bytes: vec![in alloc; 0; from]?,
+            bytes: SegmentBytes::new(bytes),
             written_len: from,
             reserved: VecDeque::new(alloc),
             gone: 0,
@@ -232,10 +261,12 @@ impl IoBuf {
     /// Makes room for a record of this length, for what is summed behind it, and for its reservation.
     #[inline(always)]
     pub(crate) fn make_room(&mut self, len: usize) -> Result<()>
-        requires { len < 2 ^ 32 }
+        requires len { len < 2 ^ 32 }
+        requires there { 0 < self.old.bytes.room }
         ensures same { (site : SegmentPosition) → view_at site self.new ≡ view_at site self.old }
-        ensures room { OnOk result (length self.old.bytes.items + len + 32 ≤ vec_capacity self.new.bytes) }
+        ensures room { OnOk result (length self.old.bytes.items + len + 32 ≤ self.new.bytes.room) }
         ensures place { OnOk result (deque_len self.new.reserved < deque_capacity self.new.reserved) }
+        ensures there { 0 < self.new.bytes.room }
         ensures err { IsOkUnless result Error.OutOfMemory }
     {
         self.bytes.reserve(len + MAX_MSG_HEADER_LEN)?;
@@ -255,7 +286,7 @@ impl IoBuf {
     )
         requires fits { T.fits (T.meaning item.now) }
         requires len { item_len ≡ length (T.short (T.meaning item.now)) }
-        requires room { length self.old.bytes.items + head.now.len + item_len + 32 ≤ vec_capacity self.old.bytes }
+        requires room { length self.old.bytes.items + head.now.len + item_len + 32 ≤ self.old.bytes.room }
         requires place { deque_len self.old.reserved < deque_capacity self.old.reserved }
         requires body { is_manifest message.now.log_kind message.now.page ≡ true → item_len ≡ 8 }
         requires few { open_in (drop (sealed_count self.old.sealed.items) self.old.reserved.items) < most_open }
@@ -264,9 +295,10 @@ impl IoBuf {
             (reserved_for message.now (length self.old.bytes.items) head.now.len item_len (C.sum_of (T.short (T.meaning item.now)
             ++ drop 4 (take head.now.len head.now.bytes)))) (view_at site self.old) }
         ensures len { length self.new.bytes.items ≡ length self.old.bytes.items + head.now.len + item_len }
+        ensures there { 0 < self.new.bytes.room }
     {
         let from = self.bytes.len();
-        let sum = push_placeholder(checksum, &mut self.bytes, head, item, item_len);
+        let sum = self.bytes.push_placeholder(checksum, head, item, item_len);
         self.reserved.push_back_reserved(Reserved {
             from,
             header_len: head.len,
@@ -314,7 +346,7 @@ impl IoBuf {
         ensures { EndsAs index (λ bytes r. marking C.sum_of bytes r peg) ReservationState.Manifest self.old self.new }
     {
         let r = self.reserved[index];
-        put(&mut self.bytes, r.from + r.header_len, &peg.to_le_bytes());
+        self.bytes.put(r.from + r.header_len, &peg.to_le_bytes());
         self.end_as(checksum, index, r.kind, ReservationState::Manifest);
     }
 
@@ -332,8 +364,8 @@ impl IoBuf {
         ensures { EndsAs index (λ bytes r. ending_as C.sum_of bytes r kind) state self.old self.new }
     {
         let r = self.reserved[index];
-        put(&mut self.bytes, r.from + 4, &[u8::from(kind)]);
-        let sum = sum_around(checksum, &mut self.bytes, r.from, r.header_len, r.len);
+        self.bytes.put(r.from + 4, &[u8::from(kind)]);
+        let sum = self.bytes.sum_around(checksum, r.from, r.header_len, r.len);
         self.end(index, sum, kind, state);
     }
 
@@ -346,7 +378,7 @@ impl IoBuf {
         ensures { EndsAs index (λ bytes r. ending sum kind) state self.old self.new }
     {
         let r = self.reserved[index];
-        put_ending(&mut self.bytes, r.from, sum, kind);
+        self.bytes.put_ending(r.from, sum, kind);
         close(&mut self.reserved, index, state);
         if index < self.first {
             end_sealed(&mut self.sealed, r.from);
@@ -356,25 +388,15 @@ impl IoBuf {
     }
 }
 
-/// Writes over what is there.
-#[inline(always)]
-fn put(buf: &mut Vec<u8>, at: usize, bytes: &[u8])
-    requires { at + length bytes.now ≤ length buf.old.items }
-    ensures bytes { buf.new.items ≡ written buf.old.items at bytes.now }
-    ensures len { length buf.new.items ≡ length buf.old.items }
+/// No reservations, with room for one.
+pub(crate) fn room_for_one(alloc: Global) -> Result<VecDeque<Reserved>>
+    ensures none { IfOk result (λ d. d.items ≡ []) }
+    ensures place { IfOk result (λ d. 0 < deque_capacity d) }
+    ensures memory { IsOkUnless result Error.OutOfMemory }
 {
-    buf[at..at + bytes.len()].copy_from_slice(bytes);
-}
-
-/// Writes a sum, flipped, and a kind over the beginning of a record's header.
-#[inline(always)]
-fn put_ending(buf: &mut Vec<u8>, at: usize, sum: u32, kind: MessageKind)
-    requires { at + 5 ≤ length buf.old.items }
-    ensures bytes { buf.new.items ≡ written buf.old.items at (ending sum kind) }
-    ensures len { length buf.new.items ≡ length buf.old.items }
-{
-    let sum = (u32::MAX - sum).to_le_bytes();
-    put(buf, at, &[sum[0], sum[1], sum[2], sum[3], u8::from(kind)]);
+    let mut reserved = VecDeque::new(alloc);
+    reserved.reserve(1)?;
+    Ok(reserved)
 }
 
 /// The reservation at an index has ended so.

@@ -1,6 +1,5 @@
-//! Laws of logs, each the contract of a function that does nothing. They are the interface for a client: what it may rely on besides the
-//! contracts of the calls. A proof cites a law by the lemma of `proofs/PublicLaws.antt` that says the same; what that file has besides, under
-//! "Helpers", promises nothing more.
+//! Laws of logs, each the contract of a function that does nothing: what a client may rely on besides the contracts of the calls. A proof cites a
+//! law by the lemma of `proofs/PublicLaws.antt` that says the same; what that file has besides, under "Helpers", promises nothing more.
 ghost use Rattle.std.specs.Prelude.{◌≡◌, ◌↔◌, ◌⊎◌, ◌≤◌, ◌<◌, ◌≤ℤ◌, ◌<ℤ◌, ◌+ℤ◌, ◌-ℤ◌, ◌+◌, ◌*◌, ◌/◌, ◌^◌, ◌∷◌, ◌++◌, ℕ, ℤ, pos, true, Bool, List, [], replicate, Option, None, Some, Result, IfErr, IfOk, OnOk, length, map, ◌-◌, Contains, if◌then◌else◌, int_lt, unsigned_abs, take};
 ghost use Rattle.std.specs.Borrow.{MutBor};
 ghost use Rattle.std.specs.declared.io.Error.{Error as IoError};

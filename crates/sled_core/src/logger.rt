@@ -18,6 +18,7 @@ ghost use Rattle.sled_store.specs.Begin.{IsStartable, IsInReach};
 ghost use Rattle.sled_core.specs.Recoverable.{LeavesRecoverable, NoHeaderOfZeros, RecoverableIfOwn};
 ghost use Rattle.sled_core.specs.inside.AccountProps.{IsAccountant-prop};
 ghost use Rattle.sled_core.specs.inside.LogFacts.{AreNotedBatches, AreNotedBatches-prop, AreOpenSegments, AreOpenSegments-prop};
+ghost use Rattle.sled_core.specs.inside.Pooling.{IsPooling, IsPooling-prop};
 ghost use Rattle.sled_core.specs.Causes.{FaultAnswers};
 ghost use Rattle.sled_core.specs.inside.Causes.{RecordAnswers};
 
@@ -32,6 +33,7 @@ mod iterating;
 pub(crate) mod joined_marks;
 mod mark_writebatch;
 mod marking;
+pub(crate) mod pool;
 pub mod read_at;
 pub mod read_message;
 mod read_pointer;
@@ -50,6 +52,8 @@ use crate::logger::batches::PendingBatches;
 use crate::logger::fault::Fault;
 use crate::logger::io_bufs::{IoBufs, SegmentBuffer, no_segments};
 use crate::logger::joined_marks::JoinedMarks;
+pub use crate::logger::pool::MAX_POOLED;
+use crate::logger::pool::SegmentPool;
 use crate::logger::read_message::LogRead;
 use crate::logger::read_pointer::{place_read, read_pointer};
 use crate::logger::ready::ReadyBuffers;
@@ -57,7 +61,7 @@ use crate::reservation::{Guard, Reservation};
 use sled_codec::result::{DiskPtr, Error, LogOffset, Lsn, PageId, Result};
 use sled_codec::serialization::{Checksum, LogKind, SegmentNumber, Serialize, Snapshot};
 use sled_store::segment::accountant::SegmentAccountant;
-use sled_store::segment::{MINIMUM_ITEMS_PER_SEGMENT, may_begin};
+use sled_store::segment::{MAX_MSG_HEADER_LEN, MINIMUM_ITEMS_PER_SEGMENT, may_begin};
 use sled_store::{Device, RunningConfig};
 use std::collections::VecDeque;
 use std::io;
@@ -80,9 +84,12 @@ pub struct Log<D, C> {
     marks: JoinedMarks,
     /// The batches that were noted, and the manifests that are open.
     batches: PendingBatches,
+    /// The bytes of segments that were written, for further ones.
+    pool: SegmentPool,
     ghost line: { AreOpenSegments config.config.segment_size reserved_to segments ready } by { AreOpenSegments-prop _ _ segments ready },
     ghost account: { IsAccountant config.config.segment_size accountant } by { IsAccountant-prop config.config.segment_size accountant },
     ghost noted: { AreNotedBatches reserved_to segments batches } by { AreNotedBatches-prop _ segments batches },
+    ghost pooling: { IsPooling config.config.segment_size segments pool } by { IsPooling-prop config.config.segment_size segments pool },
 }
 
 impl<D: Device, C: Checksum> Log<D, C> {
@@ -93,6 +100,7 @@ impl<D: Device, C: Checksum> Log<D, C> {
     ghost use Rattle.sled_core.specs.Endings.{EndsTicket};
     ghost use Rattle.sled_core.specs.Keeps.{ConfigKept, GoesOn, HoldsFast, KeepsLog, KeepsWriting, Preserves};
     ghost use Rattle.sled_core.specs.Marked.{StartsMarked};
+    ghost use Rattle.sled_core.specs.Pooled.{PoolsSome};
     ghost use Rattle.sled_core.specs.ReadBuffer.{IsUsedUpAt, ReadAnswers, RefusesPlace, SealsAround, Settles, WritesAround, held_at};
     ghost use Rattle.sled_core.specs.ReadPointer.{IsDamageAt, IsReadOf, ReadsBlob, place_read};
     ghost use Rattle.sled_core.specs.inside.ReadPointer.{IsDamageOf};
@@ -138,6 +146,10 @@ impl<D: Device, C: Checksum> Log<D, C> {
     {
         let mut config = config;
         let alloc = config.alloc();
+        let room = config.config.segment_size as usize + MAX_MSG_HEADER_LEN;
+        let Ok(pool) = SegmentPool::empty(alloc, room) else {
+            return Err((Error::OutOfMemory, config));
+        };
         match begin(&mut config, snapshot) {
             Ok((beginning, buffer, accountant)) => Ok(Log {
                 segments: IoBufs {
@@ -158,6 +170,7 @@ impl<D: Device, C: Checksum> Log<D, C> {
                 pins: 0,
                 marks: JoinedMarks::from_place(snapshot.stable_place() as Lsn),
                 batches: PendingBatches::new(alloc),
+                pool,
             }),
             Err(e) => Err((e, config)),
         }
@@ -305,6 +318,7 @@ impl<D: Device, C: Checksum> Log<D, C> {
         ensures answers { let blobs = (state_of (D.trace (device_of self.new))).blobs.file in let at = place_read lsn ptr in
             ReadAnswers C.sum_of blobs ptr result at (synced_end self.old) (reserved_end self.old) (held_at C.sum_of self.old at) (IsUsedUpAt self.old at)
             (fault_of self.old) (fault_of self.new) (D.faults (device_of self.old)) (D.faults (device_of self.new)) }
+        ensures pooled { PoolsSome self.old self.new }
     {
         if let Some(e) = self.fault.kept {
             return Err(Error::Io(e));
@@ -328,6 +342,7 @@ impl<D: Device, C: Checksum> Log<D, C> {
         ensures trace { D.trace (device_of self.new) ≡ D.trace (device_of self.old) }
         ensures line { line_of self.new ≡ line_of self.old }
         ensures ledger { ledger_of self.new ≡ ledger_of self.old }
+        ensures pool { self.new.pool ≡ self.old.pool }
         ensures answers { let blobs = (state_of (D.trace (device_of self.old))).blobs.file in
             RecordAnswers C.sum_of blobs ptr result None (fault_of self.new) (D.faults (device_of self.old)) (D.faults (device_of self.new)) }
     {
@@ -361,6 +376,7 @@ impl<D: Device, C: Checksum> Log<D, C> {
             pins: _,
             marks: _,
             batches: _,
+            pool: _,
         } = self;
         config
     }

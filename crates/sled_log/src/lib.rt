@@ -38,6 +38,7 @@ pub mod device {
 /// batch counts only as a whole.
 pub mod iobuf {
     pub use sled_core::iobuf::intervals::StabilityIntervals;
+    pub use sled_core::logger::MAX_POOLED;
     pub use sled_store::segment::{MAX_MSG_HEADER_LEN, SEG_HEADER_LEN};
 }
 
@@ -50,19 +51,20 @@ pub mod logger {
     pub use sled_codec::serialization::{
         BatchManifest, LogKind, MessageHeader, MessageKind, SegmentHeader, SegmentNumber,
     };
-    pub use sled_core::logger::Log;
     pub use sled_core::logger::read_at::{BasedBuf, ReadAt};
     pub use sled_core::logger::read_message::{LogRead, read_message};
+    pub use sled_core::logger::{Log, MAX_POOLED};
     pub use sled_store::segment::{MAX_MSG_HEADER_LEN, MINIMUM_ITEMS_PER_SEGMENT, SEG_HEADER_LEN};
 }
 
 /// Segments: which slot each gets, when its slot is free again, and which pages are to be written again first.
 ///
 /// A log has an accountant of its own. One that stands alone begins with `SegmentAccountant::start`, and gives the pages
-/// (`clean_pop`); its cleaner is a part of it.
+/// (`clean_pop`); its cleaner is a part of it. What it looks up stands in sorted sets, whose search is counted.
 pub mod segment {
     pub use sled_store::segment::accountant::{CacheInfo, SegmentAccountant};
     pub use sled_store::segment::cleaner::SegmentCleaner;
+    pub use sled_store::segment::{Count, SortedMap, SortedSet};
 }
 
 /// Tickets: what a caller holds for a place that is kept for it, and for a pin.

@@ -66,6 +66,7 @@ impl Opened {
             "flush" => self.flush(out),
             "make_stable" => self.make_stable(words.signed(), out),
             "pending" => out.text.number(self.log.pending() as u64),
+            "pooled" => out.text.number(self.log.pooled() as u64),
             "write" => self.write(words.number(), out),
             "roll" => push_growth(self.log.roll_iobuf(), out),
             "read" => self.read(words.number(), words.signed(), words.pointer(), out),

@@ -30,6 +30,7 @@ module _ {D C : Type 0} (trace : D → Trace) (sum : List ℕ → ℕ) where
     heads = λ h there. there;
     fillings = λ f there. there;
     machine = refl;
+    pooled = refl;
     account = refl;
   }
 
@@ -53,6 +54,7 @@ module _ {D C : Type 0} (trace : D → Trace) (sum : List ℕ → ℕ) where
     heads = λ h there. first.heads h (so.heads h there);
     fillings = λ f there. first.fillings f (so.fillings f there);
     machine = so.machine ∙ first.machine;
+    pooled = so.pooled ∙ first.pooled;
     account = so.account ∙ first.account;
   }
 

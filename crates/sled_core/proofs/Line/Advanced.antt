@@ -28,7 +28,7 @@ use Rattle.sled_core.specs.inside.Turned.{IsReadyIn, mark_of, promoted, ready_be
 use Rattle.sled_core.specs.Waiting.{BufferAt, free_below, front_below, held_below, unwritten}
 use Rattle.sled_core.proofs.Line.KeptCalls.{failed_over, writing_further, writing_still}
 use Rattle.sled_core.proofs.Line.HeaderMarks.{segment_further, segment_written}
-use Rattle.sled_core.proofs.Line.Below.{BeginFrom, IsFirst, IsStuck, first_fewer, first_holds, first_free, first_there_ready, first_marked, line_first, line_past, line_stuck}
+use Rattle.sled_core.proofs.Line.Below.{BeginFrom, IsFirst, IsStuck, first_fewer, first_free, first_holds, first_marked, first_there_ready, line_first, line_past, line_stuck}
 use Rattle.sled_core.proofs.Line.Current.{current_free, current_holds}
 use Rattle.sled_core.proofs.Line.LogSpans.{IsLeft, left_all, left_further, written_starts}
 use Rattle.sled_core.proofs.Line.Lying.{end_of, promoted_end, set_end}

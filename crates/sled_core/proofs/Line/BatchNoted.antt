@@ -7,6 +7,7 @@ use Rattle.sled_codec.specs.History.{AddsBatch, Batch, Batched, History, Message
 use Rattle.sled_store.specs.Accounts.{machine_of}
 use Rattle.sled_store.specs.Device.{Trace, state_of}
 use Rattle.sled_store.specs.declared.config.RunningConfig.{RunningConfig}
+use Rattle.sled_core.specs.Pool.{Pool}
 use Rattle.sled_core.specs.Batches.{LiesInNoFilling, NotesBatchOf, batch_for}
 use Rattle.sled_core.specs.Begun.{SegmentView, line_in, segment_view}
 use Rattle.sled_core.specs.inside.Buffers.{IsHeaded, marking}
@@ -15,7 +16,7 @@ use Rattle.sled_core.specs.declared.iobuf.Reserved.{Reserved}
 use Rattle.sled_core.specs.declared.logger.Log.{Log}
 use Rattle.sled_core.specs.declared.logger.joined_marks.JoinedMarks.{JoinedMarks}
 use Rattle.sled_core.specs.declared.reservation.Reservation.{Reservation}
-use Rattle.sled_core.specs.Fits.{KeepsAll, KeepsBuffers, config_of, current_of, fault_of, fillings_of, given_up_of, kept_batches, line_of, machine_at, noted_in, open_places, reserved_end, synced_end, heads_of}
+use Rattle.sled_core.specs.Fits.{KeepsAll, KeepsBuffers, config_of, current_of, fault_of, fillings_of, given_up_of, kept_batches, line_of, machine_at, pooled_of, noted_in, open_places, reserved_end, synced_end, heads_of}
 use Rattle.sled_core.specs.invariants.Fits.{Holds}
 use Rattle.sled_core.specs.Among.{AreAmong}
 use Rattle.sled_core.specs.Keeps.{GoesOn, KeepsOthers, SamePosition}
@@ -29,14 +30,14 @@ use Rattle.sled_core.specs.Tickets.{is_manifest_of, place_of}
 use Rattle.sled_core.specs.inside.Shown.{shown_of}
 use Rattle.sled_core.specs.inside.Turned.{ChangesLine, NotesBatch, ended_now}
 use Rattle.sled_core.specs.Waiting.{last_of, spans, start_in, unwritten}
-use Rattle.sled_core.proofs.Behind.FirstHoldsMarked.{noted_adds, noted_history}
+use Rattle.sled_core.proofs.Line.FirstHoldsMarked.{noted_adds, noted_history}
 use Rattle.sled_core.proofs.Cleared.Calls.{cleared_ended}
 use Rattle.sled_core.proofs.Cleared.Shown.{ShowsSame, shown_bytes}
 use Rattle.sled_core.proofs.Line.AccountBehind.{account_same}
 use Rattle.sled_core.proofs.Line.KeptCalls.{goes_on_quietly, position_further}
 use Rattle.sled_core.proofs.Line.EndedKeeps.{keeps_ended, position_ended}
 use Rattle.sled_core.proofs.Line.EndedLine.{marking_short}
-use Rattle.sled_core.proofs.Line.EndsBatch.{fits_noted, holds_noted, grows_noted}
+use Rattle.sled_core.proofs.Line.EndsBatch.{fits_noted, grows_noted, holds_noted}
 use Rattle.sled_core.proofs.Line.EntryPlaces.{line_unwritten}
 use Rattle.sled_core.proofs.Holds.Facts.{IsSegment, nth_facts}
 use Rattle.sled_core.proofs.Line.Fillings.{log_off}
@@ -105,6 +106,7 @@ pub record IsBatchNoted {D C : Type 0} (trace : D → Trace) (sum : List ℕ →
   pub fillings : AreAmong (fillings_of new) (fillings_of old)
   pub others : KeepsOthers trace sum ticket old new
   pub machine : machine_at new ≡ machine_at old
+  pub pooled : pooled_of new ≡ pooled_of old
 
 -- It ends with a peg, and then the batch is noted.
 module _ {D C : Type 0} (trace : D → Trace) (sum : List ℕ → ℕ) (old mid new : Log D C) (ticket : Reservation) (n index : ℕ) (f : IsReservedAt old ticket n index) (manifest : is_manifest_of ticket ≡ true) (peg : ℕ)
@@ -213,7 +215,7 @@ module _ {D C : Type 0} (trace : D → Trace) (sum : List ℕ → ℕ) (old mid 
 
     -- so much is seen,
     pub batch_seen : kept_batches new ≤ 2 * length (noted_in new) → IsBatchNoted trace sum old new ticket peg
-    batch_seen few = record { same = batch_same few; position = batch_position; buffers = batch_buffers; goes_on = batch_goes_on; opens = batch_opens; given_up = batch_given; heads = batch_heads; fillings = batch_fillings; others = batch_others; machine = ap machine_of (rest.accountant ∙ ended.accountant) }
+    batch_seen few = record { same = batch_same few; position = batch_position; buffers = batch_buffers; goes_on = batch_goes_on; opens = batch_opens; given_up = batch_given; heads = batch_heads; fillings = batch_fillings; others = batch_others; machine = ap machine_of (rest.accountant ∙ ended.accountant); pooled = ap (λ (x : Pool). x.count) (rest.pool ∙ ended.pool) }
 
     -- The same counts for nothing in the log file,
     same_shown : ShowsSame old.config.config.segment_size (machine_of old.accountant) (machine_of old.accountant) (line_of old)

@@ -47,9 +47,9 @@ use Rattle.sled_core.specs.inside.Shown.{shown_of}
 use Rattle.sled_core.specs.inside.Turned.{ChangesSlots, begun_view, next_line}
 use Rattle.sled_core.specs.Waiting.{at_last, closed_now, filled_now, last_of}
 use Rattle.sled_core.specs.declared.logger.joined_marks.JoinedMarks.{JoinedMarks}
-use Rattle.sled_core.proofs.Behind.Around.{behind_place, behind_place_is}
-use Rattle.sled_core.proofs.Behind.Begins.{behind-begins}
-use Rattle.sled_core.proofs.Behind.FitsBegun.{behind-fits-begun}
+use Rattle.sled_core.proofs.Line.HeldAround.{behind_place, behind_place_is}
+use Rattle.sled_core.proofs.Line.HoldsBegun.{behind-begins}
+use Rattle.sled_core.proofs.Line.FitsBegun.{behind-fits-begun}
 use Rattle.sled_core.proofs.Holds.FitsBatches.{batches_up, stable_noted}
 use Rattle.sled_core.proofs.Line.KeptCalls.{goes_on_quietly}
 use Rattle.sled_core.proofs.Line.Closes.{IsClosable, filled_gone, filled_length, filled_message, filled_site, filled_there, filled_written, line_closed, line_fits_closed}
@@ -319,7 +319,7 @@ module _ (sum : List ℕ → ℕ) (size : ℕ) where
       pub holds_next : (H : History) → {marks : JoinedMarks} → HoldsWith sum marks noted size device fault (v ∷ vs) m H → HoldsWith sum marks noted size device fault next (handed_out place m) H
       holds_next H holds = record {
         holds = line_begun sum size device fault m big slots place _ H stable (closed (v ∷ vs)) low (ended H holds.batches) (within H holds.batches) at in_reach (closed_short v vs short small) (closed_slots (v ∷ vs) device.log.bytes fault m holds.slots)
-            (line_closed sum size device fault _ H v vs closable holds.holds);
+            (line_closed sum size device fault _ v vs closable H holds.holds);
         batches = batches_next H holds.batches;
         slots = slots_next holds.slots;
       }
@@ -328,7 +328,7 @@ module _ (sum : List ℕ → ℕ) (size : ℕ) where
       fits_next pins H A f U fits = record {
         reach = fits.reach;
         parts = line_fits_begun sum size device fault m big slots place _ fits.reach pins H A f U stable (closed (v ∷ vs)) low (ended (logged H) fits.batches) (within (logged H) fits.batches) at in_reach (closed_short v vs short small) (closed_slots (v ∷ vs) device.log.bytes fault m fits.slots)
-            (line_fits_closed sum size device fault _ fits.reach pins H A f U v vs closable fits.parts);
+            (line_fits_closed sum size device fault _ v vs closable fits.reach pins H A f U fits.parts);
         batches = batches_next (logged H) fits.batches;
         slots = slots_next fits.slots;
         whole = λ none zeros. whole_next (logged H) (fits.whole none zeros);
@@ -389,6 +389,9 @@ closable size place v f begins =
       some = begins;
       small = (let small = f.place_small in omega (arith, small, div-le_self v.parts.site.place size));
       rise = ends_rise v.parts.written_len v.parts.reserved v.parts.sealed (length v.parts.bytes) f.are (omega (arith, up, within)) within;
+      begun = f.begun;
+      so_far = omega (arith, up, within);
+      are = f.are;
     }
 
 -- A log that has begun a further segment.

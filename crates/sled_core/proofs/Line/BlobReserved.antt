@@ -18,6 +18,7 @@ use Rattle.sled_store.specs.Script.{Performs, after_all}
 use Rattle.sled_store.specs.Accounts.{machine_of}
 use Rattle.sled_store.specs.declared.config.Config.{Config}
 use Rattle.sled_store.specs.declared.config.RunningConfig.{RunningConfig}
+use Rattle.sled_core.specs.Pool.{Pool}
 use Rattle.sled_core.specs.declared.iobuf.IoBuf.{IoBuf}
 use Rattle.sled_core.specs.declared.iobuf.Purpose.{Purpose}
 use Rattle.sled_core.specs.declared.iobuf.record.Head.{Head}
@@ -62,7 +63,7 @@ module _ {D C : Type 0} (trace : D → Trace) (sum : List ℕ → ℕ) (old mid 
   ready_place = ap (λ (q : Position). q.place) ready_position
 
   pub ready_seen : IsMadeReady sum old mid kept.page n
-  ready_seen = record { tickets = ready.tickets; seen = ready.seen; reserved = ready.reserved; position = ready_position ∙ sym ready.target; seals = ready.seals; machine = ready.machine; marked = ready.marked }
+  ready_seen = record { tickets = ready.tickets; seen = ready.seen; reserved = ready.reserved; position = ready_position ∙ sym ready.target; seals = ready.seals; machine = ready.machine; pooled = ready.pooled; marked = ready.marked }
 
   -- It is ready still where its device alone is another, or the failure that it keeps.
   module _ (made : Log D C) (rest : ChangesDevice mid made) (keeps : Preserves trace sum mid made) (blob : Option ℤ) where
@@ -121,6 +122,7 @@ module _ {D C : Type 0} (trace : D → Trace) (sum : List ℕ → ℕ) (old mid 
       batch = still_batch;
       seals = (ap unwritten line_same ∙ ready.seals.0, ap start_in current_same ∙ ready.seals.1);
       machine = machine_same ∙ ready.machine;
+      pooled = ap (λ (x : Pool). x.count) rest.pool ∙ ready.pooled;
       marked = marked_same sum old mid made ready.marked (segment_same mid made line_same) (ap (λ (v : SegmentView). v.parts.site.place + begin_of v) current_same);
     }
 

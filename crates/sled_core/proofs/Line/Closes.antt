@@ -1,9 +1,8 @@
 -- The segment that is being filled is filled to its end, and its buffer is sealed: the segments hold and fit what they did.
-use Rattle.std.proofs.Common.{◌≡◌, ◌∙◌, ◌<◌, ◌≤◌, ◌+◌, ◌/◌, ◌^◌, ap, sym, refl, arith, subst, ℕ, zero, suc, List, [], ◌∷◌, ◌++◌, length, map, drop, Option, Some, true, false, nat_lt, if◌then◌else◌, Bool, length-append}
+use Rattle.std.proofs.Common.{◌≡◌, ◌∙◌, ◌<◌, ◌≤◌, ◌+◌, ◌/◌, ◌^◌, ap, sym, refl, arith, subst, inl, inr, ℕ, zero, suc, List, [], ◌∷◌, ◌++◌, length, drop, Option, Some, true, false, nat_lt, if◌then◌else◌, Bool, length-append}
 use Rattle.std.specs.List.{slice_get}
 use Rattle.std.specs.declared.io.Error.{Error as IoError}
 use Rattle.std.proofs.lemmas.Bool.Decides.{nat_tests}
-use Rattle.std.proofs.lemmas.List.{map-append}
 use Rattle.sled_codec.specs.History.{History, Message}
 use Rattle.sled_store.specs.Device.{State}
 use Rattle.sled_core.specs.inside.Begun.{IsUnfilled}
@@ -12,22 +11,17 @@ use Rattle.sled_core.specs.Buffers.{message_in, none_open, open_state, padding_a
 use Rattle.sled_core.specs.inside.Buffers.{records_end}
 use Rattle.sled_core.specs.invariants.Caps.{segment_rest}
 use Rattle.sled_core.specs.declared.iobuf.Reserved.{Reserved}
-use Rattle.sled_core.specs.declared.iobuf.Sealed.{Sealed}
-use Rattle.sled_core.specs.inside.Fits.{HoldsIn, HoldsLine, LogParts, log_parts, parts_in}
-use Rattle.sled_core.specs.Logged.{logged}
-use Rattle.sled_core.specs.inside.Running.{FitsIn, FitsLine}
+use Rattle.sled_core.specs.inside.Fits.{HoldsLine}
+use Rattle.sled_core.specs.inside.Running.{FitsLine}
+use Rattle.sled_core.specs.inside.SealedBuffers.{AreSealed}
 use Rattle.sled_core.specs.SealedBuffers.{seal_at, sealed_count}
 use Rattle.sled_core.specs.Waiting.{at_last, closed_now, filled_now, last_of, sealed_now, with_filling}
 use Rattle.sled_core.specs.declared.logger.joined_marks.JoinedMarks.{JoinedMarks}
-use Rattle.sled_core.proofs.Behind.Calls.{behind-filled, behind-sealed, segment-filled}
-use Rattle.sled_core.proofs.Behind.FitsCalls.{behind-fits-filled, behind-fits-sealed}
-use Rattle.sled_core.proofs.Flush.FlushLemmas.{holds_over}
 use Rattle.sled_core.proofs.Holds.HoldsLemmas.{body-append}
-use Rattle.sled_core.proofs.Holds.RunningLemmas.{fits-moved}
+use Rattle.sled_core.proofs.Line.OneChanged.{last_fits, last_holds}
+use Rattle.sled_core.proofs.Line.SegmentKeeps.{KeepsAllHeld, sealed_also, segment_closes, segment_seals}
 use Rattle.sled_core.proofs.Line.Entered.{IsEntered, LiesBehind, unfilled_to}
 use Rattle.sled_core.proofs.Reserve.BeginBelow.{entered_more}
-use Rattle.sled_core.proofs.Line.Last.{by_last}
-use Rattle.sled_core.proofs.Line.Seals.{IsFilledSome, first_sealed}
 use Rattle.sled_core.proofs.Reached.CapStands.{length-segment_rest}
 use Rattle.sled_core.proofs.Reserve.RecordEnds.{records_more}
 use Rattle.sled_core.proofs.Sealed.Appended.{end_one}
@@ -39,6 +33,9 @@ pub record IsClosable (size : ℕ) (v : SegmentView) : Type 0 where
   pub some : begin_of v < size
   pub small : v.parts.site.place / size < 2 ^ 64
   pub rise : EndsRise v.parts.written_len v.parts.sealed (length v.parts.bytes)
+  pub begun : 20 ≤ length v.parts.bytes
+  pub so_far : v.parts.written_len ≤ length v.parts.bytes
+  pub are : AreSealed v.parts.written_len v.parts.reserved v.parts.sealed
 
 module _ (sum : List ℕ → ℕ) (size : ℕ) where
   -- what is put behind its bytes
@@ -73,15 +70,7 @@ module _ (sum : List ℕ → ℕ) (size : ℕ) where
       (λ less. let rest = length-segment_rest sum size (v.parts.site.place / size) (length v.parts.bytes) short small in omega (arith, rest, short, length-append v.parts.bytes (more_of v)))
       (λ full. omega (arith, full, short))
 
-  -- Its current buffer holds something then,
-  pub filled_some : (v : SegmentView) → IsClosable size v → IsFilledSome size (filled_now sum size v)
-  filled_some v its =
-      let some = its.some in
-      let long = filled_length v its.short its.small in
-      let begin = filled_begin v in
-      record { short = omega (arith, long); some = omega (arith, some, long, begin) }
-
-  -- and ends where the segment does once it is sealed.
+  -- Its current buffer ends where the segment does once it is sealed.
   pub closed_begin : (v : SegmentView) → length v.parts.bytes ≤ size → v.parts.site.place / size < 2 ^ 64 → begin_of (closed_now sum size v) ≡ size
   closed_begin v short small =
       let w : SegmentView = filled_now sum size v in
@@ -132,55 +121,39 @@ module _ (sum : List ℕ → ℕ) (size : ℕ) where
   filled_ended v ended = by_filled (λ x. none_open x.parts.reserved ≡ true) v (λ _. none_more v.parts.reserved (padding_at size (length v.parts.bytes)) refl ended) (λ _. ended)
 
   module _ (device : State) (fault : Option IoError) where
-    -- what a log has of its first segment
-    abbrev as_first : SegmentView → LogParts
-    as_first v = log_parts size v.parts.site device fault v.parts.bytes v.parts.written_len v.parts.sealed v.parts.reserved
+    -- The last one is filled and sealed, as far as it isn't full: that holds what it held.
+    module _ (marks : JoinedMarks) (v : SegmentView) (vs : List SegmentView) (its : IsClosable size (last_of v vs)) where
+      abbrev w : SegmentView
+      w = last_of v vs
 
-    -- The first one is filled,
-    first_filled : {marks : JoinedMarks} (H : History) (v : SegmentView) → IsClosable size v → (behind : List SegmentParts) → HoldsIn sum marks (as_first v) behind H → HoldsIn sum marks (as_first (filled_now sum size v)) behind H
-    first_filled {marks} H v its behind holds = by_filled (λ (x : SegmentView). HoldsIn sum marks (as_first x) behind H) v
-        (λ less. holds_over sum size v.parts.site device fault v.parts.bytes v.parts.written_len v.parts.sealed v.parts.reserved behind H holds device fault (v.parts.bytes ++ more_of v) v.parts.written_len v.parts.sealed (v.parts.reserved ++ padding_at size (length v.parts.bytes) ∷ []) refl (omega arith)
-        (segment-filled sum size v.parts.site device fault v.parts.bytes v.parts.written_len v.parts.sealed v.parts.reserved (record { messages = holds.head; batches = H.batches }) less its.small its.rise holds.own) holds.others)
-        (λ _. holds)
+      abbrev s : SegmentParts
+      s = w.parts
 
-    first_closed : (H : History) (v : SegmentView) → IsClosable size v → (behind : List SegmentParts) → {marks : JoinedMarks} → HoldsIn sum marks (as_first v) behind H → HoldsIn sum marks (as_first (closed_now sum size v)) behind H
-    first_closed H v its behind holds = first_sealed sum size device fault H (filled_now sum size v) (filled_some v its) (first_filled H v its behind holds)
+      abbrev closing : Bool → SegmentView
+      closing b = sealed_now (if b then filled_up w else w)
 
-    -- or one behind it.
-    behind_filled : {marks : JoinedMarks} (H : History) (v : SegmentView) (pre : List SegmentParts) (w : SegmentView) → IsClosable size w → HoldsIn sum marks (as_first v) (pre ++ w.parts ∷ []) H → HoldsIn sum marks (as_first v) (pre ++ (filled_now sum size w).parts ∷ []) H
-    behind_filled {marks} H v pre w its holds = by_filled (λ (x : SegmentView). HoldsIn sum marks (as_first v) (pre ++ x.parts ∷ []) H) w
-        (λ less. behind-filled sum size v.parts.site device fault v.parts.bytes v.parts.written_len v.parts.sealed v.parts.reserved H pre w.parts [] holds less its.small)
-        (λ _. holds)
+      in_room : length s.bytes < size → KeepsAllHeld sum size device fault s (closing true).parts.bytes (closing true).parts.sealed (closing true).parts.reserved
+      in_room less = segment_closes sum size device fault s less its.small its.rise its.begun its.some its.are
 
-    behind_fits_filled : {marks : JoinedMarks} (reach pins : ℕ) (H : History) (A f : ℕ) (U : List Message) (v : SegmentView) (pre : List SegmentParts) (w : SegmentView) → IsClosable size w → FitsIn sum marks (as_first v) (pre ++ w.parts ∷ []) reach pins H A f U
-        → FitsIn sum marks (as_first v) (pre ++ (filled_now sum size w).parts ∷ []) reach pins H A f U
-    behind_fits_filled {marks} reach pins H A f U v pre w its fits = by_filled (λ (x : SegmentView). FitsIn sum marks (as_first v) (pre ++ x.parts ∷ []) reach pins H A f U) w
-        (λ less. behind-fits-filled sum size v.parts.site device fault v.parts.bytes v.parts.written_len v.parts.sealed v.parts.reserved pins H A f U pre w.parts [] fits less its.small)
-        (λ _. fits)
+      in_none : size ≤ length s.bytes → KeepsAllHeld sum size device fault s s.bytes (sealed_also s) s.reserved
+      in_none full = let some = its.some in segment_seals sum size device fault s its.short (omega (arith, some, full)) its.are
 
-    -- What segments hold they hold then,
-    pub line_closed : (marks : JoinedMarks) (H : History) (v : SegmentView) (vs : List SegmentView) → IsClosable size (last_of v vs) → HoldsLine sum marks size device fault (v ∷ vs) H → HoldsLine sum marks size device fault (at_last (closed_now sum size) (v ∷ vs)) H
-    line_closed marks H = by_last (λ line. HoldsLine sum marks size device fault line H) (IsClosable size) (closed_now sum size)
-        (λ v its holds. first_closed H v its [] holds)
-        (λ v pre w its holds. subst (λ (ss : List SegmentParts). HoldsIn sum marks (as_first v) ss H) (sym (map-append parts_in pre (closed_now sum size w ∷ [])))
-        (behind-sealed sum size v.parts.site device fault v.parts.bytes v.parts.written_len v.parts.sealed v.parts.reserved H (map parts_in pre) (filled_now sum size w).parts []
-        (behind_filled H v (map parts_in pre) w its (subst (λ (ss : List SegmentParts). HoldsIn sum marks (as_first v) ss H) (map-append parts_in pre (w ∷ [])) holds)) (filled_some w its).some))
+      -- What segments hold they hold then,
+      pub line_closed : (H : History) → HoldsLine sum marks size device fault (v ∷ vs) H → HoldsLine sum marks size device fault (at_last (closed_now sum size) (v ∷ vs)) H
+      line_closed H = by (nat_lt (length s.bytes) size) refl where
+        by : (b : Bool) → nat_lt (length s.bytes) size ≡ b → HoldsLine sum marks size device fault (v ∷ vs) H → HoldsLine sum marks size device fault (at_last (closed_now sum size) (v ∷ vs)) H
+        by true test = last_holds sum size device fault marks v vs (closing true).parts.bytes (Some (length s.bytes)) (closing true).parts.sealed (closing true).parts.reserved
+            (closed_now sum size) (ap closing test) (in_room (grind (arith, nat_tests, test))) H
+        by false test = last_holds sum size device fault marks v vs s.bytes s.filled (sealed_also s) s.reserved (closed_now sum size) (ap closing test) (in_none (grind (arith, nat_tests, test))) H
 
-    -- and what they fit they fit.
-    pub line_fits_closed : (marks : JoinedMarks) (reach pins : ℕ) (H : History) (A f : ℕ) (U : List Message) (v : SegmentView) (vs : List SegmentView) → IsClosable size (last_of v vs) → FitsLine sum marks size device fault (v ∷ vs) reach pins H A f U
-        → FitsLine sum marks size device fault (at_last (closed_now sum size) (v ∷ vs)) reach pins H A f U
-    line_fits_closed marks reach pins H A f U = by_last (λ line. FitsLine sum marks size device fault line reach pins H A f U) (IsClosable size) (closed_now sum size)
-        (λ v its fits. first_moved v its fits)
-        (λ v pre w its fits. subst (λ (ss : List SegmentParts). FitsIn sum marks (as_first v) ss reach pins H A f U) (sym (map-append parts_in pre (closed_now sum size w ∷ [])))
-        (behind-fits-sealed sum size v.parts.site device fault v.parts.bytes v.parts.written_len v.parts.sealed v.parts.reserved pins H A f U (map parts_in pre) (filled_now sum size w).parts []
-        (behind_fits_filled reach pins H A f U v (map parts_in pre) w its (subst (λ (ss : List SegmentParts). FitsIn sum marks (as_first v) ss reach pins H A f U) (map-append parts_in pre (w ∷ [])) fits)) (filled_some w its).some))
-      where
-        first_moved : {marks : JoinedMarks} (v : SegmentView) → IsClosable size v → FitsIn sum marks (as_first v) [] reach pins H A f U → FitsIn sum marks (as_first (closed_now sum size v)) [] reach pins H A f U
-        first_moved {marks} v its fits = by_filled (λ (x : SegmentView). HoldsIn sum marks (as_first (sealed_now x)) [] (logged H) → FitsIn sum marks (as_first (sealed_now x)) [] reach pins H A f U) v
-            (λ _ holds. moved (sealed_now (filled_up v)).parts.bytes (sealed_now (filled_up v)).parts.sealed (sealed_now (filled_up v)).parts.reserved holds)
-            (λ _ holds. moved (sealed_now v).parts.bytes (sealed_now v).parts.sealed (sealed_now v).parts.reserved holds)
-            (first_closed (logged H) v its [] fits.holds)
-          where
-            moved : (bytes : List ℕ) (bs : List Sealed) (rs : List Reserved) → HoldsIn sum marks (log_parts size v.parts.site device fault bytes v.parts.written_len bs rs) [] (logged H)
-                → FitsIn sum marks (log_parts size v.parts.site device fault bytes v.parts.written_len bs rs) [] reach pins H A f U
-            moved bytes bs rs holds = fits-moved sum size v.parts.site device fault v.parts.bytes v.parts.written_len v.parts.sealed v.parts.reserved pins H A f U fits bytes v.parts.written_len bs rs refl holds
+      -- and what they fit they fit.
+      pub line_fits_closed : (reach pins : ℕ) (H : History) (A f : ℕ) (U : List Message) → FitsLine sum marks size device fault (v ∷ vs) reach pins H A f U
+          → FitsLine sum marks size device fault (at_last (closed_now sum size) (v ∷ vs)) reach pins H A f U
+      line_fits_closed reach pins H A f U = by (nat_lt (length s.bytes) size) refl where
+        by : (b : Bool) → nat_lt (length s.bytes) size ≡ b → FitsLine sum marks size device fault (v ∷ vs) reach pins H A f U
+            → FitsLine sum marks size device fault (at_last (closed_now sum size) (v ∷ vs)) reach pins H A f U
+        by true test = let less : length s.bytes < size = grind (arith, nat_tests, test) in
+            last_fits sum size device fault marks v vs (closing true).parts.bytes (Some (length s.bytes)) (closing true).parts.sealed (closing true).parts.reserved
+            (closed_now sum size) (ap closing test) (in_room less) (inr (let so_far = its.so_far in omega (arith, so_far, less))) reach pins H A f U
+        by false test = last_fits sum size device fault marks v vs s.bytes s.filled (sealed_also s) s.reserved (closed_now sum size) (ap closing test)
+            (in_none (grind (arith, nat_tests, test))) (inl refl) reach pins H A f U

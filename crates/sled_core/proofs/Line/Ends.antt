@@ -1,5 +1,5 @@
 -- One of the reservations of the n-th of a log's segments ends, whichever that is: what the log holds and fits then, and what it keeps.
-use Rattle.std.proofs.Common.{◌⊎◌, ◌≡◌, ◌∙◌, ◌≤◌, ◌<◌, ◌+◌, ◌*◌, ◌%◌, ap, sym, refl, arith, subst, ℕ, zero, suc, List, [], ◌∷◌, ◌++◌, length, take, drop, set, map, Option, None, Some, false}
+use Rattle.std.proofs.Common.{◌⊎◌, ◌≡◌, ◌∙◌, ◌≤◌, ◌<◌, ◌+◌, ◌*◌, ◌%◌, ap, sym, refl, arith, subst, inl, ℕ, zero, suc, List, [], ◌∷◌, ◌++◌, length, take, drop, set, map, Option, None, Some, false}
 use Rattle.std.specs.declared.io.Error.{Error as IoError}
 use Rattle.std.specs.List.{Contains, slice_get}
 use Rattle.std.proofs.lemmas.List.Elements.{All-set}
@@ -28,21 +28,23 @@ use Rattle.sled_core.specs.inside.Slots.{AreWhole}
 use Rattle.sled_core.specs.inside.Turned.{ended_now}
 use Rattle.sled_core.specs.Reading.{BlobIsBelow}
 use Rattle.sled_core.specs.declared.logger.joined_marks.JoinedMarks.{JoinedMarks}
-use Rattle.sled_core.proofs.Behind.Calls.{behind-aborted, ended_long, held_here}
-use Rattle.sled_core.proofs.Behind.Completes.{adds_here, behind-complete, completed_history}
-use Rattle.sled_core.proofs.Behind.FitsCalls.{behind-fits-aborted, behind-fits-completed}
+use Rattle.sled_core.proofs.Line.HeldAround.{held_here}
+use Rattle.sled_core.proofs.Line.SegmentKeeps.{KeepsAllHeld, ended_long, segment_aborts}
+use Rattle.sled_core.proofs.Line.HoldsCompleted.{adds_here, behind-complete, completed_history}
+use Rattle.sled_core.proofs.Line.CompletedBehind.{behind-fits-completed}
 use Rattle.sled_core.proofs.Holds.Added.{added_there, message_above, message_grows}
 use Rattle.sled_core.proofs.Holds.CompletedLemmas.{behind_written, ends_within}
 use Rattle.sled_core.proofs.Holds.FitsBatches.{batches_completed, batches_up}
 use Rattle.sled_core.proofs.Holds.MessagesBeside.{batch_beside}
-use Rattle.sled_core.proofs.Holds.RunningLemmas.{fits-completed, fits-moved}
+use Rattle.sled_core.proofs.Holds.RunningLemmas.{fits-completed}
 use Rattle.sled_core.proofs.Holds.WholeHistory.{of_head}
-use Rattle.sled_core.proofs.Holds.WholeLemmas.{holds-aborted, holds-complete}
+use Rattle.sled_core.proofs.Holds.WholeLemmas.{holds-complete}
 use Rattle.sled_core.proofs.Holds.Facts.{IsSegment}
 use Rattle.sled_core.proofs.Line.LineEnds.{end_set, first_set}
 use Rattle.sled_core.proofs.Holds.Nth.{parts_set, parts_split}
 use Rattle.sled_core.proofs.Line.EntryPlaces.{line_unwritten}
-use Rattle.sled_core.proofs.Line.NeededSlots.{message_in_slot, held_written, slots_added}
+use Rattle.sled_core.proofs.Line.OneChanged.{nth_fits, nth_holds}
+use Rattle.sled_core.proofs.Line.NeededSlots.{held_written, message_in_slot, slots_added}
 use Rattle.sled_core.proofs.Line.OlderSlots.{whole_grown}
 use Rattle.sled_core.proofs.Line.Segments.{first_below, from_each}
 use Rattle.sled_core.proofs.OwnLog.Calls.{own_ended}
@@ -115,41 +117,24 @@ module _ (sum : List ℕ → ℕ) (size : ℕ) (device : State) (fault : Option 
     abbrev m : Message
     m = message_in v.parts.site v.parts.bytes r
 
-    -- It is aborted: the segments hold what they held.
+    aborts : {place : ℕ} → IsSegment size place v
+        → KeepsAllHeld sum size device fault v.parts canceled.parts.bytes canceled.parts.sealed canceled.parts.reserved
+    aborts facts = segment_aborts sum size device fault v.parts i r at is_open facts.short facts.begins (written_inside v facts) facts.are
+
+    -- It is aborted: the segments hold what they held,
     pub abort_holds : (marks : JoinedMarks) (line : List SegmentView) (n : ℕ) {place : ℕ} (H : History) → slice_get line n ≡ Some v → IsSegment size place v
         → HoldsLine sum marks size device fault line H → HoldsLine sum marks size device fault (set line n canceled) H
-    abort_holds marks [] n H there facts holds = cc
-    abort_holds marks (w ∷ ws) zero H there facts holds =
-        let same : w ≡ v = cc in
-        let its : HoldsLine sum marks size device fault (v ∷ ws) H = subst (λ (x : SegmentView). HoldsLine sum marks size device fault (x ∷ ws) H) same holds in
-        holds-aborted sum size v.parts.site device fault v.parts.bytes v.parts.written_len v.parts.sealed v.parts.reserved H its i r at is_open
-        (written_inside v facts) facts.are _ _ _ _ refl refl refl refl
-    abort_holds marks (w ∷ ws) (suc k) H there facts holds =
-        let its : HoldsIn sum marks (parts_of w) (map parts_in (take k ws) ++ v.parts ∷ map parts_in (drop (suc k) ws)) H =
-        subst (λ (l : List SegmentParts). HoldsIn sum marks (parts_of w) l H) (parts_split ws k v there) holds in
-        subst (λ (l : List SegmentParts). HoldsIn sum marks (parts_of w) l H) (sym (parts_set ws k v canceled there))
-        (behind-aborted sum size w.parts.site device fault w.parts.bytes w.parts.written_len w.parts.sealed w.parts.reserved H (map parts_in (take k ws))
-        v.parts (map parts_in (drop (suc k) ws)) its i r at is_open)
+    abort_holds marks line n H there facts =
+        nth_holds sum size device fault marks v canceled.parts.bytes v.parts.filled canceled.parts.sealed canceled.parts.reserved v.gone (aborts facts) line n H there
 
-    -- and they fit what they fitted
+    -- and they fit what they fitted.
     pub abort_fits : (marks : JoinedMarks) (line : List SegmentView) (n : ℕ) {place : ℕ} (reach pins : ℕ) (H : History) (A f : ℕ) (U : List Message)
         → slice_get line n ≡ Some v
         → IsSegment size place v
         → FitsLine sum marks size device fault line reach pins H A f U → FitsLine sum marks size device fault (set line n canceled) reach pins H A f U
-    abort_fits marks [] n reach pins H A f U there facts fits = cc
-    abort_fits marks (w ∷ ws) zero reach pins H A f U there facts fits =
-        let same : w ≡ v = cc in
-        let its : FitsLine sum marks size device fault (v ∷ ws) reach pins H A f U =
-        subst (λ (x : SegmentView). FitsLine sum marks size device fault (x ∷ ws) reach pins H A f U) same fits in
-        fits-moved sum size v.parts.site device fault v.parts.bytes v.parts.written_len v.parts.sealed v.parts.reserved pins H A f U its _ _ _ _ refl
-        (holds-aborted sum size v.parts.site device fault v.parts.bytes v.parts.written_len v.parts.sealed v.parts.reserved (logged H) its.holds i r at is_open
-        (written_inside v facts) facts.are _ _ _ _ refl refl refl refl)
-    abort_fits marks (w ∷ ws) (suc k) reach pins H A f U there facts fits =
-        let its : FitsIn sum marks (parts_of w) (map parts_in (take k ws) ++ v.parts ∷ map parts_in (drop (suc k) ws)) reach pins H A f U =
-        subst (λ (l : List SegmentParts). FitsIn sum marks (parts_of w) l reach pins H A f U) (parts_split ws k v there) fits in
-        subst (λ (l : List SegmentParts). FitsIn sum marks (parts_of w) l reach pins H A f U) (sym (parts_set ws k v canceled there))
-        (behind-fits-aborted sum size w.parts.site device fault w.parts.bytes w.parts.written_len w.parts.sealed w.parts.reserved pins H A f U
-        (map parts_in (take k ws)) v.parts (map parts_in (drop (suc k) ws)) its i r at is_open)
+    abort_fits marks line n reach pins H A f U there facts =
+        nth_fits sum size device fault marks v canceled.parts.bytes v.parts.filled canceled.parts.sealed canceled.parts.reserved v.gone (inl refl) line n reach pins
+        H A f U there (aborts facts)
 
     -- It is completed: the segments hold the history with its message,
     pub complete_holds : (marks : JoinedMarks) → is_manifest r.log_kind r.page ≡ false → (line : List SegmentView) (n place : ℕ) (H : History)
@@ -210,8 +195,8 @@ module _ (sum : List ℕ → ℕ) (size : ℕ) (device : State) (fault : Option 
         behind_written sum size v.parts.site device fault v.parts.bytes v.parts.written_len v.parts.sealed v.parts.reserved i r first its.holds.own at in (
           done.0,
           done.1,
-          fits-completed sum size v.parts.site device fault v.parts.bytes v.parts.written_len v.parts.sealed v.parts.reserved pins H A f U its _ _ _ _ done.0 x
-              refl least (omega (arith, long, short)) ok done.2 done.1
+          fits-completed sum size v.parts.site device fault v.parts.bytes v.parts.written_len v.parts.sealed v.parts.reserved pins H A f U its _ _ _ done.0 x
+              least (omega (arith, long, short)) ok done.2 done.1
               (of_head sum size v.parts.site device fault _ _ _ _ (logged done.0) done.2 (in_log x) (added_there (logged H) (logged done.0) (in_log x) put)
               (omega (arith, near, short, placed))) (omega (arith, above, placed)) own.fresh own.are below stored out,
         )

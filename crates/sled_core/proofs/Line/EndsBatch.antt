@@ -26,7 +26,7 @@ use Rattle.sled_core.specs.inside.Slots.{AreWhole}
 use Rattle.sled_core.specs.inside.Turned.{ended_now}
 use Rattle.sled_core.proofs.Flush.Completed.{all_below}
 use Rattle.sled_core.proofs.Holds.FitsBatches.{batches_noted, batches_up}
-use Rattle.sled_core.proofs.Behind.FirstHoldsMarked.{begin_from, noted_adds, noted_history}
+use Rattle.sled_core.proofs.Line.FirstHoldsMarked.{begin_from, noted_adds, noted_history}
 use Rattle.sled_core.proofs.Holds.MessagesBeside.{message_before}
 use Rattle.sled_core.proofs.Holds.WholeHistory.{behind_above}
 use Rattle.sled_core.proofs.Holds.PegLemmas.{IsOff}

@@ -289,4 +289,4 @@ pub gives_none : {D C : Type 0} (ticket : Reservation) (log : Log D C) → Gives
 gives_none ticket log m awaits = λ n there. in_rest (in_log m) n (given_up_of log) there
 
 pub ends_none : {T D C : Type 0} (trace : D → Trace) (sum : List ℕ → ℕ) (ticket : Reservation) (log : Log D C) (e : Error) → EndsTicket {T = T} trace sum (Err e) ticket log log
-ends_none trace sum ticket log e = record { others = λ H other m holds awaits apart. awaits; opens = λ place is. tt; position = position_still log; buffers = record { waiting = refl; start = refl }; heads = λ h there. there; fillings = λ f there. there; machine = refl }
+ends_none trace sum ticket log e = record { others = λ H other m holds awaits apart. awaits; opens = λ place is. tt; position = position_still log; buffers = record { waiting = refl; start = refl }; heads = λ h there. there; fillings = λ f there. there; machine = refl; pooled = refl }

@@ -1,22 +1,10 @@
 -- The last of segments one behind another is changed: what holds of them then, and which they are.
-use Rattle.std.proofs.Common.{◌≡◌, ◌⊎◌, ap, sym, refl, subst, inl, inr, append_assoc, ℕ, zero, suc, List, [], ◌∷◌, ◌++◌, Some}
+use Rattle.std.proofs.Common.{◌≡◌, ◌⊎◌, ap, sym, refl, inl, inr, ℕ, zero, suc, List, [], ◌∷◌, ◌++◌, Some}
 use Rattle.std.specs.List.{All, slice_get}
 use Rattle.std.proofs.lemmas.List.Elements.{All-cons, All-head, All-nil, All-tail}
 use Rattle.sled_core.specs.Begun.{SegmentView}
 use Rattle.sled_core.specs.Waiting.{at_last, last_of, unwritten, unwritten_of}
 use Rattle.sled_core.proofs.Line.Gathered.{Gathers, gathered-append}
-
--- What holds of segments holds once the last one is changed, where that is so of the first one alone, and of one behind it.
-pub by_last : (P : List SegmentView → Type 0) (Q : SegmentView → Type 0) (f : SegmentView → SegmentView) → ((v : SegmentView) → Q v → P (v ∷ []) → P (f v ∷ []))
-    → ((v : SegmentView) (pre : List SegmentView) (w : SegmentView) → Q w → P (v ∷ pre ++ w ∷ []) → P (v ∷ pre ++ f w ∷ []))
-    → (v : SegmentView) (vs : List SegmentView) → Q (last_of v vs) → P (v ∷ vs) → P (at_last f (v ∷ vs))
-by_last P Q f first behind v [] its holds = first v its holds
-by_last P Q f first behind v (w ∷ ws) its holds = from v [] w ws its holds where
-  from : (v : SegmentView) (pre : List SegmentView) (w : SegmentView) (ws : List SegmentView) → Q (last_of w ws) → P (v ∷ pre ++ w ∷ ws) → P (v ∷ pre ++ at_last f (w ∷ ws))
-  from v pre w [] its holds = behind v pre w its holds
-  from v pre w (x ∷ xs) its holds =
-      subst P (ap (λ (l : List SegmentView). v ∷ l) (append_assoc pre (w ∷ []) (at_last f (x ∷ xs))))
-      (from v (pre ++ w ∷ []) x xs its (subst P (ap (λ (l : List SegmentView). v ∷ l) (sym (append_assoc pre (w ∷ []) (x ∷ xs)))) holds))
 
 -- Each segment is there still, or it is the last one, and there as it is now.
 pub last_get_of : (f : SegmentView → SegmentView) (v : SegmentView) (vs : List SegmentView) (n : ℕ) (w : SegmentView) → slice_get (v ∷ vs) n ≡ Some w

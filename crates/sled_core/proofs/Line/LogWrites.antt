@@ -63,8 +63,7 @@ use Rattle.sled_core.proofs.Line.NthOpen.{line_with, nth_same}
 use Rattle.sled_core.proofs.Line.Promotes.{end_promoted, holds_promoted}
 use Rattle.sled_core.proofs.Holds.Facts.{nth_facts}
 use Rattle.sled_core.proofs.Line.Fillings.{log_recorded}
-use Rattle.sled_core.proofs.Line.Segments.{AreSegments, filled_promoted, filled_written, follow_segments, line_segments, promoted_place, promoted_waits}
-use Rattle.sled_core.proofs.Line.Segments.{run_written, segments_promoted, set_segment, written_segment}
+use Rattle.sled_core.proofs.Line.Segments.{AreSegments, filled_promoted, filled_written, follow_segments, line_segments, promoted_place, promoted_waits, run_written, segments_promoted, set_segment, written_segment}
 use Rattle.sled_core.proofs.Line.ShownWrite.{fits_moved, holds_moved, shown_written, written_clean}
 use Rattle.sled_core.proofs.Line.Writes.{along_write, buffer_begin, buffer_bytes, buffer_calls, buffer_synced, calls_are, fits_write, holds_write, passes_line, slots_write}
 use Rattle.sled_core.proofs.Line.WrittenSlots.{whole_write}

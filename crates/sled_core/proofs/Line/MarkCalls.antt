@@ -16,6 +16,7 @@ use Rattle.sled_store.specs.declared.segment.accountant.SegmentAccountant.{Segme
 use Rattle.sled_store.specs.declared.segment.slot.CacheInfo.{CacheInfo}
 use Rattle.sled_store.proofs.Marks.MarkSteps.{SameSegments, same_segment}
 use Rattle.sled_store.proofs.Marks.TableLemmas.{apart_ascends}
+use Rattle.sled_core.specs.inside.Pooling.{IsPooling}
 use Rattle.sled_core.specs.declared.logger.Log.{Log, line-type}
 use Rattle.sled_core.specs.Fits.{device_of, machine_at, segment_size_of}
 use Rattle.sled_core.specs.Marking.{ChangesAccount, IsOfMessage, KeepsMarked, Marks, TakesMark, but_for}
@@ -29,14 +30,16 @@ use Rattle.sled_core.proofs.Line.MarkedSlots.{fits_marked, goes_on_marked, holds
 
 -- What a mark makes of the account of a log it makes of the log, whose configuration is the same one.
 pub account_marks : {D C T : Type 0} (log : Log D C) {config : RunningConfig D C} (accountant : SegmentAccountant)
-    {line : line-type D C config log.segments log.ready accountant log.reserved_to log.fault log.pins log.marks log.batches}
+    {line : line-type D C config log.segments log.ready accountant log.reserved_to log.fault log.pins log.marks log.batches log.pool}
     {account : IsAccountant config.config.segment_size accountant}
     {noted : AreNotedBatches log.reserved_to log.segments log.batches}
+    {pooling : IsPooling config.config.segment_size log.segments log.pool}
     (step : Machine → Machine) (result : Result T Error) → OnOk result (machine_of accountant ≡ step (machine_at log))
     → OnErr result (machine_of accountant ≡ machine_at log)
-    → config ≡ log.config → Marks result step log (record log { config = config; accountant = accountant; line = line; account = account; noted = noted })
+    → config ≡ log.config
+    → Marks result step log (record log { config = config; accountant = accountant; line = line; account = account; noted = noted; pooling = pooling })
 account_marks log accountant step result made refused same =
-    record { made = made; refused = refused; rest = record { config = same; segments = refl; reserved = refl; fault = refl; pins = refl; marks = refl; batches = refl } }
+    record { made = made; refused = refused; rest = record { config = same; segments = refl; reserved = refl; fault = refl; pins = refl; marks = refl; batches = refl; pool = refl } }
 
 -- where nothing was marked the log fits what it did
 unmarked_fits : {D C : Type 0} (trace : D → Trace) (sum : List ℕ → ℕ) (old new : Log D C) → ChangesAccount old new → machine_at new ≡ machine_at old

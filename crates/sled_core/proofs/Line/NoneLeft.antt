@@ -24,7 +24,7 @@ use Rattle.sled_core.specs.Logged.{logged}
 use Rattle.sled_core.specs.OpenBatches.{batch_of}
 use Rattle.sled_core.proofs.Flush.FlushLemmas.{all_kept, on_file}
 use Rattle.sled_core.proofs.Holds.BufferEnds.{written_behind}
-use Rattle.sled_core.proofs.Line.Entered.{used_end, IsEntered}
+use Rattle.sled_core.proofs.Line.Entered.{IsEntered, used_end}
 use Rattle.sled_core.proofs.Line.Segments.{line_segments}
 use Rattle.sled_core.proofs.Line.ShownParts.{line_older, line_written}
 use Rattle.sled_core.proofs.Line.StandsThere.{file_there}

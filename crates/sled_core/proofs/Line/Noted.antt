@@ -16,9 +16,9 @@ use Rattle.sled_core.specs.declared.logger.joined_marks.JoinedMarks.{JoinedMarks
 use Rattle.sled_core.specs.inside.Recoverable.{BeginsInSegment, IsPlacedBatch}
 use Rattle.sled_core.specs.inside.Running.{FitsIn, FitsLine}
 use Rattle.sled_core.specs.inside.Turned.{ended_now}
-use Rattle.sled_core.proofs.Behind.FitsMarked.{behind-fits-marked}
-use Rattle.sled_core.proofs.Behind.HoldsMarked.{batch_above, batch_alone, batch_inside, behind-holds-marked}
-use Rattle.sled_core.proofs.Behind.FirstHoldsMarked.{InReach, first_above, first_alone, first_inside, first_long, holds-marked, noted_adds, noted_history}
+use Rattle.sled_core.proofs.Line.FitsMarked.{behind-fits-marked}
+use Rattle.sled_core.proofs.Line.HoldsMarked.{batch_above, batch_alone, batch_inside, behind-holds-marked}
+use Rattle.sled_core.proofs.Line.FirstHoldsMarked.{InReach, first_above, first_alone, first_inside, first_long, holds-marked, noted_adds, noted_history}
 use Rattle.sled_core.proofs.Holds.MarkedLemmas.{fits-marked}
 use Rattle.sled_core.proofs.Holds.PegLemmas.{IsOff}
 use Rattle.sled_core.proofs.Holds.PlacedBatches.{begins_there, placed-with}
@@ -109,7 +109,7 @@ module _ (sum : List ℕ → ℕ) (size : ℕ) (device : State) (fault : Option 
         let long = first_long sum size v.parts.site device fault v.parts.bytes v.parts.written_len v.parts.sealed v.parts.reserved (logged H) its.holds own.short reached i r at is_open manifest own.are peg small later (offs zero v there).off
         (all_off size peg ws (λ k x among. offs (suc k) x among)) in
         let short = own.short in
-        fits-marked sum size v.parts.site device fault v.parts.bytes v.parts.written_len v.parts.sealed v.parts.reserved pins H A f U its _ _ _ _ (noted_history H b) b refl least (omega (arith, long, short)) ok
+        fits-marked sum size v.parts.site device fault v.parts.bytes v.parts.written_len v.parts.sealed v.parts.reserved pins H A f U its _ _ _ (noted_history H b) b least (omega (arith, long, short)) ok
         (holds-marked sum size v.parts.site device fault v.parts.bytes v.parts.written_len v.parts.sealed v.parts.reserved (logged H) its.holds own.short reached i r at is_open manifest own.are peg small later (offs zero v there).off (all_off size peg ws (λ k x among. offs (suc k) x among)))
         (noted_adds H b later) placing later (all_off size peg ws (λ k x among. offs (suc k) x among))
         (first_above sum size v.parts.site device fault v.parts.bytes v.parts.written_len v.parts.sealed v.parts.reserved (logged H) its.holds own.short reached i r at is_open manifest own.are peg small later (offs zero v there).off (all_off size peg ws (λ k x among. offs (suc k) x among)))

@@ -3,6 +3,7 @@ use Rattle.std.proofs.Common.{◌∷◌, [], ◌≡◌, ◌∙◌, ◌<◌, ◌�
 use Rattle.std.proofs.lemmas.Bool.{cases_lt}
 use Rattle.std.proofs.lemmas.Bool.Decides.{nat_tests}
 use Rattle.sled_codec.proofs.Segments.{length-short_header}
+use Rattle.sled_core.specs.Pool.{Pool}
 use Rattle.sled_core.specs.Fillings.{fillings_along}
 use Rattle.sled_core.specs.Heads.{heads_along}
 use Rattle.sled_core.specs.Manifests.{is_manifest, kind_for}
@@ -23,7 +24,7 @@ use Rattle.sled_core.specs.declared.iobuf.Reserved.{Reserved}
 use Rattle.sled_core.specs.declared.iobuf.record.Head.{Head}
 use Rattle.sled_core.specs.declared.logger.Log.{Log}
 use Rattle.sled_core.specs.declared.reservation.Reservation.{Reservation}
-use Rattle.sled_core.specs.Fits.{Awaits, AwaitsIn, FitsInline, open_places, IsUnchanged, IsUsedUpFor, KeepsAll, NoFurther, current_of, given_up_of, is_moved, line_of, machine_at, open_for, open_of, position_behind, position_of, reserved_end, segment_size_of, stable_end, size_for, start_behind, start_of, target_of, waiting_behind, waiting_of, fillings_of, heads_of}
+use Rattle.sled_core.specs.Fits.{Awaits, AwaitsIn, FitsInline, open_places, IsUnchanged, IsUsedUpFor, KeepsAll, NoFurther, current_of, given_up_of, is_moved, line_of, machine_at, pooled_of, open_for, open_of, position_behind, position_of, reserved_end, segment_size_of, stable_end, size_for, start_behind, start_of, target_of, waiting_behind, waiting_of, fillings_of, heads_of}
 use Rattle.sled_core.specs.Among.{AreAmong}
 use Rattle.sled_core.specs.Keeps.{KeepsSeen, Preserves}
 use Rattle.sled_core.specs.Logged.{in_log}
@@ -35,9 +36,9 @@ use Rattle.sled_core.specs.inside.Turned.{ChangesLine, ChangesSlots, HasPlace, H
 use Rattle.sled_core.specs.Waiting.{BufferAt, BufferStart, at_last, closed_now, unwritten}
 use Rattle.sled_core.proofs.Line.Among.{among_further, among_same}
 use Rattle.sled_core.proofs.Line.KeptCalls.{kept_further}
-use Rattle.sled_core.proofs.Line.Begins.{begins_current, begins_keeps, begins_same, begins_tickets, begins_marked}
+use Rattle.sled_core.proofs.Line.Begins.{begins_current, begins_keeps, begins_marked, begins_same, begins_tickets}
 use Rattle.sled_core.proofs.Line.HeaderMarks.{marked_further, none_begun}
-use Rattle.sled_core.proofs.Line.LogReserves.{placeholder_fits, record_long, reserves_current, reserves_given, reserves_keeps, reserves_opens, reserves_others, reserves_position, reserves_same, target_here, target_next, reserves_fillings, reserves_heads}
+use Rattle.sled_core.proofs.Line.LogReserves.{placeholder_fits, record_long, reserves_current, reserves_fillings, reserves_given, reserves_heads, reserves_keeps, reserves_opens, reserves_others, reserves_position, reserves_same, target_here, target_next}
 use Rattle.sled_core.proofs.Line.LogSpans.{next_buffers, reserved_buffers, same_buffers}
 use Rattle.sled_core.proofs.Line.Reserves.{HasPlaceFor, ticket_reserved}
 use Rattle.sled_core.proofs.Line.Targets.{record_short}
@@ -120,6 +121,7 @@ module _ {D C : Type 0} (trace : D → Trace) (sum : List ℕ → ℕ) (old mid 
         batch = batch;
         seals = (buffers.0 ∙ sym (ap (λ (o : Bool). if o then closed else waiting_of old) stays), buffers.1 ∙ sym (ap (λ (o : Bool). if o then next else start_of old) stays));
         machine = machine ∙ sym (ap (λ (o : Bool). if o then (target_of old kept.page n).machine else machine_at old) stays);
+        pooled = same.pooled ∙ sym (ap (λ (o : Bool). if o then pooled_of old - 1 else pooled_of old) stays);
         marked = none_begun sum old mid (ap (λ (v : SegmentView). v.parts.site.place) current) (among_same (heads_of mid) (heads_of old) (ap heads_along line)) (among_same (fillings_of mid) (fillings_of old) (ap fillings_along line));
       }
 
@@ -154,9 +156,9 @@ module _ {D C : Type 0} (trace : D → Trace) (sum : List ℕ → ℕ) (old : Lo
   pub next_up : NoFurther old → IsUsedUpFor old kept.page n
   next_up none = (next_moves, none)
 
-  pub prepared_next : (mid : Log D C) (head : Head) → IsHeadOf head kept n (number_of mid) → line_of mid ≡ next_line sum size (machine_at old) (stable_end old) (line_of old) → machine_at mid ≡ handed_out (v.parts.site.place + size) (machine_at old) → ChangesSlots old mid
+  pub prepared_next : (mid : Log D C) (head : Head) → IsHeadOf head kept n (number_of mid) → line_of mid ≡ next_line sum size (machine_at old) (stable_end old) (line_of old) → machine_at mid ≡ handed_out (v.parts.site.place + size) (machine_at old) → pooled_of mid ≡ pooled_of old - 1 → ChangesSlots old mid
       → reserved_end mid ≡ reserved_end old → HasRoomIn (last_buffer_in mid.segments) (size - 20) → (is_manifest kept.log_kind kept.page ≡ true → HasRoomForBatch mid) → IsPrepared trace sum old mid kept head n
-  prepared_next mid head is line machine rest reserved room batch =
+  prepared_next mid head is line machine pooled rest reserved room batch =
       let current : current_of mid ≡ begun_view sum size (machine_at old) (stable_end old) v = begins_current trace sum old mid line machine rest in
       let header = length-short_header sum (pos (v.parts.site.place + size)) (pos (stable_end old) -ℤ pos 1) in
       let bytes : length (current_of mid).parts.bytes ≡ 20 = ap (λ (w : SegmentView). length w.parts.bytes) current ∙ header in
@@ -184,6 +186,7 @@ module _ {D C : Type 0} (trace : D → Trace) (sum : List ℕ → ℕ) (old : Lo
         batch = batch;
         seals = (buffers.0 ∙ sym (ap (λ (o : Bool). if o then closed else waiting_of old) moves), buffers.1 ∙ sym (ap (λ (o : Bool). if o then next else start_of old) moves));
         machine = machine ∙ sym (ap (λ (o : Bool). if o then (target_of old kept.page n).machine else machine_at old) moves ∙ ap (λ (q : Position). q.machine) next_target);
+        pooled = pooled ∙ sym (ap (λ (o : Bool). if o then pooled_of old - 1 else pooled_of old) moves);
         marked = begins_marked trace sum old mid line machine rest next_used;
       }
 
@@ -196,6 +199,7 @@ pub record IsLaid {D C : Type 0} (trace : D → Trace) (sum : List ℕ → ℕ) 
   pub line : line_of new ≡ at_last (reserved_now (placeholder_head (text_of head) ++ body) (reserved_for kept (length (current_of mid).parts.bytes) head.len (length body) (sum (body ++ drop 4 (text_of head))))) (line_of mid)
   pub rest : ChangesSlots mid new
   pub accountant : new.accountant ≡ mid.accountant
+  pub pool : new.pool ≡ mid.pool
   pub ends : reserved_end new ≡ (current_of mid).parts.site.place + length (current_of mid).parts.bytes + head.len + length body
   pub own : IsTicketFor mid ticket kept.blob (head.len + length body)
   pub manifest : is_manifest_of ticket ≡ is_manifest kept.log_kind kept.page
@@ -297,7 +301,7 @@ module _ {D C : Type 0} {trace : D → Trace} {sum : List ℕ → ℕ} {old mid 
 
   -- It stands behind all that the log had.
   pub made_behind : StandsBehind sum old new kept.page len
-  made_behind = record { position = made_position; reserved = made_end; opens = made_opens; given_up = made_given; waiting = made_seals.0; start = made_seals.1; machine = ap machine_of laid.accountant ∙ ready.machine; marked = made_marked }
+  made_behind = record { position = made_position; reserved = made_end; opens = made_opens; given_up = made_given; waiting = made_seals.0; start = made_seals.1; machine = ap machine_of laid.accountant ∙ ready.machine; pooled = ap (λ (x : Pool). x.count) laid.pool ∙ ready.pooled; marked = made_marked }
 
   -- The ticket is for its message, as the log has it.
   abbrev pub laid_message : Message

@@ -18,9 +18,9 @@ use Rattle.sled_core.specs.Tickets.{index_of}
 use Rattle.sled_core.specs.inside.Turned.{promoted}
 use Rattle.sled_core.specs.Waiting.{last_of}
 use Rattle.sled_core.specs.declared.logger.joined_marks.JoinedMarks.{JoinedMarks}
-use Rattle.sled_core.proofs.Behind.FullFurther.{full_further}
-use Rattle.sled_core.proofs.Behind.FullNext.{full_next, here}
-use Rattle.sled_core.proofs.Behind.Promoted.{promoted as promoted_first}
+use Rattle.sled_core.proofs.Line.FullFurther.{full_further}
+use Rattle.sled_core.proofs.Line.FullNext.{full_next, here}
+use Rattle.sled_core.proofs.Line.Promoted.{promoted as promoted_first}
 use Rattle.sled_core.proofs.Line.Segments.{AreSegments, by_front, full_empty, promoted_same}
 use Rattle.sled_core.proofs.Sealed.Ended.{ends_up}
 

@@ -1,8 +1,8 @@
 -- A place is reserved in the segment that is being filled: its placeholder stands behind what is there, and the log holds and fits what it did.
-use Rattle.std.proofs.Common.{◌≡◌, ◌∙◌, ◌<◌, ◌≤◌, ◌+◌, ◌-◌, ◌/◌, ap, sym, refl, arith, subst, inl, inr, ℕ, List, [], ◌∷◌, ◌++◌, length, length-append, length-take, map, take, drop, Option, Some, if◌then◌else◌}
+use Rattle.std.proofs.Common.{◌≡◌, ◌∙◌, ◌<◌, ◌≤◌, ◌+◌, ◌-◌, ◌/◌, ap, sym, refl, arith, subst, inl, inr, ℕ, List, [], ◌∷◌, ◌++◌, length, length-append, length-take, take, drop, Option, Some, if◌then◌else◌}
 use Rattle.std.specs.List.{All, slice_get}
 use Rattle.std.specs.declared.io.Error.{Error as IoError}
-use Rattle.std.proofs.lemmas.List.{drop-append-le, map-append, take-append-le}
+use Rattle.std.proofs.lemmas.List.{drop-append-le, take-append-le}
 use Rattle.sled_codec.specs.History.{History, Message}
 use Rattle.sled_store.specs.Device.{State}
 use Rattle.sled_store.specs.SegmentStates.{Machine}
@@ -16,28 +16,24 @@ use Rattle.sled_core.specs.declared.iobuf.Sealed.{Sealed}
 use Rattle.sled_core.specs.declared.iobuf.SegmentPosition.{SegmentPosition}
 use Rattle.sled_core.specs.declared.reservation.Reservation.{Reservation}
 use Rattle.sled_core.specs.Fits.{AwaitsIn}
-use Rattle.sled_core.specs.inside.Fits.{HoldsIn, HoldsLine, log_parts, parts_in}
+use Rattle.sled_core.specs.inside.Fits.{HoldsLine}
 use Rattle.sled_core.specs.inside.FreeSlots.{HasSlot, HasSlots, HaveOwn}
-use Rattle.sled_core.specs.Logged.{logged}
-use Rattle.sled_core.specs.inside.Running.{FitsIn, FitsLine}
+use Rattle.sled_core.specs.inside.Running.{FitsLine}
 use Rattle.sled_core.specs.inside.SealedBuffers.{AreSealed}
 use Rattle.sled_core.specs.Tickets.{IsFor, index_of}
 use Rattle.sled_core.specs.inside.Turned.{reserved_now}
 use Rattle.sled_core.specs.Waiting.{at_last, buffer_at, last_of, unwritten_in}
-use Rattle.sled_core.proofs.Behind.Calls.{behind-append}
-use Rattle.sled_core.proofs.Behind.FitsCalls.{behind-fits-reserved}
 use Rattle.sled_core.proofs.Holds.HoldsLemmas.{body-append}
-use Rattle.sled_core.proofs.Holds.RunningLemmas.{fits-moved}
-use Rattle.sled_core.proofs.Holds.WholeLemmas.{holds-append}
 use Rattle.sled_core.proofs.Line.Entered.{behind_filling, used_up}
 use Rattle.sled_core.proofs.Line.Segments.{AreSegments}
 use Rattle.sled_core.proofs.Reserve.BeginBelow.{entered_more, entered_up}
 use Rattle.sled_core.proofs.Reserve.RecordEnds.{records_open}
 use Rattle.sled_core.proofs.Line.LineEnds.{end_at_last}
-use Rattle.sled_core.proofs.Line.Last.{All-at_last, by_last, last_get_of}
+use Rattle.sled_core.proofs.Line.OneChanged.{last_fits, last_holds}
+use Rattle.sled_core.proofs.Line.SegmentKeeps.{KeepsAllHeld, segment_reserves}
+use Rattle.sled_core.proofs.Line.Last.{All-at_last, last_get_of}
 use Rattle.sled_core.proofs.Reserve.Ranges.{at_there}
 use Rattle.sled_core.proofs.Reserve.ReserveLemmas.{there_append, there_last}
-use Rattle.sled_core.proofs.Sealed.Ended.{ends_rise}
 use Rattle.sled_core.proofs.Sealed.LaidLemmas.{EndsRise, ends_below}
 use Rattle.sled_core.specs.HeaderMark.{mark_at}
 use Rattle.sled_core.specs.declared.logger.joined_marks.JoinedMarks.{JoinedMarks}
@@ -62,35 +58,24 @@ module _ (sum : List ℕ → ℕ) (size : ℕ) (more : List ℕ) (r : Reserved) 
   abbrev now : SegmentView → SegmentView
   now = reserved_now more r
 
-  its_rise : (v : SegmentView) → HasPlaceFor sum size more r v → EndsRise v.parts.written_len v.parts.sealed (length v.parts.bytes)
-  its_rise v its = ends_rise v.parts.written_len v.parts.reserved v.parts.sealed (length v.parts.bytes) its.are its.written its.begins
+  -- It is reserved in the last one: that holds what it held with it.
+  its_place : (device : State) (fault : Option IoError) (v : SegmentView) → HasPlaceFor sum size more r v
+      → KeepsAllHeld sum size device fault v.parts (v.parts.bytes ++ more) v.parts.sealed (v.parts.reserved ++ r ∷ [])
+  its_place device fault v its = segment_reserves sum size device fault v.parts more r its.begun its.written its.begins its.are its.within its.at its.long its.open_yet its.room its.text its.inside
 
   module _ (device : State) (fault : Option IoError) where
-    -- the first one alone
-    first_reserved : (H : History) (v : SegmentView) → HasPlaceFor sum size more r v → {behind : List SegmentParts} → {marks : JoinedMarks} → HoldsIn sum marks (log_parts size v.parts.site device fault v.parts.bytes v.parts.written_len v.parts.sealed v.parts.reserved) behind H
-        → HoldsIn sum marks (log_parts size v.parts.site device fault (v.parts.bytes ++ more) v.parts.written_len v.parts.sealed (v.parts.reserved ++ r ∷ [])) behind H
-    first_reserved H v its {behind} holds = holds-append sum size v.parts.site device fault v.parts.bytes v.parts.written_len v.parts.sealed v.parts.reserved H holds more r
-        its.begun its.within its.at its.long its.open_yet its.room (its_rise v its) its.text
-
     -- What segments hold they hold then,
     pub line_reserved : (marks : JoinedMarks) (H : History) (v : SegmentView) (vs : List SegmentView) → HasPlaceFor sum size more r (last_of v vs) → HoldsLine sum marks size device fault (v ∷ vs) H → HoldsLine sum marks size device fault (at_last now (v ∷ vs)) H
-    line_reserved marks H = by_last (λ line. HoldsLine sum marks size device fault line H) (HasPlaceFor sum size more r) now
-        (λ v its holds. first_reserved H v its holds)
-        (λ v pre w its holds. subst (λ (ss : List SegmentParts). HoldsIn sum marks (log_parts size v.parts.site device fault v.parts.bytes v.parts.written_len v.parts.sealed v.parts.reserved) ss H) (sym (map-append parts_in pre (now w ∷ [])))
-        (behind-append sum size v.parts.site device fault v.parts.bytes v.parts.written_len v.parts.sealed v.parts.reserved H (map parts_in pre) w.parts []
-        (subst (λ (ss : List SegmentParts). HoldsIn sum marks (log_parts size v.parts.site device fault v.parts.bytes v.parts.written_len v.parts.sealed v.parts.reserved) ss H) (map-append parts_in pre (w ∷ [])) holds)
-        more r its.at its.long its.open_yet its.room its.text its.inside))
+    line_reserved marks H v vs its =
+        let s : SegmentParts = (last_of v vs).parts in
+        last_holds sum size device fault marks v vs (s.bytes ++ more) s.filled s.sealed (s.reserved ++ r ∷ []) now refl (its_place device fault (last_of v vs) its) H
 
     -- and what they fit they fit.
     pub line_fits_reserved : (marks : JoinedMarks) (reach pins : ℕ) (H : History) (A f : ℕ) (U : List Message) (v : SegmentView) (vs : List SegmentView) → HasPlaceFor sum size more r (last_of v vs) → FitsLine sum marks size device fault (v ∷ vs) reach pins H A f U
         → FitsLine sum marks size device fault (at_last now (v ∷ vs)) reach pins H A f U
-    line_fits_reserved marks reach pins H A f U = by_last (λ line. FitsLine sum marks size device fault line reach pins H A f U) (HasPlaceFor sum size more r) now
-        (λ v its fits. fits-moved sum size v.parts.site device fault v.parts.bytes v.parts.written_len v.parts.sealed v.parts.reserved pins H A f U fits (v.parts.bytes ++ more) v.parts.written_len v.parts.sealed (v.parts.reserved ++ r ∷ []) refl
-        (first_reserved (logged H) v its fits.holds))
-        (λ v pre w its fits. subst (λ (ss : List SegmentParts). FitsIn sum marks (log_parts size v.parts.site device fault v.parts.bytes v.parts.written_len v.parts.sealed v.parts.reserved) ss reach pins H A f U) (sym (map-append parts_in pre (now w ∷ [])))
-        (behind-fits-reserved sum size v.parts.site device fault v.parts.bytes v.parts.written_len v.parts.sealed v.parts.reserved pins H A f U (map parts_in pre) w.parts []
-        (subst (λ (ss : List SegmentParts). FitsIn sum marks (log_parts size v.parts.site device fault v.parts.bytes v.parts.written_len v.parts.sealed v.parts.reserved) ss reach pins H A f U) (map-append parts_in pre (w ∷ [])) fits)
-        more r its.at its.long its.open_yet its.room its.text its.inside))
+    line_fits_reserved marks reach pins H A f U v vs its =
+        let s : SegmentParts = (last_of v vs).parts in
+        last_fits sum size device fault marks v vs (s.bytes ++ more) s.filled s.sealed (s.reserved ++ r ∷ []) now refl (its_place device fault (last_of v vs) its) (inl refl) reach pins H A f U
 
   -- Their slots are the same.
   pub slots_reserved : (line : List SegmentView) (log : List ℕ) (fault : Option IoError) (m : Machine) → HasSlots size line log fault m → HasSlots size (at_last now line) log fault m

@@ -2,7 +2,6 @@
 use Rattle.std.proofs.Common.{◌≡◌, ◌∙◌, ◌<◌, ◌≤◌, ◌+◌, ap, sym, refl, arith, subst, inl, inr, ℕ, Bool, List, [], ◌∷◌, length, map, drop, Option, true, false, if◌then◌else◌}
 use Rattle.std.specs.declared.io.Error.{Error as IoError}
 use Rattle.std.proofs.lemmas.Bool.Decides.{nat_tests}
-use Rattle.std.proofs.lemmas.List.{map-append}
 use Rattle.sled_codec.specs.History.{History, Message}
 use Rattle.sled_store.specs.Foreign.{HeaderWasPlaced, RecordWasPlaced}
 use Rattle.sled_store.specs.Device.{State, Trace, state_of}
@@ -18,7 +17,7 @@ use Rattle.sled_core.specs.Begun.{SegmentParts, SegmentView, begin_of, segment_v
 use Rattle.sled_core.specs.declared.logger.Log.{Log}
 use Rattle.sled_core.specs.declared.reservation.Reservation.{Reservation}
 use Rattle.sled_core.specs.inside.Numbers.{HasNumbers}
-use Rattle.sled_core.specs.inside.Fits.{written_to, HoldsIn, HoldsLine, log_parts, parts_in}
+use Rattle.sled_core.specs.inside.Fits.{written_to, HoldsLine}
 use Rattle.sled_core.specs.Fits.{AwaitsIn, KeepsAll, KeepsTickets, buffers_of, current_begin, current_of, device_of, fault_of, given_up_of, line_of, noted_in, machine_at, pins_of, position_sealed, position_with, segment_size_of, synced_end, waiting_of, fillings_of, heads_of}
 use Rattle.sled_core.specs.invariants.Fits.{Holds}
 use Rattle.sled_core.specs.inside.Begun.{line_end}
@@ -29,15 +28,14 @@ use Rattle.sled_core.specs.Logged.{logged, in_log}
 use Rattle.sled_core.specs.OpenPlaces.{open_places_along}
 use Rattle.sled_core.specs.Positions.{Position, is_short, next_segment_at, position_in}
 use Rattle.sled_core.specs.invariants.Running.{Fits}
-use Rattle.sled_core.specs.inside.Running.{FitsIn, FitsLine}
+use Rattle.sled_core.specs.inside.Running.{FitsLine}
+use Rattle.sled_core.specs.inside.SealedBuffers.{AreSealed}
 use Rattle.sled_core.specs.SealedBuffers.{seal_at, sealed_count}
 use Rattle.sled_core.specs.inside.Shown.{shown_of}
 use Rattle.sled_core.specs.inside.Slots.{AreWhole}
 use Rattle.sled_core.specs.inside.Turned.{ChangesLine}
 use Rattle.sled_core.specs.Waiting.{as_sealed, at_last, closed_now, holds_any, last_of, sealed_now, turned_now, unwritten}
 use Rattle.sled_core.specs.declared.logger.joined_marks.JoinedMarks.{JoinedMarks}
-use Rattle.sled_core.proofs.Behind.Calls.{behind-sealed}
-use Rattle.sled_core.proofs.Behind.FitsCalls.{behind-fits-sealed}
 use Rattle.sled_core.proofs.Cleared.Calls.{sealed_same as unwritten_sealed_now}
 use Rattle.sled_core.proofs.Cleared.Moves.{cleared_line, line_last}
 use Rattle.sled_core.proofs.Cleared.Shown.{ShowsSame}
@@ -45,10 +43,10 @@ use Rattle.sled_core.proofs.Holds.FitsBatches.{batches_up}
 use Rattle.sled_core.proofs.Line.Among.{among_same}
 use Rattle.sled_core.proofs.Line.GivenUp.{given_sealed}
 use Rattle.sled_core.proofs.Line.KeptCalls.{goes_on_quietly}
-use Rattle.sled_core.proofs.Holds.RunningLemmas.{fits-moved}
-use Rattle.sled_core.proofs.Holds.WholeLemmas.{holds-sealed}
 use Rattle.sled_core.proofs.Holds.Facts.{current_facts}
-use Rattle.sled_core.proofs.Line.Last.{All-at_last, at_last_same, at_last_twice, by_last, last_changed, last_get_of}
+use Rattle.sled_core.proofs.Line.OneChanged.{last_fits, last_holds}
+use Rattle.sled_core.proofs.Line.SegmentKeeps.{sealed_also, segment_seals}
+use Rattle.sled_core.proofs.Line.Last.{All-at_last, at_last_same, at_last_twice, last_changed, last_get_of}
 use Rattle.sled_core.proofs.Line.LineEnds.{end_at_last, end_last, first_at_last, kept_same, noted_later, noted_same}
 use Rattle.sled_core.proofs.Numbers.HidesAs.{from_as}
 use Rattle.sled_core.proofs.Line.Moves.{fits_as, holds_as}
@@ -63,30 +61,22 @@ use Rattle.sled_core.specs.LogSegments.{begins_from}
 pub record IsFilledSome (size : ℕ) (v : SegmentView) : Type 0 where
   pub short : length v.parts.bytes ≤ size
   pub some : begin_of v < length v.parts.bytes
+  pub are : AreSealed v.parts.written_len v.parts.reserved v.parts.sealed
 
 module _ (sum : List ℕ → ℕ) (size : ℕ) (device : State) (fault : Option IoError) where
-  -- the first one alone
-  pub first_sealed : (H : History) (v : SegmentView) → IsFilledSome size v → {behind : List SegmentParts} → {marks : JoinedMarks} → HoldsIn sum marks (log_parts size v.parts.site device fault v.parts.bytes v.parts.written_len v.parts.sealed v.parts.reserved) behind H
-      → HoldsIn sum marks (log_parts size v.parts.site device fault v.parts.bytes v.parts.written_len (sealed_now v).parts.sealed v.parts.reserved) behind H
-  first_sealed H v its {behind} holds = holds-sealed sum size v.parts.site device fault v.parts.bytes v.parts.written_len v.parts.sealed v.parts.reserved H holds (drop (sealed_count v.parts.sealed) v.parts.reserved) its.short (let some = its.some in omega (arith, some))
-
   -- What segments hold they hold then,
   pub line_sealed : (marks : JoinedMarks) (H : History) (v : SegmentView) (vs : List SegmentView) → IsFilledSome size (last_of v vs) → HoldsLine sum marks size device fault (v ∷ vs) H → HoldsLine sum marks size device fault (at_last sealed_now (v ∷ vs)) H
-  line_sealed marks H = by_last (λ line. HoldsLine sum marks size device fault line H) (IsFilledSome size) sealed_now
-      (λ v its holds. first_sealed H v its holds)
-      (λ v pre w its holds. subst (λ (ss : List SegmentParts). HoldsIn sum marks (log_parts size v.parts.site device fault v.parts.bytes v.parts.written_len v.parts.sealed v.parts.reserved) ss H) (sym (map-append parts_in pre (sealed_now w ∷ [])))
-      (behind-sealed sum size v.parts.site device fault v.parts.bytes v.parts.written_len v.parts.sealed v.parts.reserved H (map parts_in pre) w.parts []
-      (subst (λ (ss : List SegmentParts). HoldsIn sum marks (log_parts size v.parts.site device fault v.parts.bytes v.parts.written_len v.parts.sealed v.parts.reserved) ss H) (map-append parts_in pre (w ∷ [])) holds) its.some))
+  line_sealed marks H v vs its =
+      let s : SegmentParts = (last_of v vs).parts in
+      last_holds sum size device fault marks v vs s.bytes s.filled (sealed_also s) s.reserved sealed_now refl (segment_seals sum size device fault s its.short its.some its.are) H
 
   -- and what they fit they fit.
   pub line_fits_sealed : (marks : JoinedMarks) (reach pins : ℕ) (H : History) (A f : ℕ) (U : List Message) (v : SegmentView) (vs : List SegmentView) → IsFilledSome size (last_of v vs) → FitsLine sum marks size device fault (v ∷ vs) reach pins H A f U
       → FitsLine sum marks size device fault (at_last sealed_now (v ∷ vs)) reach pins H A f U
-  line_fits_sealed marks reach pins H A f U = by_last (λ line. FitsLine sum marks size device fault line reach pins H A f U) (IsFilledSome size) sealed_now
-      (λ v its fits. fits-moved sum size v.parts.site device fault v.parts.bytes v.parts.written_len v.parts.sealed v.parts.reserved pins H A f U fits v.parts.bytes v.parts.written_len (sealed_now v).parts.sealed v.parts.reserved refl
-      (first_sealed (logged H) v its fits.holds))
-      (λ v pre w its fits. subst (λ (ss : List SegmentParts). FitsIn sum marks (log_parts size v.parts.site device fault v.parts.bytes v.parts.written_len v.parts.sealed v.parts.reserved) ss reach pins H A f U) (sym (map-append parts_in pre (sealed_now w ∷ [])))
-      (behind-fits-sealed sum size v.parts.site device fault v.parts.bytes v.parts.written_len v.parts.sealed v.parts.reserved pins H A f U (map parts_in pre) w.parts []
-      (subst (λ (ss : List SegmentParts). FitsIn sum marks (log_parts size v.parts.site device fault v.parts.bytes v.parts.written_len v.parts.sealed v.parts.reserved) ss reach pins H A f U) (map-append parts_in pre (w ∷ [])) fits) its.some))
+  line_fits_sealed marks reach pins H A f U v vs its =
+      let s : SegmentParts = (last_of v vs).parts in
+      last_fits sum size device fault marks v vs s.bytes s.filled (sealed_also s) s.reserved sealed_now refl (segment_seals sum size device fault s its.short its.some its.are) (inl refl)
+      reach pins H A f U
 
 -- Their slots are the same.
 pub slots_sealed : (size : ℕ) (line : List SegmentView) (log : List ℕ) (fault : Option IoError) (m : Machine) → HasSlots size line log fault m → HasSlots size (at_last sealed_now line) log fault m
@@ -120,7 +110,7 @@ module _ {D C : Type 0} (trace : D → Trace) (sum : List ℕ → ℕ) (old new 
   vs = map segment_view old.segments.behind.items
 
   its : IsFilledSome size (current_of old)
-  its = let f = current_facts old in let short = f.short in record { short = short; some = grind (arith, nat_tests, some) }
+  its = let f = current_facts old in let short = f.short in record { short = short; some = grind (arith, nat_tests, some); are = f.are }
 
   machine : machine_at new ≡ machine_at old
   machine = ap machine_of rest.accountant

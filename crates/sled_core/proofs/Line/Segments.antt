@@ -19,7 +19,7 @@ use Rattle.sled_core.specs.inside.SealedBuffers.{AreSealed, behind_run, is_ready
 use Rattle.sled_core.specs.SealedBuffers.{sealed_count, sealed_end}
 use Rattle.sled_core.specs.inside.Turned.{promoted, written_now}
 use Rattle.sled_core.specs.Waiting.{last_of}
-use Rattle.sled_core.proofs.Behind.FullHolds.{none_sealed}
+use Rattle.sled_core.proofs.Line.FullHolds.{none_sealed}
 use Rattle.sled_core.proofs.Holds.Facts.{IsSegment, nth_facts}
 use Rattle.sled_core.proofs.Reserve.BeginBelow.{entered_left}
 use Rattle.sled_core.proofs.Reserve.Ranges.{chain_grows}

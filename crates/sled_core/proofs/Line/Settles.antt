@@ -20,7 +20,7 @@ use Rattle.sled_core.specs.inside.SealedBuffers.{IsSealed, written_at}
 use Rattle.sled_core.specs.SealedBuffers.{bytes_between, sealed_count, sealed_end, writing}
 use Rattle.sled_core.specs.inside.Turned.{IsReadyIn, promoted, writing_in, writing_of, written_now, begin_at, mark_of}
 use Rattle.sled_core.specs.Waiting.{BufferAt, Span, buffer_at, free_around, has_place, held_around, none_around, one_around, placed, unless_held, unwritten, unwritten_of, without_around}
-use Rattle.sled_core.proofs.Line.Around.{IsAround, all_found, begin_above, fewer_line, found, found_above, found_front, found_in, found_line, found_there, found_written, free_found, free_of, held_found, held_of, is_none, left_of, none_found, without_in, without_line, without_none, list_of, one_found}
+use Rattle.sled_core.proofs.Line.Around.{IsAround, all_found, begin_above, fewer_line, found, found_above, found_front, found_in, found_line, found_there, found_written, free_found, free_of, held_found, held_of, is_none, left_of, list_of, none_found, one_found, without_in, without_line, without_none}
 use Rattle.sled_core.proofs.Line.Below.{lie_begin, none_first}
 use Rattle.sled_core.proofs.Line.Entered.{filled_last}
 use Rattle.sled_core.proofs.Holds.Facts.{IsSegment, current_facts, nth_facts}

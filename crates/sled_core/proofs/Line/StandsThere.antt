@@ -20,7 +20,7 @@ use Rattle.sled_core.specs.inside.Cleared.{cleared, is_stale}
 use Rattle.sled_core.specs.inside.Fits.{HoldBehind, HoldsLine, parts_in}
 use Rattle.sled_core.specs.inside.FreeSlots.{HasSlot}
 use Rattle.sled_core.specs.inside.LogFile.{StaysBelow}
-use Rattle.sled_core.proofs.Behind.Begins.{apart_zeros}
+use Rattle.sled_core.proofs.Line.HoldsBegun.{apart_zeros}
 use Rattle.sled_core.proofs.Cleared.Moves.{part_same}
 use Rattle.sled_core.proofs.Cleared.Offsets.{Beside, LineRises, cleared_zeros, zeroed_beside}
 use Rattle.sled_core.proofs.Flush.FlushLemmas.{on_file}

@@ -6,6 +6,7 @@ use Rattle.std.specs.List.{slice_get}
 use Rattle.sled_codec.specs.History.{History, Message}
 use Rattle.sled_store.specs.Accounts.{machine_of}
 use Rattle.sled_store.specs.Device.{Trace, state_of}
+use Rattle.sled_core.specs.Pool.{Pool}
 use Rattle.sled_core.specs.Among.{AreAmong}
 use Rattle.sled_core.specs.Begun.{SegmentView}
 use Rattle.sled_core.specs.Buffers.{open_state, padding_state}
@@ -187,4 +188,5 @@ module _ {D C : Type 0} {old new : Log D C} {ticket : Reservation} {n index : â„
         heads = ticket_heads;
         fillings = ticket_fillings plain;
         machine = ap machine_of rest.accountant;
+        pooled = ap (Î» (x : Pool). x.count) rest.pool;
       }

@@ -12,6 +12,7 @@ use Rattle.sled_core.specs.invariants.Fits.{Holds}
 use Rattle.sled_core.specs.GivenUp.{given_up_along}
 use Rattle.sled_core.specs.Keeps.{Preserves, SamePosition}
 use Rattle.sled_core.specs.OpenPlaces.{open_places_along}
+use Rattle.sled_core.specs.Pool.{Pool}
 use Rattle.sled_core.specs.Positions.{position_in}
 use Rattle.sled_core.specs.invariants.Running.{Fits}
 use Rattle.sled_core.specs.inside.Turned.{ChangesLine}
@@ -25,7 +26,7 @@ use Rattle.sled_core.proofs.Line.AccountBehind.{account_unchanged}
 
 -- A call that changes the segments alone, and leaves what is seen of them, leaves it so.
 pub left_alone : {D C : Type 0} (old new : Log D C) → line_of new ≡ line_of old → ChangesLine old new → IsUnchanged old new
-left_alone old new line rest = record { line = line; reserved = rest.reserved; fault = rest.fault; pins = rest.pins; marks = rest.marks; machine = ap machine_of rest.accountant; noted = noted_same old new rest.noted (ap written_to line); kept = kept_same old new rest.noted; config = rest.config }
+left_alone old new line rest = record { line = line; reserved = rest.reserved; fault = rest.fault; pins = rest.pins; marks = rest.marks; machine = ap machine_of rest.accountant; noted = noted_same old new rest.noted (ap written_to line); kept = kept_same old new rest.noted; config = rest.config; pooled = ap (λ (x : Pool). x.count) rest.pool }
 
 module _ {D C : Type 0} (old new : Log D C) (same : IsUnchanged old new) where
   unchanged_synced : synced_end new ≡ synced_end old
@@ -71,4 +72,4 @@ module _ {D C : Type 0} (old new : Log D C) (same : IsUnchanged old new) where
 
 -- nothing was done
 pub unchanged_still : {D C : Type 0} (log : Log D C) → IsUnchanged log log
-unchanged_still log = record { line = refl; reserved = refl; fault = refl; pins = refl; marks = refl; machine = refl; noted = refl; kept = omega arith; config = refl }
+unchanged_still log = record { line = refl; reserved = refl; fault = refl; pins = refl; marks = refl; machine = refl; noted = refl; kept = omega arith; config = refl; pooled = refl }

@@ -23,10 +23,10 @@ use Rattle.sled_core.specs.inside.SealedBuffers.{is_ready, run_end, written_at}
 use Rattle.sled_core.specs.OpenBatches.{stable_below}
 use Rattle.sled_core.specs.declared.logger.joined_marks.JoinedMarks.{JoinedMarks}
 use Rattle.sled_core.specs.inside.Turned.{promoted, write_in, write_of, written_now}
-use Rattle.sled_core.proofs.Behind.FitsWritten.{behind-along, behind-fits-written}
-use Rattle.sled_core.proofs.Behind.FullWrites.{fits_written_full, written_plain}
-use Rattle.sled_core.proofs.Behind.Writes.{behind-written}
-use Rattle.sled_core.proofs.Behind.SealedFits.{fits_written_one, holds_written_one, write_along}
+use Rattle.sled_core.proofs.Line.FitsWritten.{behind-along, behind-fits-written}
+use Rattle.sled_core.proofs.Line.FullWrites.{fits_written_full, written_plain}
+use Rattle.sled_core.proofs.Line.BehindWritten.{behind-written}
+use Rattle.sled_core.proofs.Line.SealedFits.{fits_written_one, holds_written_one, write_along}
 use Rattle.sled_core.proofs.Holds.Facts.{IsSegment}
 use Rattle.sled_core.proofs.Line.LineEnds.{end_left, end_set}
 use Rattle.sled_core.proofs.Holds.Nth.{parts_set, parts_split}

@@ -14,6 +14,7 @@ pub record IsFirstBuffer (sum : List ℕ → ℕ) (place offset : ℕ) (b : IoBu
   pub reserved : b.reserved.items ≡ []
   pub filled : b.filled ≡ None
   pub sealed : b.sealed.items ≡ []
+  pub there : 0 < b.bytes.room
 
 -- Why there is none: the stable place lies in the header of the active segment, or memory was refused.
 abbrev pub RefusesBuffer : ℕ → ℕ → Option ℕ → Error → Type 0

@@ -9,7 +9,7 @@ use Rattle.sled_core.specs.declared.iobuf.record.Head.{Head}
 use Rattle.sled_core.specs.declared.logger.Log.{Log}
 use Rattle.sled_core.specs.inside.Begun.{last_buffer_in}
 use Rattle.sled_core.specs.Buffers.{most_open}
-use Rattle.sled_core.specs.Fits.{KeepsTickets, current_of, machine_at, machine_behind, reserved_end, segment_size_of, start_behind, start_of, target_of, waiting_behind}
+use Rattle.sled_core.specs.Fits.{KeepsTickets, current_of, machine_at, machine_behind, pooled_behind, pooled_of, reserved_end, segment_size_of, start_behind, start_of, target_of, waiting_behind}
 use Rattle.sled_core.specs.Fits.{waiting_of}
 use Rattle.sled_core.specs.Keeps.{KeepsSeen, Preserves}
 use Rattle.sled_core.specs.Manifests.{is_manifest}
@@ -51,6 +51,7 @@ pub record IsPrepared {D C : Type 0} (trace : D → Trace) (sum : List ℕ → �
   pub batch : is_manifest kept.log_kind kept.page ≡ true → HasRoomForBatch new
   pub seals : (waiting_of new ≡ waiting_behind sum old kept.page n) × (start_of new ≡ start_behind old kept.page n)
   pub machine : machine_at new ≡ machine_behind old kept.page n
+  pub pooled : pooled_of new ≡ pooled_behind old kept.page n
   pub marked : BeginsMarked sum old new
 
 -- Where a further segment is needed that isn't in reach, and so many are open in the buffer that the record would be of: this comes of it.

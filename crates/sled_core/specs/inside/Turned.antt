@@ -62,6 +62,7 @@ pub record EndsAs (index : ℕ) (how : List ℕ → Reserved → List ℕ) (stat
   pub gone : new.gone ≡ old.gone
   pub filled : new.filled ≡ old.filled
   pub long : length new.bytes.items ≡ length old.bytes.items
+  pub room : new.bytes.room ≡ old.bytes.room
 
 -- one of its sealed buffers is written: those at the front that are have gone, with their reservations
 abbrev pub written_now : ℕ → SegmentView → SegmentView
@@ -95,8 +96,9 @@ pub record ChangesLine {D C : Type 0} (old new : Log D C) : Type 0 where
   pub marks : new.marks ≡ old.marks
   pub accountant : new.accountant ≡ old.accountant
   pub noted : new.batches.noted.items ≡ old.batches.noted.items
+  pub pool : new.pool ≡ old.pool
 
--- It changes the segments and the slots alone.
+-- It changes the segments and the slots alone, and takes bytes of the pool.
 pub record ChangesSlots {D C : Type 0} (old new : Log D C) : Type 0 where
   pub config : new.config ≡ old.config
   pub fault : new.fault.kept ≡ old.fault.kept
@@ -106,7 +108,7 @@ pub record ChangesSlots {D C : Type 0} (old new : Log D C) : Type 0 where
 
 -- A buffer takes a record of this length, and one more reservation, without memory.
 pub record HasRoomIn (b : IoBuf) (len : ℕ) : Type 0 where
-  pub bytes : length b.bytes.items + len + 32 ≤ vec_capacity b.bytes
+  pub bytes : length b.bytes.items + len + 32 ≤ b.bytes.room
   pub reserved : deque_len b.reserved < deque_capacity b.reserved
   pub few : open_in (drop (sealed_count b.sealed.items) b.reserved.items) < most_open
 
@@ -124,10 +126,11 @@ pub record NotesBatch {D C : Type 0} (old new : Log D C) : Type 0 where
   pub pins : new.pins ≡ old.pins
   pub marks : new.marks ≡ old.marks
   pub manifests : new.batches.manifests ≡ old.batches.manifests
+  pub pool : new.pool ≡ old.pool
 
 -- It can be filled to the end of a segment of this size, and sealed, without memory.
 pub record CanClose (b : IoBuf) (size : ℕ) : Type 0 where
-  pub bytes : size ≤ vec_capacity b.bytes
+  pub bytes : size + 32 ≤ b.bytes.room
   pub reserved : deque_len b.reserved < deque_capacity b.reserved
   pub sealed : deque_len b.sealed < deque_capacity b.sealed
 
@@ -220,6 +223,7 @@ pub record FreesSlots {D C : Type 0} (old new : Log D C) : Type 0 where
   pub pins : new.pins ≡ old.pins
   pub marks : new.marks ≡ old.marks
   pub batches : new.batches ≡ old.batches
+  pub pool : new.pool ≡ old.pool
 
 -- A call changes the device of a log, and the failure that it keeps, alone.
 pub record ChangesDevice {D C : Type 0} (old new : Log D C) : Type 0 where
@@ -231,3 +235,4 @@ pub record ChangesDevice {D C : Type 0} (old new : Log D C) : Type 0 where
   pub marks : new.marks ≡ old.marks
   pub accountant : new.accountant ≡ old.accountant
   pub batches : new.batches ≡ old.batches
+  pub pool : new.pool ≡ old.pool

@@ -1,25 +1,29 @@
 //! Filling a segment to its end, and sealing its last buffer.
-ghost use Rattle.std.specs.Prelude.{◌≡◌, ◌<◌, ◌≤◌, length, OnOk, IsOkUnless};
+ghost use Rattle.std.specs.Prelude.{◌≡◌, ◌<◌, ◌≤◌, ◌^◌, length, OnOk, IsOkUnless};
 ghost use Rattle.sled_core.specs.Begun.{view_at};
 ghost use Rattle.sled_core.specs.Buffers.{padding_at};
 ghost use Rattle.sled_core.specs.SealedBuffers.{sealed_end};
 ghost use Rattle.sled_core.specs.inside.Turned.{CanClose};
 ghost use Rattle.sled_core.specs.Waiting.{closed_now};
 
-use crate::iobuf::record::push_rest;
 use crate::iobuf::{IoBuf, ReservationState, Reserved, SegmentPosition};
 use sled_codec::result::{Error, Result};
 use sled_codec::serialization::{Checksum, LogKind, MessageKind, SegmentNumber};
+use sled_store::segment::MAX_MSG_HEADER_LEN;
 
 impl IoBuf {
     /// Makes room for what fills a segment of this size to its end, for its entry, and for the buffer that is sealed then.
     pub(crate) fn room_to_close(&mut self, size: usize) -> Result<()>
-        requires { length self.old.bytes.items ≤ size }
+        requires inside { length self.old.bytes.items ≤ size }
+        requires small { size < 2 ^ 63 }
+        requires there { 0 < self.old.bytes.room }
         ensures same { (site : SegmentPosition) → view_at site self.new ≡ view_at site self.old }
         ensures room { OnOk result (CanClose self.new size) }
+        ensures there { 0 < self.new.bytes.room }
         ensures err { IsOkUnless result Error.OutOfMemory }
     {
-        self.bytes.reserve(size - self.bytes.len())?;
+        let rest = size - self.bytes.len();
+        self.bytes.reserve(rest + MAX_MSG_HEADER_LEN)?;
         self.reserved.reserve(1)?;
         self.sealed.reserve(1)?;
         Ok(())
@@ -32,12 +36,13 @@ impl IoBuf {
         requires short { length self.old.bytes.items ≤ size }
         requires size { 0 < size }
         requires room { CanClose self.old size }
+        ensures there { 0 < self.new.bytes.room }
         ensures closed { view_at site.now self.new ≡ closed_now C.sum_of size (view_at site.now self.old) }
     {
         let from = self.bytes.len();
         if from < size {
             let number = SegmentNumber(site.place / size as u64);
-            push_rest(checksum, &mut self.bytes, number, size);
+            self.bytes.push_rest(checksum, number, size);
             self.reserved.push_back_reserved(padding(from, size));
             self.filled = Some(from);
         }

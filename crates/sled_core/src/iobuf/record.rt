@@ -85,6 +85,7 @@ pub(crate) fn push_placeholder<T: Serialize, C: Checksum>(
     ensures sum { result ≡ C.sum_of (T.short (T.meaning item.now) ++ drop 4 (take head.now.len head.now.bytes)) }
     ensures bytes { bytes.new.items ≡ bytes.old.items ++ placeholder_head (take head.now.len head.now.bytes) ++ T.short (T.meaning item.now) }
     ensures len { length bytes.new.items ≡ length bytes.old.items + head.now.len + item_len }
+    ensures capacity { vec_capacity bytes.old ≤ vec_capacity bytes.new }
 {
     let from = bytes.len();
     let end = from + head.len + item_len;
@@ -168,6 +169,7 @@ pub(crate) fn sum_around<C: Checksum>(
     requires within { from + len ≤ length bytes.old.items }
     ensures sum { result ≡ C.sum_of (part bytes.old.items (from + header_len) (len - header_len) ++ part bytes.old.items (from + 4) (header_len - 4)) }
     ensures bytes { bytes.new.items ≡ bytes.old.items }
+    ensures capacity { vec_capacity bytes.new ≡ vec_capacity bytes.old }
 {
     let summed = &mut bytes[from + 4..from + len];
     summed.rotate_left(header_len - 4);

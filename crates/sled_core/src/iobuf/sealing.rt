@@ -1,25 +1,31 @@
 //! The buffers of a segment that were sealed: they lie one behind another, and each is written as a whole. Those at the
 //! front that are on the device go, with their reservations (`specs/SealedBuffers.antt`).
-ghost use Rattle.std.specs.Prelude.{◌≡◌, ◌+◌, ◌<◌, ◌≤◌, ◌^◌, ℕ, List, true, length, take, drop, slice_get, OnOk, OnErr, IsOkUnless, IsTrue, ◌↔◌, All, Some};
+ghost use Rattle.std.specs.Prelude.{◌<◌, ◌≤◌, ◌^◌, ℕ, List, true, length, take, drop, slice_get, OnOk, OnErr, IsOkUnless, IsTrue, ◌↔◌, All, Some};
+ghost use Rattle.std.specs.Prelude.{◌≡◌, ◌==◌, ◌+◌};
 ghost use Rattle.std.specs.List.Sorted.{IsNonDecreasingBy, IsPartitionPoint};
 ghost use Rattle.std.specs.VecDeque.{deque_len, deque_capacity};
 ghost use Rattle.sled_core.specs.declared.iobuf.Reserved.{Reserved};
 ghost use Rattle.sled_core.specs.declared.iobuf.SegmentPosition.{SegmentPosition};
 ghost use Rattle.sled_core.specs.Begun.{view_at};
+ghost use Rattle.sled_core.specs.Pool.{with_given};
 ghost use Rattle.sled_core.specs.Waiting.{sealed_now};
 ghost use Rattle.sled_core.specs.inside.Turned.{written_now};
 ghost use Rattle.sled_core.specs.inside.SealedBuffers.{HasOpenAt, behind_run, is_ready, one_ended, run_count, run_end, written_at};
 ghost use Rattle.sled_core.specs.SealedBuffers.{sealed_count, sealed_end};
 
 use crate::iobuf::{IoBuf, Reserved, Sealed};
+use crate::logger::pool::SegmentPool;
 use sled_codec::result::{Error, Result};
 use sled_store::header::{bump_salt, n_writers};
+use std::alloc::Global;
 use std::collections::VecDeque;
 
 impl IoBuf {
     /// Seals the current buffer, which has something in it.
     pub(crate) fn seal(&mut self) -> Result<()>
         requires some { sealed_end self.old.written_len self.old.sealed.items < length self.old.bytes.items }
+        requires there { 0 < self.old.bytes.room }
+        ensures there { 0 < self.new.bytes.room }
         ensures sealed { OnOk result ((site : SegmentPosition) → view_at site self.new ≡ sealed_now (view_at site self.old)) }
         ensures unsealed { OnErr result ((site : SegmentPosition) → view_at site self.new ≡ view_at site self.old) }
         ensures err { IsOkUnless result Error.OutOfMemory }
@@ -33,7 +39,9 @@ impl IoBuf {
     pub(crate) fn push_sealed(&mut self)
         requires some { sealed_end self.old.written_len self.old.sealed.items < length self.old.bytes.items }
         requires room { deque_len self.old.sealed < deque_capacity self.old.sealed }
-        ensures { (site : SegmentPosition) → view_at site self.new ≡ sealed_now (view_at site self.old) }
+        requires there { 0 < self.old.bytes.room }
+        ensures there { 0 < self.new.bytes.room }
+        ensures sealed { (site : SegmentPosition) → view_at site self.new ≡ sealed_now (view_at site self.old) }
     {
         self.sealed.push_back_reserved(Sealed {
             end: self.bytes.len(),
@@ -50,7 +58,8 @@ impl IoBuf {
     pub(crate) fn mark_written(&mut self, k: usize)
         requires within { k < deque_len self.old.sealed }
         requires ready { (b : Sealed) → slice_get self.old.sealed.items k ≡ Some b → is_ready b ≡ true }
-        ensures { (site : SegmentPosition) → view_at site self.new ≡ written_now k (view_at site self.old) }
+        ensures there { 0 < self.new.bytes.room }
+        ensures written { (site : SegmentPosition) → view_at site self.new ≡ written_now k (view_at site self.old) }
     {
         note_written(&mut self.sealed, k);
         let (end, count) = take_run(&mut self.sealed, self.written_len);
@@ -58,6 +67,21 @@ impl IoBuf {
         self.written_len = end;
         self.gone += count;
         self.first -= count;
+    }
+
+    /// Gives its bytes to the pool, where all of a segment of this size is on the device.
+    pub(crate) fn retire(&mut self, alloc: Global, size: usize, pool: &mut SegmentPool)
+        requires short { length self.old.bytes.items ≤ size }
+        requires room { pool.old.room ≡ size + 32 }
+        requires there { 0 < self.old.bytes.room }
+        ensures same { (site : SegmentPosition) → view_at site self.new ≡ view_at site self.old }
+        ensures there { self.old.written_len < size → 0 < self.new.bytes.room }
+        ensures pooled { pool.new.count ≡ with_given (self.old.written_len == size) pool.old.count }
+        ensures room { pool.new.room ≡ pool.old.room }
+    {
+        if self.written_len == size {
+            pool.give(self.bytes.give_away(alloc));
+        }
     }
 
     /// Where a sealed buffer begins and ends.

@@ -14,9 +14,9 @@ use crate::iobuf::IoBuf;
 use sled_codec::result::{Error, Lsn, Result};
 use sled_codec::serialization::snapshot::Snapshot;
 use sled_codec::serialization::{Checksum, SegmentHeader};
-use sled_store::segment::SEG_HEADER_LEN;
 use sled_store::segment::accountant::SegmentAccountant;
 use sled_store::segment::start::{Beginning, beginning_at, place_at};
+use sled_store::segment::{MAX_MSG_HEADER_LEN, SEG_HEADER_LEN};
 use sled_store::{Device, RunningConfig};
 
 /// Where a log begins on the log file, from a snapshot: behind the stable place in the active segment, or else
@@ -97,12 +97,13 @@ fn first_buffer<D, C: Checksum>(config: &RunningConfig<D, C>, snapshot: &Snapsho
         IfErr result (RefusesBuffer config.now.config.segment_size (stable_place s.stable) s.active) }
 {
     let size = config.config.segment_size;
+    let room = size as usize + MAX_MSG_HEADER_LEN;
     if snapshot.active_segment.is_some() {
         let offset = snapshot.stable_place() % size;
         if offset < SEG_HEADER_LEN as u64 {
             return Err(Error::Corruption { at: None });
         }
-        return IoBuf::resumed(config.alloc(), offset as usize);
+        return IoBuf::resumed(config.alloc(), offset as usize, room);
     }
     let lsn = i64::try_from(place_at(size, snapshot)).unwrap_or(0);
     let header = SegmentHeader {
@@ -110,9 +111,5 @@ fn first_buffer<D, C: Checksum>(config: &RunningConfig<D, C>, snapshot: &Snapsho
         max_stable_lsn: lsn - 1,
         ok: true,
     };
-    IoBuf::new(
-        config.alloc(),
-        &header.to_bytes(&config.checksum),
-        size as usize,
-    )
+    IoBuf::new(config.alloc(), &header.to_bytes(&config.checksum), room)
 }

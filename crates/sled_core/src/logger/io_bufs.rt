@@ -31,7 +31,7 @@ pub(crate) struct IoBufs {
 
 impl IoBufs {
     ghost use Rattle.sled_core.specs.Begun.{line_in};
-    ghost use Rattle.sled_core.specs.inside.Begun.{open_segments};
+    ghost use Rattle.sled_core.specs.inside.Begun.{last_buffer_in, open_segments};
     ghost use Rattle.sled_core.specs.inside.Lending.{LendsSegment};
     ghost use Rattle.sled_core.specs.inside.Turned.{promoted};
 
@@ -103,7 +103,8 @@ impl IoBufs {
 
     /// Leaves out those at the front that are wholly on the device, as long as there is a further one.
     pub(crate) fn promote(&mut self, size: u64)
-        ensures { line_in self.new ≡ promoted size (line_in self.old) }
+        ensures line { line_in self.new ≡ promoted size (line_in self.old) }
+        ensures last { last_buffer_in self.new ≡ last_buffer_in self.old }
     {
         while self.first.buffer.written_len as u64 == size {
             match self.behind.pop_front() {

@@ -116,6 +116,7 @@ impl<D: Device, C: Checksum> Log<D, C> {
         ensures reserved { self.new.reserved_to ≡ (current_of self.old).parts.site.place + length (current_of self.old).parts.bytes + head.now.len + item_len }
         ensures rest { ChangesSlots self.old self.new }
         ensures accountant { self.new.accountant ≡ self.old.accountant }
+        ensures pool { self.new.pool ≡ self.old.pool }
     {
         let (site, buffer) = self.current();
         let at = buffer.bytes.len() as u64;
@@ -155,6 +156,7 @@ impl<D: Device, C: Checksum> Log<D, C> {
         ensures reserved { self.new.reserved_to ≡ to }
         ensures rest { ChangesSlots self.old self.new }
         ensures accountant { self.new.accountant ≡ self.old.accountant }
+        ensures pool { self.new.pool ≡ self.old.pool }
     {
         let checksum = &self.config.checksum;
         let manifest = is_manifest(purpose.log_kind, purpose.page);

@@ -1,26 +1,31 @@
 //! The segments of a log: the first one that isn't wholly on the device, and those that were begun behind it, of which the
 //! last one is being filled (`specs/Begun.antt`).
-ghost use Rattle.std.specs.Prelude.{◌≡◌, ◌+◌, ◌-◌, ◌*◌, ◌/◌, ◌<◌, ◌≤◌, ◌^◌, true, false, length, slice_get, OnOk, OnErr, IfOk, IsOkUnless, IsTrue, ◌↔◌, None, Some};
+ghost use Rattle.std.specs.Prelude.{ℕ, [], MatchOption, vec_capacity, ◌≡◌, ◌+◌, ◌-◌, ◌*◌, ◌/◌, ◌<◌, ◌≤◌, ◌^◌, true, false, length, pos, slice_get, OnOk, OnErr, IfOk, IsOkUnless, IsTrue, ◌↔◌, ◌-ℤ◌, None, Some};
 ghost use Rattle.std.specs.VecDeque.{deque_len, deque_capacity};
+ghost use Rattle.sled_codec.specs.Record.{short_header};
 ghost use Rattle.sled_store.specs.Accounts.{MayHandOut, NextAnswers};
 ghost use Rattle.sled_store.specs.SegmentStates.{Machine, handed_out};
 ghost use Rattle.sled_core.specs.inside.Begun.{last_buffer_in};
 ghost use Rattle.sled_core.specs.Begun.{view_at};
 ghost use Rattle.sled_core.specs.Causes.{FaultOrMemory};
 ghost use Rattle.sled_core.specs.inside.Fits.{AddsBuffers};
-ghost use Rattle.sled_core.specs.Fits.{IsUnchanged, IsUsedUp, KeepsAll, buffers_of, current_begin, current_of, line_of, machine_at, position_sealed, position_with, reserved_end, sealing_end, segment_size_of, stable_end, start_of, waiting_of};
+ghost use Rattle.sled_core.specs.Fits.{IsUnchanged, IsUsedUp, KeepsAll, buffers_of, current_begin, current_of, line_of, machine_at, pooled_of, position_sealed, position_with, reserved_end, sealing_end, segment_size_of, stable_end, start_of, waiting_of};
 ghost use Rattle.sled_core.specs.Keeps.{KeepsLog, start_sealed};
 ghost use Rattle.sled_core.specs.Marked.{BeginsMarked};
+ghost use Rattle.sled_core.specs.Pooled.{PoolsWith, begun_sealed};
 ghost use Rattle.sled_core.specs.Positions.{is_short};
-ghost use Rattle.sled_core.specs.inside.Turned.{CanClose, ChangesLine, ChangesSlots, HasRoomForBatch, HasRoomIn, IsBegunView, next_line};
+ghost use Rattle.sled_core.specs.inside.Turned.{CanClose, ChangesLine, ChangesSlots, HasRoomForBatch, HasRoomIn, next_line};
 ghost use Rattle.sled_core.specs.Waiting.{at_last, holds_any, sealed_now};
 
-use crate::iobuf::{IoBuf, SegmentPosition};
+use crate::iobuf::{IoBuf, Reserved, SegmentPosition, room_for_one};
 use crate::logger::Log;
+use crate::logger::pool::SegmentPool;
 use sled_codec::result::{Error, Lsn, Result};
 use sled_codec::serialization::{Checksum, SegmentHeader};
 use sled_store::segment::MAX_MSG_HEADER_LEN;
 use sled_store::{Config, Device};
+use std::alloc::Global;
+use std::collections::VecDeque;
 
 impl<D: Device, C: Checksum> Log<D, C> {
     /// The segment that is being filled.
@@ -28,6 +33,7 @@ impl<D: Device, C: Checksum> Log<D, C> {
     pub(crate) fn current(&self) -> (SegmentPosition, &IoBuf)
         ensures view { view_at result.0 result.1.now ≡ current_of self.now }
         ensures buffer { result.1.now ≡ last_buffer_in self.now.segments }
+        ensures there { 0 < result.1.now.bytes.room }
         ensures short { length result.1.now.bytes.items ≤ self.now.config.config.segment_size }
         ensures place_in_reach { result.0.place + self.now.config.config.segment_size < 2 ^ 63 }
         ensures slot_in_reach { result.0.slot + self.now.config.config.segment_size < 2 ^ 63 }
@@ -80,6 +86,7 @@ impl<D: Device, C: Checksum> Log<D, C> {
         ensures same { KeepsAll self.old self.new }
         ensures answers { FaultOrMemory result (IsUsedUp self.old) None }
         ensures err { OnErr result (IsUnchanged self.old self.new) }
+        ensures pooled { OnOk result (PoolsWith (begun_sealed self.old) self.old self.new) }
     {
         if self.is_short() {
             return self.begin_next(false);
@@ -104,8 +111,8 @@ impl<D: Device, C: Checksum> Log<D, C> {
     }
 
     /// Fills the current segment, which has more than its header, to its end, seals its buffer, and begins the next segment, in
-    /// the slot that the accountant hands out. What was reserved ends where it did. All memory is taken before anything is
-    /// changed, for a manifest that of its batch too.
+    /// the slot that the accountant hands out, and in bytes of the pool, where that has any. What was reserved ends where it did.
+    /// All memory is taken before anything is changed, for a manifest that of its batch too.
     pub(crate) fn begin_next(&mut self, manifest: bool) -> Result<()>
         requires used { 20 < length (current_of self.old).parts.bytes }
         ensures line { OnOk result (line_of self.new
@@ -115,6 +122,7 @@ impl<D: Device, C: Checksum> Log<D, C> {
         ensures reserved { reserved_end self.new ≡ reserved_end self.old }
         ensures room { OnOk result (HasRoomIn (last_buffer_in self.new.segments) (segment_size_of self.old - 20)) }
         ensures batch { OnOk result (manifest ≡ true → HasRoomForBatch self.new) }
+        ensures pooled { OnOk result (pooled_of self.new ≡ pooled_of self.old - 1) }
         ensures rest { ChangesSlots self.old self.new }
         ensures err { OnErr result (IsUnchanged self.old self.new) }
         ensures answers { NextAnswers result
@@ -126,12 +134,13 @@ impl<D: Device, C: Checksum> Log<D, C> {
         if !self.has_further(next) {
             return Err(Error::PlacesUsedUp);
         }
-        let buffer = self.next_buffer(next)?;
+        let parts = self.next_parts(next)?;
         self.room_to_close(manifest)?;
         let slot = self.accountant.next(&mut self.config, next as Lsn)?;
         let s = self.segments.last_mut();
         s.buffer.close(&self.config.checksum, &site, size as usize);
         self.ready.note_sealed(&site, &s.buffer);
+        let buffer = parts.into_buffer(&mut self.pool);
         self.segments
             .begin(SegmentPosition { place: next, slot }, buffer);
         Ok(())
@@ -146,24 +155,39 @@ impl<D: Device, C: Checksum> Log<D, C> {
         next < end && self.accountant.next_slot() * size < end
     }
 
-    /// The buffer of a further segment at this place: its header, whose mark is the last stable place.
-    fn next_buffer(&self, next: u64) -> Result<IoBuf>
+    /// What a further segment at this place begins with. Its bytes are new ones only where the pool has none.
+    fn next_parts(&self, next: u64) -> Result<NextParts>
         requires { next < 2 ^ 63 }
-        ensures view { (site : SegmentPosition) → site.place ≡ next → IfOk result (λ b. IsBegunView C.sum_of site (stable_end self.now) b) }
-        ensures room { IfOk result (λ b. HasRoomIn b (segment_size_of self.now - 20)) }
+        ensures header { IfOk result (λ p. p.header ≡ short_header C.sum_of (pos next) (pos (stable_end self.now) -ℤ pos 1)) }
+        ensures fresh { let pool = self.now.pool in
+            IfOk result (λ p. MatchOption p.fresh (0 < pool.count) (λ v. (pool.count ≡ 0) × (v.items ≡ []) × (pool.room ≤ vec_capacity v))) }
+        ensures none { IfOk result (λ p. p.reserved.items ≡ []) }
+        ensures place { IfOk result (λ p. 0 < deque_capacity p.reserved) }
         ensures memory { IsOkUnless result Error.OutOfMemory }
+    {
+        let alloc = self.config.alloc();
+        let header = self.next_header(next);
+        let fresh = self.pool.new_if_empty(alloc)?;
+        let reserved = room_for_one(alloc)?;
+        Ok(NextParts {
+            alloc,
+            header,
+            fresh,
+            reserved,
+        })
+    }
+
+    /// The header of a further segment at this place, whose mark is the last stable place.
+    fn next_header(&self, next: u64) -> [u8; 20]
+        requires { next < 2 ^ 63 }
+        ensures { result ≡ short_header C.sum_of (pos next) (pos (stable_end self.now) -ℤ pos 1) }
     {
         let header = SegmentHeader {
             lsn: next as Lsn,
             max_stable_lsn: self.stable_offset(),
             ok: true,
         };
-        let room = self.config.config.segment_size as usize + MAX_MSG_HEADER_LEN;
-        IoBuf::new(
-            self.config.alloc(),
-            &header.to_bytes(&self.config.checksum),
-            room,
-        )
+        header.to_bytes(&self.config.checksum)
     }
 
     /// Makes room for what fills the current segment, for the buffer that is sealed then, for one more segment, and for the batch of a manifest.
@@ -190,6 +214,44 @@ impl<D: Device, C: Checksum> Log<D, C> {
         ensures { result ≡ (place - self.now.segments.first.site.place) / segment_size_of self.now }
     {
         segments_in(place - self.segments.first.site.place, &self.config.config) as usize
+    }
+}
+
+/// What a further segment begins with, once its memory is taken.
+#[derive(Drop)]
+struct NextParts {
+    alloc: Global,
+    header: [u8; 20],
+    /// New bytes; `None` where the pool has some.
+    fresh: Option<Vec<u8>>,
+    reserved: VecDeque<Reserved>,
+}
+
+impl NextParts {
+    /// Makes the segment of them, in bytes of the pool where they have none of their own.
+    fn into_buffer(self, pool: &mut SegmentPool) -> IoBuf
+        requires fresh { MatchOption self.fresh (0 < pool.old.count) (λ v. (pool.old.count ≡ 0) × (v.items ≡ []) × (pool.old.room ≤ vec_capacity v)) }
+        requires roomy { 52 ≤ pool.old.room }
+        requires none { self.reserved.items ≡ [] }
+        requires place { 0 < deque_capacity self.reserved }
+        ensures bytes { result.bytes.items ≡ self.header }
+        ensures from { result.written_len ≡ 0 }
+        ensures reserved { result.reserved.items ≡ [] }
+        ensures sealed { result.sealed.items ≡ [] }
+        ensures gone { result.gone ≡ 0 }
+        ensures filled { result.filled ≡ None }
+        ensures there { pool.old.room ≤ result.bytes.room }
+        ensures room { (len : ℕ) → len + 52 ≤ pool.old.room → HasRoomIn result len }
+        ensures fewer { pool.new.count ≡ pool.old.count - 1 }
+        ensures same { pool.new.room ≡ pool.old.room }
+    {
+        let NextParts {
+            alloc,
+            header,
+            fresh,
+            reserved,
+        } = self;
+        IoBuf::begun(alloc, &header, pool.take(fresh), reserved)
     }
 }
 

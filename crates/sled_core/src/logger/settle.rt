@@ -10,6 +10,7 @@ ghost use Rattle.sled_core.specs.Fronts.{CameAround, WroteNone, WroteThenFailed}
 ghost use Rattle.sled_core.specs.Keeps.{KeepsWriting};
 ghost use Rattle.sled_core.specs.Ledger.{ledger_behind};
 ghost use Rattle.sled_core.specs.inside.Marked.{JoinsBelow, KeepsSegment};
+ghost use Rattle.sled_core.specs.Pooled.{PoolsSome, PoolsWith};
 ghost use Rattle.sled_core.specs.ReadBuffer.{IsUsedUpAt, IsWrittenPlace, SealsAround, WritesAround, held_at, settling};
 ghost use Rattle.sled_core.specs.inside.ReadBuffer.{SettleAnswers};
 ghost use Rattle.sled_core.specs.Stable.{IsNotReserved};
@@ -36,6 +37,7 @@ impl<D: Device, C: Checksum> Log<D, C> {
         ensures joined { JoinsBelow D.trace C.sum_of self.old self.new }
         ensures buffers { WritesAround C.sum_of result place self.old self.new
             × OnErr result (CameAround D.trace C.sum_of place self.old self.new) }
+        ensures pooled { PoolsSome self.old self.new }
     {
         if place < 0 {
             return Ok(());
@@ -62,6 +64,7 @@ impl<D: Device, C: Checksum> Log<D, C> {
         ensures joined { JoinsBelow D.trace C.sum_of self.old self.new }
         ensures buffers { WritesAround C.sum_of result (pos place) self.old self.new
             × OnErr result (CameAround D.trace C.sum_of (pos place) self.old self.new) }
+        ensures pooled { PoolsSome self.old self.new }
     {
         if place < self.synced_end() {
             return Ok(());
@@ -94,6 +97,7 @@ impl<D: Device, C: Checksum> Log<D, C> {
         ensures one { ((b : BufferAt) → Contains (waiting_of self.old) b → has_place place b ≡ true) → OnOk result (NoneSealed self.new) }
         ensures segment { KeepsSegment self.old self.new }
         ensures joined { JoinsBelow D.trace C.sum_of self.old self.new }
+        ensures pooled { PoolsWith 0 self.old self.new }
     {
         let n = self.segment_of(place);
         let (site, buffer) = self.segment(n);

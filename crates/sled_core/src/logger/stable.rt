@@ -12,6 +12,7 @@ ghost use Rattle.sled_core.specs.Fits.{IsUsedUpBelow, config_of, device_of, faul
 ghost use Rattle.sled_core.specs.Fronts.{CameTo, ClosedAt};
 ghost use Rattle.sled_core.specs.Keeps.{KeepsWriting, ConfigKept, WritesBelow};
 ghost use Rattle.sled_core.specs.Recoverable.{LeavesRecoverable, RecoverableIfOwn};
+ghost use Rattle.sled_core.specs.Pooled.{PoolsSome};
 ghost use Rattle.sled_core.specs.invariants.Running.{Fits};
 ghost use Rattle.sled_core.specs.Running.{end_below};
 ghost use Rattle.sled_core.specs.Stable.{held_for, stabilizing, stable_behind, target_for, IsNotReserved, SparesDevice, StableAnswers, CloseAnswers};
@@ -47,6 +48,7 @@ impl<D: Device, C: Checksum> Log<D, C> {
         ensures refused { IsNotReserved result → self.new ≡ self.old }
         ensures buffers { WritesBelow C.sum_of result (target_for self.old lsn) self.old self.new
             × OnErr result (IsNotReserved result ⊎ CameTo D.trace C.sum_of (target_for self.old lsn) self.old self.new) }
+        ensures pooled { PoolsSome self.old self.new }
     {
         if let Some(e) = self.fault.kept {
             return Err(Error::Io(e));

@@ -28,6 +28,7 @@ ghost use Rattle.sled_core.specs.inside.Marked.{JoinsBelow, KeepsSegment};
 ghost use Rattle.sled_core.specs.inside.OneWritten.{KeepsOne, WritesNone, WroteOne};
 ghost use Rattle.sled_core.specs.invariants.Running.{Fits};
 ghost use Rattle.sled_core.specs.Running.{end_below};
+ghost use Rattle.sled_core.specs.Pooled.{PoolsSome, PoolsWith, begun_rolled};
 ghost use Rattle.sled_core.specs.Stable.{SparesDevice, SyncsAll};
 ghost use Rattle.sled_core.specs.inside.Turned.{ChangesDevice, FreesSlots, IsReadyIn, mark_of, promoted, ready_below, write_in, writing_in, written_now};
 ghost use Rattle.sled_core.specs.Waiting.{BufferAt, holds_any, one_pending, unwritten, without_pending, write_pending};
@@ -72,6 +73,7 @@ impl<D: Device, C: Checksum> Log<D, C> {
             × (syncs (D.trace (device_of self.new)) ≡ syncs (D.trace (device_of self.old))) × (ledger_of self.new ≡ ledger_of self.old))
             ⊎ WroteThenFailed D.trace (one_pending i (waiting_of self.old)) (without_pending i (waiting_of self.old)) self.old self.new) }
         ensures refused { UnlessFault result (D.trace (device_of self.old)) (D.trace (device_of self.new)) }
+        ensures pooled { PoolsWith 0 self.old self.new }
     {
         if let Some(e) = self.fault.kept {
             return Err(Error::Io(e));
@@ -115,6 +117,7 @@ impl<D: Device, C: Checksum> Log<D, C> {
         ensures untouched { config_of self.new ≡ config_of self.old }
         ensures answers { FaultOrMemory result ((0 < held_len self.old) × IsUsedUp self.old) (fault_of self.old) }
         ensures err { OnErr result (IsUnchanged self.old self.new) }
+        ensures pooled { OnOk result (PoolsWith (begun_rolled self.old) self.old self.new) }
     {
         if let Some(e) = self.fault.kept {
             return Err(Error::Io(e));
@@ -158,6 +161,7 @@ impl<D: Device, C: Checksum> Log<D, C> {
         ensures spares { SparesDevice D.faults (flushing C.sum_of self.old) self.old self.new }
         ensures buffers { WritesBelow C.sum_of result (reserved_end self.old) self.old self.new
             × OnErr result (CameTo D.trace C.sum_of (reserved_end self.old) self.old self.new) }
+        ensures pooled { PoolsSome self.old self.new }
     {
         if let Some(kept) = self.fault.kept {
             return Err(Error::Io(kept));
@@ -190,6 +194,7 @@ impl<D: Device, C: Checksum> Log<D, C> {
         ensures idle { writing_below C.sum_of self.old to ≡ [] → D.faults (device_of self.new) ≡ D.faults (device_of self.old) }
         ensures buffers { WritesBelow C.sum_of result to self.old self.new }
         ensures came { OnErr result (CameTo D.trace C.sum_of to self.old self.new) }
+        ensures pooled { PoolsSome self.old self.new }
     {
         if self.current_begin() < to {
             self.seal()?;
@@ -214,6 +219,7 @@ impl<D: Device, C: Checksum> Log<D, C> {
         ensures above { OnOk result (LeavesAbove C.sum_of to self.old self.new) }
         ensures front { OnErr result (WroteFront D.trace C.sum_of to self.old self.new) }
         ensures idle { writing_below C.sum_of self.old to ≡ [] → D.faults (device_of self.new) ≡ D.faults (device_of self.old) }
+        ensures pooled { PoolsWith 0 self.old self.new }
     {
         while self.has_ready_below(to) {
             self.write_buffer(0, 0)?;
@@ -263,6 +269,7 @@ impl<D: Device, C: Checksum> Log<D, C> {
         ensures refused { UnlessFault result (D.trace (device_of self.old)) (D.trace (device_of self.new)) }
         ensures unwritten { OnErr result (WritesNone D.trace self.old self.new ⊎ WroteOne D.trace n k self.old self.new) }
         ensures joined { JoinsBelow D.trace C.sum_of self.old self.new }
+        ensures pooled { PoolsWith 0 self.old self.new }
     {
         self.write_one(n, k)?;
         self.free_segments()
@@ -288,13 +295,17 @@ impl<D: Device, C: Checksum> Log<D, C> {
         ensures refused { UnlessFault result (D.trace (device_of self.old)) (D.trace (device_of self.new)) }
         ensures unwritten { OnErr result (WroteNone D.trace self.old self.new) }
         ensures joined { JoinsBelow D.trace C.sum_of self.old self.new }
+        ensures pooled { PoolsWith 0 self.old self.new }
     {
         self.write_bytes(n, k)?;
         let mark = self.mark_of(n, k);
+        let size = self.config.config.segment_size;
         let s = self.segments.segment_mut(n);
         self.ready.note_written(&s.site, &s.buffer, k);
         s.buffer.mark_written(k);
-        self.segments.promote(self.config.config.segment_size);
+        s.buffer
+            .retire(self.config.alloc(), size as usize, &mut self.pool);
+        self.segments.promote(size);
         self.marks.note_mark(mark, self.pins > 0);
         Ok(())
     }
@@ -331,7 +342,11 @@ impl<D: Device, C: Checksum> Log<D, C> {
     {
         let s = self.segments.segment(n);
         let (from, to) = s.buffer.span(k);
-        mark_at(&self.config.checksum, from, &s.buffer.bytes[from..to])
+        mark_at(
+            &self.config.checksum,
+            from,
+            &s.buffer.bytes.as_slice()[from..to],
+        )
     }
 
     /// Writes the bytes of that buffer, and syncs them. It keeps a failure of the device.
@@ -350,7 +365,11 @@ impl<D: Device, C: Checksum> Log<D, C> {
         let s = self.segments.segment(n);
         let (from, to) = s.buffer.span(k);
         let at = s.site.slot + from as u64;
-        let written = write_out(&mut self.config.device, at, &s.buffer.bytes[from..to]);
+        let written = write_out(
+            &mut self.config.device,
+            at,
+            &s.buffer.bytes.as_slice()[from..to],
+        );
         if let Err(e) = written {
             return Err(self.fault.keep(e));
         }

@@ -18,4 +18,5 @@ returns c =
       gone = done.gone;
       filled = done.filled;
       long = done.long;
+      room = done.room;
     }

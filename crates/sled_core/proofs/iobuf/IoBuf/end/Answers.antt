@@ -1,5 +1,5 @@
 -- The reservation has ended, and the buffer that has it waits for one fewer: a sealed one, or the current one.
-use Rattle.std.proofs.Common.{◌≡◌, ◌∙◌, ◌+◌, ◌-◌, ◌≤◌, ◌<◌, ap, List, ℕ, max, rules, refl, drop, get_or, set, sym, length, arith, Some, subst, false}
+use Rattle.std.proofs.Common.{◌≡◌, ◌∙◌, ◌+◌, ◌-◌, ◌≤◌, ◌<◌, ap, List, ℕ, max, rules, refl, drop, get_or, set, sym, length, arith, Some, ◌∷◌, [], subst, false}
 use Rattle.std.specs.List.{slice_get, All}
 use Rattle.std.proofs.lemmas.List.{drop-set-add, drop-set-lt, length-set}
 use Rattle.std.proofs.lemmas.List.Elements.{All-set}
@@ -24,6 +24,11 @@ use Rattle.sled_core.proofs.iobuf.IoBuf.end.Goals as goal
 still : (P : Reserved → Type 0) (old new : List Reserved) (i : ℕ) (r : Reserved) (state : ReservationState) → slice_get old i ≡ Some r → new ≡ set old i (ended state r)
     → ((x : Reserved) → P x → P (ended state x)) → All P old → All P new
 still P old new i r state there set_is ends all = subst (λ (rs : List Reserved). All P rs) (sym set_is) (All-set P old i (ended state r) (ends r (at_there P old i r there all)) all)
+
+-- there is one where one has an index
+index_some : (rs : List Reserved) (i : ℕ) (r : Reserved) → slice_get rs i ≡ Some r → 0 < length rs
+index_some [] i r there = cc
+index_some (x ∷ xs) i r there = omega arith
 
 -- a state in which a reservation has ended isn't the one in which it is open
 not_open : (s : ReservationState) → open_state s ≡ false → s ≡ Open → ⊥
@@ -94,7 +99,7 @@ invariant_of-self c =
     let there : slice_get rs i ≡ Some r = there_is rs i r (search rules) c.index-r.ensures in
     let open_yet = c.requires.awaited r there in
     let new : c.close.new.reserved.items ≡ set rs i s = c.close.ensures r there in
-    let len : length c.args.self.now.bytes.items ≡ length c.put_ending.new.buf.items = sym c.put_ending.ensures.len in
+    let len : length c.args.self.now.bytes.items ≡ length c.put_ending.new.self.items = sym c.put_ending.ensures.len in
     let before = c.args.self.now.before in
     let theirs : i < first = c.if-index-self.true in
     let left : c.end_sealed.new.sealed.items ≡ one_ended i bs = c.end_sealed.ensures from i rs (has_open from rs bs i r there open_yet c.args.self.now.are (omega (arith, theirs, before)) c.args.self.now.headed) in
@@ -103,7 +108,7 @@ invariant_of-self c =
     record {
       begun = omega (arith, len);
       behind = (let le = c.args.self.now.behind in omega (arith, le, len));
-      within = still (λ x. x.from + x.len ≤ length c.put_ending.new.buf.items) rs _ i r c.args.state there new (λ x h. h) (subst (λ (n : ℕ). All (λ x. x.from + x.len ≤ n) rs) len c.args.self.now.within);
+      within = still (λ x. x.from + x.len ≤ length c.put_ending.new.self.items) rs _ i r c.args.state there new (λ x h. h) (subst (λ (n : ℕ). All (λ x. x.from + x.len ≤ n) rs) len c.args.self.now.within);
       headed = still IsHeaded rs _ i r c.args.state there new (λ x h. (h.0, (λ is. absurd (not_open c.args.state c.requires.ends is)), h.2)) c.args.self.now.headed;
       numbered = (let le = c.args.self.now.numbered in omega (arith, le, count, len));
       head = subst (λ (l : List Sealed). FirstUnwritten l) (sym left) (first_ended i bs c.args.self.now.head);
@@ -115,6 +120,11 @@ invariant_of-self c =
       chain = subst (λ n. IsChain (max 20 c.args.self.now.begin) (drop first c.close.new.reserved.items) n) len (subst (λ (l : List Reserved). IsChain (max 20 c.args.self.now.begin) l (length c.args.self.now.bytes.items)) (sym same) c.args.self.now.chain);
       counted = c.args.self.now.counted ∙ sym (ap open_in same);
       few = c.args.self.now.few;
+      laid = (let laid = c.args.self.now.laid in let room = c.put_ending.ensures.room in let some = index_some rs i r there in record {
+        small = (let small = laid.small in omega (arith, small, len));
+        roomy = λ more. (let roomy = laid.roomy (omega (arith, more, room)) in omega (arith, roomy, room, len));
+        there = λ more. (let is = laid.there (omega (arith, some)) in omega (arith, is, room));
+      });
     }
 
 pub invariant_of-self-else-index-self : goal.invariant_of-self-else-index-self
@@ -129,7 +139,7 @@ invariant_of-self-else-index-self c =
     let there : slice_get rs i ≡ Some r = there_is rs i r (search rules) c.index-r.ensures in
     let open_yet = c.requires.awaited r there in
     let new : c.close.new.reserved.items ≡ set rs i s = c.close.ensures r there in
-    let len : length c.args.self.now.bytes.items ≡ length c.put_ending.new.buf.items = sym c.put_ending.ensures.len in
+    let len : length c.args.self.now.bytes.items ≡ length c.put_ending.new.self.items = sym c.put_ending.ensures.len in
     let before = c.args.self.now.before in
     let behind : first ≤ i = c.if-index-self.false in
     let none : one_ended i bs ≡ bs = none_ended i bs (omega (arith, behind, before)) in
@@ -137,7 +147,7 @@ invariant_of-self-else-index-self c =
     record {
       begun = omega (arith, len);
       behind = (let le = c.args.self.now.behind in omega (arith, le, len));
-      within = still (λ x. x.from + x.len ≤ length c.put_ending.new.buf.items) rs _ i r c.args.state there new (λ x h. h) (subst (λ (n : ℕ). All (λ x. x.from + x.len ≤ n) rs) len c.args.self.now.within);
+      within = still (λ x. x.from + x.len ≤ length c.put_ending.new.self.items) rs _ i r c.args.state there new (λ x h. h) (subst (λ (n : ℕ). All (λ x. x.from + x.len ≤ n) rs) len c.args.self.now.within);
       headed = still IsHeaded rs _ i r c.args.state there new (λ x h. (h.0, (λ is. absurd (not_open c.args.state c.requires.ends is)), h.2)) c.args.self.now.headed;
       numbered = (let le = c.args.self.now.numbered in omega (arith, le, count, len));
       head = c.args.self.now.head;
@@ -151,6 +161,11 @@ invariant_of-self-else-index-self c =
           (chain_behind from rs bs i r there open_yet c.args.state c.requires.ends first behind (max 20 c.args.self.now.begin) (length c.args.self.now.bytes.items) c.args.self.now.chain));
       counted = (let one = ap (λ (f : Fields). f.writers) c.decr_writers-self.ensures in let counted = c.args.self.now.counted in let less = fewer_behind from rs bs i r there open_yet c.args.state c.requires.ends first behind in let is = ap (λ (l : List Reserved). open_in (drop first l)) new in omega (arith, one, counted, less, is));
       few = (let one = ap (λ (f : Fields). f.writers) c.decr_writers-self.ensures in let most = c.args.self.now.few in omega (arith, one, most));
+      laid = (let laid = c.args.self.now.laid in let room = c.put_ending.ensures.room in let some = index_some rs i r there in record {
+        small = (let small = laid.small in omega (arith, small, len));
+        roomy = λ more. (let roomy = laid.roomy (omega (arith, more, room)) in omega (arith, roomy, room, len));
+        there = λ more. (let is = laid.there (omega (arith, some)) in omega (arith, is, room));
+      });
     }
 
 -- what is written stands where the reservation begins
@@ -167,13 +182,14 @@ returns-then-index-self c =
     let theirs = c.if-index-self.true in
     let before = c.args.self.now.before in
     record {
-      bytes = λ r at. text_at c.args.self.now.bytes.items c.put_ending.new.buf.items its r rs c.args.index (ending c.args.sum c.args.kind) c.index-r.ensures at c.put_ending.ensures.bytes;
+      bytes = λ r at. text_at c.args.self.now.bytes.items c.put_ending.new.self.items its r rs c.args.index (ending c.args.sum c.args.kind) c.index-r.ensures at c.put_ending.ensures.bytes;
       reserved = c.close.ensures;
       sealed = c.end_sealed.ensures from c.args.index rs (has_open from rs bs c.args.index its there (c.requires.awaited its there) c.args.self.now.are (omega (arith, theirs, before)) c.args.self.now.headed);
       from = refl;
       gone = refl;
       filled = refl;
       long = c.put_ending.ensures.len;
+      room = c.put_ending.ensures.room;
     }
 
 pub returns-else-index-self : goal.returns-else-index-self
@@ -182,11 +198,12 @@ returns-else-index-self c =
     let behind = c.if-index-self.false in
     let before = c.args.self.now.before in
     record {
-      bytes = λ r at. text_at c.args.self.now.bytes.items c.put_ending.new.buf.items its r c.args.self.now.reserved.items c.args.index (ending c.args.sum c.args.kind) c.index-r.ensures at c.put_ending.ensures.bytes;
+      bytes = λ r at. text_at c.args.self.now.bytes.items c.put_ending.new.self.items its r c.args.self.now.reserved.items c.args.index (ending c.args.sum c.args.kind) c.index-r.ensures at c.put_ending.ensures.bytes;
       reserved = c.close.ensures;
       sealed = sym (none_ended c.args.index c.args.self.now.sealed.items (omega (arith, behind, before)));
       from = refl;
       gone = refl;
       filled = refl;
       long = c.put_ending.ensures.len;
+      room = c.put_ending.ensures.room;
     }

@@ -16,7 +16,8 @@ use Rattle.sled_core.proofs.iobuf.IoBuf.end_as.Goals as goal
 pub invariant_of-self : goal.invariant_of-self
 invariant_of-self g c =
     let old = c.args.self.now in
-    let len : length c.sum_around-sum.new.bytes.items ≡ length old.bytes.items = ap length c.sum_around-sum.ensures.bytes ∙ c.put.ensures.len in
+    let len : length c.sum_around-sum.new.self.items ≡ length old.bytes.items = ap length c.sum_around-sum.ensures.bytes ∙ c.put.ensures.len in
+    let room : c.sum_around-sum.new.self.room ≡ old.bytes.room = c.sum_around-sum.ensures.room ∙ c.put.ensures.room in
     let begun = old.begun in
     let behind = old.behind in
     let numbered = old.numbered in
@@ -34,6 +35,11 @@ invariant_of-self g c =
       chain = subst (IsChain (max 20 old.begin) (drop old.first old.reserved.items)) (sym len) old.chain;
       counted = old.counted;
       few = old.few;
+      laid = record {
+        small = (let small = old.laid.small in omega (arith, small, len));
+        roomy = λ more. (let roomy = old.laid.roomy (omega (arith, more, room)) in omega (arith, roomy, room, len));
+        there = λ some. (let is = old.laid.there some in omega (arith, is, room));
+      };
     }
 
 pub returns : goal.returns
@@ -49,11 +55,11 @@ returns g c =
           let headed = (at_there IsHeaded rs c.args.index r there c.args.self.now.headed).1 (c.requires.awaited r there) in
           let within = at_there (λ x. x.from + x.len ≤ length old) rs c.args.index r there c.args.self.now.within in
           let marked : List ℕ = written old (r.from + 4) (code ∷ []) in
-          let text : c.put.new.buf.items ≡ marked =
+          let text : c.put.new.self.items ≡ marked =
           c.put.ensures.bytes ∙ ap (λ b. written old (its.from + 4) (b ∷ [])) c.from.ensures ∙ ap (λ (x : Reserved). written old (x.from + 4) (code ∷ [])) same in
           let word : c.sum_around-sum.result ≡ g.C.Checksum.sum_of (body_in old r ++ code ∷ part old (r.from + 5) (r.header_len - 5)) =
           c.sum_around-sum.ensures.sum
-          ∙ ap (λ (x : Reserved). g.C.Checksum.sum_of (part c.put.new.buf.items (x.from + x.header_len) (x.len - x.header_len) ++ part c.put.new.buf.items (x.from + 4) (x.header_len - 4))) same
+          ∙ ap (λ (x : Reserved). g.C.Checksum.sum_of (part c.put.new.self.items (x.from + x.header_len) (x.len - x.header_len) ++ part c.put.new.self.items (x.from + 4) (x.header_len - 4))) same
           ∙ ap (λ (l : List ℕ). g.C.Checksum.sum_of (part l (r.from + r.header_len) (r.len - r.header_len) ++ part l (r.from + 4) (r.header_len - 4))) text
           ∙ ap g.C.Checksum.sum_of (summed_around old r code headed.0 headed.1 within) in
           done.bytes r there
@@ -65,5 +71,6 @@ returns g c =
       from = done.from;
       gone = done.gone;
       filled = done.filled;
+      room = done.room ∙ c.sum_around-sum.ensures.room ∙ c.put.ensures.room;
       long = done.long ∙ ap length c.sum_around-sum.ensures.bytes ∙ c.put.ensures.len;
     }

@@ -14,7 +14,8 @@ use Rattle.sled_core.proofs.iobuf.IoBuf.mark_batch.Goals as goal
 pub invariant_of-self : goal.invariant_of-self
 invariant_of-self g c =
     let old = c.args.self.now in
-    let len : length c.put.new.buf.items ≡ length old.bytes.items = c.put.ensures.len in
+    let len : length c.put.new.self.items ≡ length old.bytes.items = c.put.ensures.len in
+    let room : c.put.new.self.room ≡ old.bytes.room = c.put.ensures.room in
     let begun = old.begun in
     let behind = old.behind in
     let numbered = old.numbered in
@@ -32,6 +33,11 @@ invariant_of-self g c =
       chain = subst (IsChain (max 20 old.begin) (drop old.first old.reserved.items)) (sym len) old.chain;
       counted = old.counted;
       few = old.few;
+      laid = record {
+        small = (let small = old.laid.small in omega (arith, small, len));
+        roomy = λ more. (let roomy = old.laid.roomy (omega (arith, more, room)) in omega (arith, roomy, room, len));
+        there = λ some. (let is = old.laid.there some in omega (arith, is, room));
+      };
     }
 
 pub returns : goal.returns
@@ -47,7 +53,7 @@ returns g c =
           let headed = (at_there IsHeaded rs c.args.index r there c.args.self.now.headed).1 (c.requires.awaited r there) in
           let within = at_there (λ x. x.from + x.len ≤ length old) rs c.args.index r there c.args.self.now.within in
           let peg : c.to_le_bytes.result ≡ low = c.to_le_bytes.ensures in
-          let text : c.put.new.buf.items ≡ written old (r.from + r.header_len) low =
+          let text : c.put.new.self.items ≡ written old (r.from + r.header_len) low =
           c.put.ensures.bytes ∙ (λ i. written old ((same i).from + (same i).header_len) (peg i)) in
           done.bytes r there
           ∙ (λ i. written (text i) r.from (ending_as g.C.Checksum.sum_of (text i) r (same i).kind))
@@ -57,5 +63,6 @@ returns g c =
       from = done.from;
       gone = done.gone;
       filled = done.filled;
+      room = done.room ∙ c.put.ensures.room;
       long = done.long ∙ c.put.ensures.len;
     }

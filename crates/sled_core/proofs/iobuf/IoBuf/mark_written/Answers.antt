@@ -1,5 +1,5 @@
 -- Those at the front that are on the device now go, with their reservations; the others are as they were.
-use Rattle.std.proofs.Common.{◌≡◌, ◌∙◌, ◌+◌, ◌-◌, ◌≤◌, ◌<◌, ◌^◌, ap, sym, rules, arith, subst, ℕ, zero, suc, List, [], ◌∷◌, max, length, drop, length-drop, deque_len, vec_len, refl, Some}
+use Rattle.std.proofs.Common.{◌≡◌, ◌∙◌, ◌+◌, ◌-◌, ◌≤◌, ◌<◌, ◌^◌, ap, sym, rules, arith, subst, ℕ, zero, suc, List, [], ◌∷◌, max, length, drop, length-drop, deque_len, refl, Some}
 use Rattle.std.specs.List.{All, slice_get}
 use Rattle.std.proofs.lemmas.List.{drop-drop}
 use Rattle.std.proofs.lemmas.List.Elements.{All-drop}
@@ -39,9 +39,8 @@ overflow_add-self c =
     let less = few bs c.args.k c.args.self.now.first c.args.self.now.before in
     let within = c.args.self.now.parted in
     let numbered = c.args.self.now.numbered in
-    let long : length c.args.self.now.bytes.items ≡ vec_len c.args.self.now.bytes = search rules in
-    let small : vec_len c.args.self.now.bytes < 2 ^ 63 = search rules in
-    omega (arith, count, less, within, numbered, long, small)
+    let small = c.args.self.now.laid.small in
+    omega (arith, count, less, within, numbered, small)
 
 pub overflow_sub-self : goal.overflow_sub-self
 overflow_sub-self c =
@@ -84,10 +83,11 @@ invariant_of-self c =
       chain = subst (λ (l : List Reserved). IsChain (max 20 c.args.self.now.begin) l (length c.args.self.now.bytes.items)) (sym same) c.args.self.now.chain;
       counted = c.args.self.now.counted ∙ sym (ap open_in same);
       few = c.args.self.now.few;
+      laid = record { small = c.args.self.now.laid.small; roomy = c.args.self.now.laid.roomy; there = λ some. c.args.self.now.laid.there (omega (arith, lt)) };
     }
 
-pub returns : goal.returns
-returns c = λ site.
+pub returns-clause-written : goal.returns-clause-written
+returns-clause-written c = λ site.
     let old = c.args.self.now in
     let noted = c.note_written.ensures.items in
     let end = c.take_run-end.ensures.end ∙ ap (run_end old.written_len) noted in

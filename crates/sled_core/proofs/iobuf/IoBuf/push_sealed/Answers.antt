@@ -46,11 +46,12 @@ invariant_of-self c =
       parted = omega (arith, all);
       chain = subst (λ (l : List Reserved). IsChain (max 20 c.len-self.result) l n) (sym none) (let begun = c.args.self.now.begun in omega (arith, at, begun));
       counted = next_word c.args.self.now.word c.bump_salt-self.result c.bump_salt-self.ensures ∙ sym (ap open_in none);
+      laid = record { small = c.args.self.now.laid.small; roomy = c.args.self.now.laid.roomy; there = λ some. c.requires.there };
       few = let none = next_word c.args.self.now.word c.bump_salt-self.result c.bump_salt-self.ensures in omega (arith, none);
     }
 
-pub returns : goal.returns
-returns c = λ site.
+pub returns-clause-sealed : goal.returns-clause-sealed
+returns-clause-sealed c = λ site.
     let old = c.args.self.now in
     let rs : List Reserved = old.reserved.items in
     let n : ℕ = length old.bytes.items in

@@ -3,6 +3,7 @@ use Rattle.std.proofs.Common.{◌≡◌, ◌∙◌, ◌∷◌, ap, refl, sym, su
 use Rattle.std.specs.List.{Contains}
 use Rattle.sled_store.specs.Accounts.{machine_of}
 use Rattle.sled_store.proofs.Segments.Elements.{in_rest}
+use Rattle.sled_core.specs.Pool.{Pool}
 use Rattle.sled_core.specs.Fillings.{fillings_along}
 use Rattle.sled_core.specs.Heads.{heads_along}
 use Rattle.sled_core.specs.Begun.{SegmentView}
@@ -48,6 +49,7 @@ returns-in-Ok-clause-ends g c =
       heads = λ h there. subst (λ (l : List SegmentView). Contains (heads_along l) h) same (c.give_up.ensures.ends.heads h there);
       fillings = λ f there. subst (λ (l : List SegmentView). Contains (fillings_along l) f) same (c.give_up.ensures.ends.fillings f there);
       machine = c.give_up.ensures.ends.machine ∙ ap machine_of c.remove_own.ensures.changes.accountant;
+      pooled = c.give_up.ensures.ends.pooled ∙ ap (λ (x : Pool). x.count) c.remove_own.ensures.changes.pool;
     }
 
 pub returns-in-Err-clause-ends : goal.returns-in-Err-clause-ends
@@ -61,6 +63,7 @@ returns-in-Err-clause-ends g c =
       heads = λ h there. subst (λ (l : List SegmentView). Contains (heads_along l) h) same there;
       fillings = λ f there. subst (λ (l : List SegmentView). Contains (fillings_along l) f) same there;
       machine = ap machine_of c.remove_own.ensures.changes.accountant;
+      pooled = ap (λ (x : Pool). x.count) c.remove_own.ensures.changes.pool;
     }
 
 pub returns-in-Ok-clause-device : goal.returns-in-Ok-clause-device

@@ -1,5 +1,5 @@
 -- A reservation of one of the segments is aborted.
-use Rattle.std.proofs.Common.{◌-◌, ◌<◌, refl, set, subst, sym}
+use Rattle.std.proofs.Common.{◌-◌, ◌<◌, refl, set, subst, sym, arith}
 use Rattle.std.specs.List.{All}
 use Rattle.sled_core.specs.declared.iobuf.ReservationState.TheVariants.{Canceled}
 use Rattle.sled_core.specs.declared.logger.batches.NotedBatch.{NotedBatch}
@@ -11,6 +11,7 @@ use Rattle.sled_core.specs.inside.Turned.{HasOpenIn, ended_now}
 use Rattle.sled_core.proofs.Line.EndedIn.{cancels, has_ended, index_within, its_view, number_within, numbered, one_open}
 use Rattle.sled_core.proofs.Line.OpenManifests.{manifests_ended, some_counted}
 use Rattle.sled_core.proofs.Pending.EndsIn.{Ended, in_reach, indexed, own}
+use Rattle.sled_core.proofs.Line.Pooling.{kept_with}
 use Rattle.sled_core.proofs.logger.Log.abort_in.Goals as goal
 
 -- Where it is of a manifest, that was counted.
@@ -68,6 +69,8 @@ invariant_of-self g c =
         pegs = subst (All (λ (b : NotedBatch). b.peg < log.reserved_to)) (sym c.end_manifest.ensures.items) log.noted.pegs;
         counted = now.counted c.args.manifest c.end_manifest.new.self.manifests (c.requires.kind its.segment its.reserved its.among its.there) c.end_manifest.ensures.manifests;
       };
+      pooling = kept_with log c.args.n s (record { site = s.site; buffer = c.abort.new.self }) there
+          (λ some. let room = c.abort.ensures.room in omega (arith, some, room));
     }
 
 pub returns-clause-line : goal.returns-clause-line

@@ -1,5 +1,5 @@
 -- The last segment, which is being filled, is filled up, and one more is begun behind it.
-use Rattle.std.proofs.Common.{◌≡◌, ◌∙◌, ◌+◌, ◌-◌, ◌*◌, ◌<◌, ◌≤◌, ◌^◌, ◌-ℤ◌, sym, ap, refl, subst, arith, rules, ℕ, zero, suc, false, pos, List, [], ◌∷◌, ◌++◌, length, length-append, map, deque_len, Some}
+use Rattle.std.proofs.Common.{◌≡◌, ◌∙◌, ◌+◌, ◌-◌, ◌*◌, ◌<◌, ◌≤◌, ◌^◌, ◌-ℤ◌, sym, ap, refl, subst, arith, rules, ℕ, zero, suc, false, pos, List, [], ◌∷◌, ◌++◌, length, length-append, map, deque_len, vec_capacity, MatchOption, Some}
 use Rattle.std.specs.List.{slice_get}
 use Rattle.sled_core.specs.inside.Begun.{AreFilled, FollowOn, LieWithin, last_buffer, last_buffer_in, open_segments, with_nth}
 use Rattle.sled_core.specs.Begun.{SegmentView, begin_of, line_in, segment_view, view_at}
@@ -12,6 +12,7 @@ use Rattle.sled_core.specs.declared.logger.io_bufs.IoBufs.{IoBufs}
 use Rattle.sled_core.specs.declared.logger.io_bufs.SegmentBuffer.{SegmentBuffer}
 use Rattle.sled_core.specs.Fits.{current_of, line_of, machine_at, segment_size_of, stable_end}
 use Rattle.sled_core.specs.inside.OpenPlaces.{open_manifests}
+use Rattle.sled_core.specs.Pool.{Pool}
 use Rattle.sled_core.specs.inside.ReadyBuffers.{AreReady, HasOwn}
 use Rattle.sled_core.specs.inside.Turned.{CanClose, ChangesLine, HasRoomIn, IsBegunView, begun_view, next_line}
 use Rattle.sled_core.specs.Waiting.{at_last, closed_now, last_of}
@@ -212,17 +213,20 @@ module _ {D C : Type 0} (sum : List ℕ → ℕ) (old mid : Log D C) (line : lin
 
 -- Where it was refused, what is so where it was done isn't asked, and the log is as it was.
 
-pub returns-in_err-buffer-clause-line : goal.returns-in_err-buffer-clause-line
-returns-in_err-buffer-clause-line g c = refused _ c.from_residual.result _ c.from_residual.ensures.1
+pub returns-in_err-parts-clause-line : goal.returns-in_err-parts-clause-line
+returns-in_err-parts-clause-line g c = refused _ c.from_residual.result _ c.from_residual.ensures.1
 
-pub returns-in_err-buffer-clause-machine : goal.returns-in_err-buffer-clause-machine
-returns-in_err-buffer-clause-machine g c = refused _ c.from_residual.result _ c.from_residual.ensures.1
+pub returns-in_err-parts-clause-machine : goal.returns-in_err-parts-clause-machine
+returns-in_err-parts-clause-machine g c = refused _ c.from_residual.result _ c.from_residual.ensures.1
 
-pub returns-in_err-buffer-clause-room : goal.returns-in_err-buffer-clause-room
-returns-in_err-buffer-clause-room g c = refused _ c.from_residual.result _ c.from_residual.ensures.1
+pub returns-in_err-parts-clause-room : goal.returns-in_err-parts-clause-room
+returns-in_err-parts-clause-room g c = refused _ c.from_residual.result _ c.from_residual.ensures.1
 
-pub returns-in_err-buffer-clause-batch : goal.returns-in_err-buffer-clause-batch
-returns-in_err-buffer-clause-batch g c = refused _ c.from_residual.result _ c.from_residual.ensures.1
+pub returns-in_err-parts-clause-batch : goal.returns-in_err-parts-clause-batch
+returns-in_err-parts-clause-batch g c = refused _ c.from_residual.result _ c.from_residual.ensures.1
+
+pub returns-in_err-parts-clause-pooled : goal.returns-in_err-parts-clause-pooled
+returns-in_err-parts-clause-pooled g c = refused _ c.from_residual.result _ c.from_residual.ensures.1
 
 pub returns-in_err-room_to_close-clause-line : goal.returns-in_err-room_to_close-clause-line
 returns-in_err-room_to_close-clause-line g c = refused _ c.from_residual-in_err-room_to_close.result _ c.from_residual-in_err-room_to_close.ensures.1
@@ -235,6 +239,9 @@ returns-in_err-room_to_close-clause-reserved g c = c.in_err-room_to_close.ensure
 
 pub returns-in_err-room_to_close-clause-room : goal.returns-in_err-room_to_close-clause-room
 returns-in_err-room_to_close-clause-room g c = refused _ c.from_residual-in_err-room_to_close.result _ c.from_residual-in_err-room_to_close.ensures.1
+
+pub returns-in_err-room_to_close-clause-pooled : goal.returns-in_err-room_to_close-clause-pooled
+returns-in_err-room_to_close-clause-pooled g c = refused _ c.from_residual-in_err-room_to_close.result _ c.from_residual-in_err-room_to_close.ensures.1
 
 pub returns-in_err-room_to_close-clause-batch : goal.returns-in_err-room_to_close-clause-batch
 returns-in_err-room_to_close-clause-batch g c = refused _ c.from_residual-in_err-room_to_close.result _ c.from_residual-in_err-room_to_close.ensures.1
@@ -251,14 +258,17 @@ returns-in_err-slot-clause-reserved g c = c.in_ok-room_to_close.ensures.rest.res
 pub returns-in_err-slot-clause-room : goal.returns-in_err-slot-clause-room
 returns-in_err-slot-clause-room g c = refused _ c.from_residual-in_err-slot.result _ c.from_residual-in_err-slot.ensures.1
 
+pub returns-in_err-slot-clause-pooled : goal.returns-in_err-slot-clause-pooled
+returns-in_err-slot-clause-pooled g c = refused _ c.from_residual-in_err-slot.result _ c.from_residual-in_err-slot.ensures.1
+
 pub returns-in_err-slot-clause-batch : goal.returns-in_err-slot-clause-batch
 returns-in_err-slot-clause-batch g c = refused _ c.from_residual-in_err-slot.result _ c.from_residual-in_err-slot.ensures.1
 
-pub returns-in_err-buffer-clause-rest : goal.returns-in_err-buffer-clause-rest
-returns-in_err-buffer-clause-rest g c = record { config = refl; fault = refl; pins = refl; marks = refl; noted = refl }
+pub returns-in_err-parts-clause-rest : goal.returns-in_err-parts-clause-rest
+returns-in_err-parts-clause-rest g c = record { config = refl; fault = refl; pins = refl; marks = refl; noted = refl }
 
-pub returns-in_err-buffer-clause-err : goal.returns-in_err-buffer-clause-err
-returns-in_err-buffer-clause-err g c = all_err c.from_residual.result _ (unchanged_still c.args.self.now)
+pub returns-in_err-parts-clause-err : goal.returns-in_err-parts-clause-err
+returns-in_err-parts-clause-err g c = all_err c.from_residual.result _ (unchanged_still c.args.self.now)
 
 pub returns-in_err-room_to_close-clause-rest : goal.returns-in_err-room_to_close-clause-rest
 returns-in_err-room_to_close-clause-rest g c = let rest = c.in_err-room_to_close.ensures.rest in record { config = rest.config; fault = rest.fault; pins = rest.pins; marks = rest.marks; noted = rest.noted }
@@ -282,6 +292,7 @@ invariant_of-self g c =
         pegs = mid.noted.pegs;
         counted = mid.noted.counted;
       };
+      pooling = record { few = mid.pooling.few; room = (let room = mid.pooling.room in omega (arith, room, sizes)); there = mid.pooling.there };
     }
 
 -- What is left behind the closing, and the segment that is begun.
@@ -293,11 +304,44 @@ abbrev closed_then : (g : Over) (c : After-begin g) → IoBufs
 closed_then g c = with_nth (mid_of g c).segments (length (mid_of g c).segments.behind.items) (record { site = c.last_mut-s.result.now.site; buffer = c.close.new.self })
 
 abbrev next : (g : Over) (c : After-begin g) → SegmentBuffer
-next g c = record { site = record { place = c.current.result.0.place + segment_size_of c.args.self.now; slot = c.in_ok-slot.slot }; buffer = c.in_ok-buffer.buffer }
+next g c = record { site = record { place = c.current.result.0.place + segment_size_of c.args.self.now; slot = c.in_ok-slot.slot }; buffer = c.into_buffer-buffer.result }
 
 -- It begins where the one that was filled ends.
 next_at : (g : Over) (c : After-begin g) → (next g c).site.place ≡ (current_of c.args.self.now).parts.site.place + segment_size_of c.args.self.now
 next_at g c = ap (λ (v : SegmentView). v.parts.site.place + segment_size_of c.args.self.now) c.current.ensures.view
+
+-- It has its header alone.
+its_begun : (g : Over) (c : After-begin g) → IsBegunView g.C.Checksum.sum_of (next g c).site (stable_end c.args.self.now) c.into_buffer-buffer.result
+its_begun g c =
+    let did = c.into_buffer-buffer.ensures in
+    let header = c.in_ok-parts.ensures.header in
+    record {
+      view = λ i. record {
+        parts = record {
+          site = (next g c).site;
+          bytes = (did.bytes ∙ header) i;
+          written_len = did.from i;
+          filled = did.filled i;
+          sealed = did.sealed i;
+          reserved = did.reserved i;
+        };
+        gone = did.gone i;
+      };
+    }
+
+-- The pool is as it was until then: it has bytes, or new ones were taken.
+pub into_buffer-buffer-requires-clause-fresh : goal.into_buffer-buffer-requires-clause-fresh
+into_buffer-buffer-requires-clause-fresh g c =
+    subst (λ (p : Pool). MatchOption c.in_ok-parts.parts.fresh (0 < p.count) (λ v. (p.count ≡ 0) × (v.items ≡ []) × (p.room ≤ vec_capacity v)))
+    (sym c.in_ok-room_to_close.ensures.rest.pool)
+    c.in_ok-parts.ensures.fresh
+
+pub into_buffer-buffer-requires-clause-roomy : goal.into_buffer-buffer-requires-clause-roomy
+into_buffer-buffer-requires-clause-roomy g c =
+    let mid = c.room_to_close.new.self in
+    let room = mid.pooling.room in
+    let big = mid.config.config.least in
+    omega (arith, room, big)
 
 -- where the one lies that was filled, and what code made of it
 module _ {D C : Type 0} (sum : List ℕ → ℕ) (old mid : Log D C) (line : line_of mid ≡ line_of old) (rest : ChangesLine old mid) (site : SegmentPosition) (b new : IoBuf) where
@@ -363,7 +407,7 @@ invariant_of-self-2 g c =
     let line = c.in_ok-room_to_close.ensures.line in
     let rest = c.in_ok-room_to_close.ensures.rest in
     let slot = c.in_ok-slot.ensures.offset in
-    let begun = c.in_ok-buffer.ensures.view (next g c).site refl in
+    let begun = its_begun g c in
     let further : IoBufs = c.begin.new.self in
     let new_size : ℕ = c.next.new.config.config.segment_size in
     let new_sizes : new_size ≡ segment_size_of mid = ap (λ x. x.config.segment_size) c.next.ensures.config in
@@ -385,6 +429,14 @@ invariant_of-self-2 g c =
         pegs = mid.noted.pegs;
         counted = begun_counted sum old mid line rest (closed_then g c) (is_closed g c) (next g c) (next_at g c) slot begun further c.begin.ensures.first c.begin.ensures.behind;
       };
+      pooling = record {
+        few = (let few = mid.pooling.few in let fewer = c.into_buffer-buffer.ensures.fewer in omega (arith, few, fewer));
+        room = (let room = mid.pooling.room in let same = c.into_buffer-buffer.ensures.same in omega (arith, room, same, new_sizes));
+        there = subst (λ (b : IoBuf). 0 < b.bytes.room)
+            (sym (last_begun sum old mid line rest (closed_then g c) (is_closed g c) (next g c) (next_at g c) slot begun further
+            c.begin.ensures.first c.begin.ensures.behind))
+            (let room = mid.pooling.room in let there = c.into_buffer-buffer.ensures.there in omega (arith, room, there));
+      };
     }
 
 pub returns-clause-rest : goal.returns-clause-rest
@@ -399,7 +451,7 @@ pub returns-clause-line : goal.returns-clause-line
 returns-clause-line g c =
     let w = (goal.at.returns-clause-line g c).After-begin in
     next_is g.C.Checksum.sum_of c.args.self.now c.room_to_close.new.self c.in_ok-room_to_close.ensures.line c.in_ok-room_to_close.ensures.rest (closed_then g w) (is_closed g w) (next g w) (next_at g w)
-    c.in_ok-slot.ensures.offset (c.in_ok-buffer.ensures.view (next g w).site refl) c.begin.new.self c.begin.ensures.first c.begin.ensures.behind
+    c.in_ok-slot.ensures.offset (its_begun g w) c.begin.new.self c.begin.ensures.first c.begin.ensures.behind
 
 pub returns-clause-room : goal.returns-clause-room
 returns-clause-room g c =
@@ -407,7 +459,14 @@ returns-clause-room g c =
     let size = segment_size_of c.args.self.now in
     subst (λ (x : IoBuf). HasRoomIn x (size - 20))
     (sym (last_begun g.C.Checksum.sum_of c.args.self.now c.room_to_close.new.self c.in_ok-room_to_close.ensures.line c.in_ok-room_to_close.ensures.rest (closed_then g w) (is_closed g w) (next g w) (next_at g w)
-    c.in_ok-slot.ensures.offset (c.in_ok-buffer.ensures.view (next g w).site refl) c.begin.new.self c.begin.ensures.first c.begin.ensures.behind)) c.in_ok-buffer.ensures.room
+    c.in_ok-slot.ensures.offset (its_begun g w) c.begin.new.self c.begin.ensures.first c.begin.ensures.behind))
+    (let room = c.room_to_close.new.self.pooling.room in
+    let sizes = ap (λ (x : RunningConfig g.row.D.Denot g.row.C.Denot). x.config.segment_size) c.in_ok-room_to_close.ensures.rest.config in
+    let big = c.args.self.now.config.config.least in
+    c.into_buffer-buffer.ensures.room (size - 20) (omega (arith, room, sizes, big)))
+
+pub returns-clause-pooled : goal.returns-clause-pooled
+returns-clause-pooled g c = c.into_buffer-buffer.ensures.fewer ∙ ap (λ (p : Pool). p.count - 1) c.in_ok-room_to_close.ensures.rest.pool
 
 pub returns-clause-batch : goal.returns-clause-batch
 returns-clause-batch g c = λ is. let room = c.in_ok-room_to_close.ensures.batch is in record { place = room.place }

@@ -1,5 +1,5 @@
 -- A reservation of one of the segments is completed.
-use Rattle.std.proofs.Common.{false, refl}
+use Rattle.std.proofs.Common.{false, refl, arith}
 use Rattle.sled_core.specs.declared.iobuf.ReservationState.TheVariants.{Completed}
 use Rattle.sled_core.specs.declared.logger.io_bufs.SegmentBuffer.{SegmentBuffer}
 use Rattle.sled_core.specs.inside.Buffers.{completing}
@@ -7,6 +7,7 @@ use Rattle.sled_core.specs.Fits.{line_of}
 use Rattle.sled_core.specs.inside.Turned.{HasOpenIn}
 use Rattle.sled_core.proofs.Line.EndedIn.{completes, has_ended, index_within, its_view, number_within, numbered, one_open}
 use Rattle.sled_core.proofs.Pending.EndsIn.{Ended, in_reach, indexed, own}
+use Rattle.sled_core.proofs.Line.Pooling.{kept_with}
 use Rattle.sled_core.proofs.logger.Log.complete_in.Goals as goal
 
 -- Its segment has it, and it is open.
@@ -55,6 +56,8 @@ invariant_of-self g c =
         pegs = log.noted.pegs;
         counted = now.counted false log.batches.manifests (c.requires.message its.segment its.reserved its.among its.there) refl;
       };
+      pooling = kept_with log c.args.n s (record { site = s.site; buffer = c.complete.new.self }) there
+          (λ some. let room = c.complete.ensures.room in omega (arith, some, room));
     }
 
 pub returns-clause-line : goal.returns-clause-line

@@ -97,6 +97,7 @@ returns-clause-ends g c = record {
   heads = (seen g c).heads;
   fillings = (seen g c).fillings;
   machine = (seen g c).machine;
+  pooled = (seen g c).pooled;
 }
 
 pub returns-clause-goes_on : goal.returns-clause-goes_on

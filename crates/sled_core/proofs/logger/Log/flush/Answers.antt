@@ -1,8 +1,11 @@
 -- All that was reserved is written.
-use Rattle.std.proofs.Common.{◌≡◌, ◌∙◌, ◌≤◌, ap, ℕ, List, max, arith, refl, subst, sym}
+use Rattle.std.proofs.Common.{◌≡◌, ◌∙◌, ◌≤◌, ap, ℕ, List, max, arith, refl, subst, sym, Option, None, Err}
 use Rattle.sled_store.proofs.Traces.ScriptLemmas.{performs_nothing}
 use Rattle.std.proofs.lemmas.Result.{err_from_is_err_and}
-use Rattle.sled_codec.specs.declared.result.Error.TheVariants.{Io}
+use Rattle.sled_codec.specs.declared.result.Error.{Error}
+use Rattle.sled_codec.specs.declared.result.Error.TheVariants.{Held, Io, OutOfMemory, PlacesUsedUp}
+use Rattle.std.specs.declared.io.Error.{Error as IoError}
+use Rattle.sled_core.specs.Causes.{HeldAnswers}
 use Rattle.sled_core.specs.declared.logger.Log.{Log}
 use Rattle.sled_core.specs.Fits.{fault_of, ledger_for, machine_at, noted_in, reserved_end, segment_size_of, stable_end, synced_end}
 use Rattle.sled_core.specs.Freeing.{Ledger}
@@ -20,6 +23,7 @@ use Rattle.sled_core.proofs.Line.Shown.{fits_acknowledges}
 use Rattle.sled_core.proofs.Line.LineEnds.{stable_kept}
 use Rattle.sled_core.proofs.Line.NoneLeft.{all_stable, all_written}
 use Rattle.sled_core.proofs.Line.SealFirst.{still_came, writes_err, writes_none, writes_ok}
+use Rattle.sled_core.proofs.Line.Pools.{pools_some, pools_still}
 use Rattle.sled_core.proofs.logger.Log.flush.Given as given
 use Rattle.sled_core.proofs.logger.Log.flush.Goals as goal
 use Rattle.sled_core.proofs.Line.Outcomes.{no_fault}
@@ -117,3 +121,21 @@ overflow_sub-result g c = let up = grows g c in omega (arith, up, c.stable_end-b
 
 pub returns-clause-answer : goal.returns-clause-answer
 returns-clause-answer g c = let up = grows g c in omega (arith, up, c.stable_end-before.ensures.is, c.stable_end.ensures.is)
+
+pub returns-in-Some-clause-pooled : goal.returns-in-Some-clause-pooled
+returns-in-Some-clause-pooled g c = pools_some c.args.self.now c.args.self.now (pools_still c.args.self.now)
+
+-- Its answer is that of the writing, where the log kept no failure.
+
+held_again : (x : Error) (held : Option ℕ) (used : Type 0) (new : Option IoError) (before after : ℕ)
+    → HeldAnswers {T = Unit {0}} (Err x) held used None new before after → HeldAnswers {T = ℕ} (Err x) held used None new before after
+held_again (Held at) held used new before after is = is
+held_again PlacesUsedUp held used new before after is = is
+held_again OutOfMemory held used new before after is = is
+held_again (Io e) held used new before after is = is
+held_again _ held used new before after is = is
+
+pub returns-in_err-write_below-clause-answers : goal.returns-in_err-write_below-clause-answers
+returns-in_err-write_below-clause-answers g c =
+    let e = err_from_is_err_and c.from_residual.result c.from_residual.ensures.1 in
+    rw (e.1, e.2, c.in_default.is) (held_again c.in_err-write_below.field-0.0 _ _ _ _ _ c.in_err-write_below.ensures.answers)

@@ -101,7 +101,8 @@ returns-clause-keeps g c =
     let low = c.if-self-gt0.false in
     let is : old.marks.joined ≡ handed old.marks.joined = search rules in
     step_keeps trace g.C.Checksum.sum_of old _
-    (record { config = did.config; checksum = did.checksum; segments = refl; reserved = refl; pins = refl; marks = refl; batches = refl }) c.requires.fault
+    (record { config = did.config; checksum = did.checksum; segments = refl; reserved = refl; pins = refl; marks = refl; batches = refl; pool = refl })
+    c.requires.fault
     (omega (arith, low)) (subst (λ (z : ℤ). Performs (stabilized size z m).calls before now) (sym is) did.calls)
     (subst (λ (z : ℤ). MovesSlots size z c.stabilize-freed.result m new before now) (sym is) did.moves)
     (λ good.

@@ -23,6 +23,7 @@ use Rattle.sled_core.proofs.Line.NthOpen.{last_buffer_is, last_is, line_with_las
 use Rattle.sled_core.proofs.Line.OpenManifests.{manifests_reserved, more_counted}
 use Rattle.sled_core.proofs.Line.Reserves.{filled_reserved}
 use Rattle.sled_core.proofs.Pending.Segments.{at_last_same}
+use Rattle.sled_core.proofs.Line.Pooling.{kept_with}
 use Rattle.sled_core.proofs.logger.Log.lay_out.Given.{Over}
 use Rattle.sled_core.proofs.logger.Log.lay_out.Goals as goal
 
@@ -98,6 +99,7 @@ invariant_of-self g c =
         pegs = subst (All (λ (b : NotedBatch). b.peg < c.args.to)) (sym c.begin_manifest.ensures.items) (laid_pegs log c.args.to (c.args.head.now.len + c.args.item_len) c.requires.end);
         counted = laid_counted log (head ++ item) _ c.is_manifest-manifest.result c.begin_manifest.new.self.manifests _ line refl c.is_manifest-manifest.ensures c.begin_manifest.ensures.manifests;
       };
+      pooling = kept_with log (length log.segments.behind.items) s (record { site = s.site; buffer = new }) there (λ some. made.there);
     }
 
 pub returns-clause-rest : goal.returns-clause-rest

@@ -23,7 +23,7 @@ returns-clause-keeps g c =
     let q : ℤ = cast_signed w64 (cast_unsigned w64 c.args.place) in
     let is : q ≡ pos (next_place old) = to_z-of_z w64 c.args.place c.ranges.place ∙ c.requires.place in
     let kept = made_answers c.write_blob-answer.result ((state_of before).blobs.file q) c.note.new.self.kept (g.D.Device.faults old.config.device) (g.D.Device.faults c.write_blob-answer.new.config.device) c.note.ensures did.answers in
-    made_blob_keeps trace g.C.Checksum.sum_of old _ (record { config = did.config; checksum = did.checksum; segments = refl; reserved = refl; pins = refl; marks = refl; accountant = refl; batches = refl }) bytes
+    made_blob_keeps trace g.C.Checksum.sum_of old _ (record { config = did.config; checksum = did.checksum; segments = refl; reserved = refl; pins = refl; marks = refl; accountant = refl; batches = refl; pool = refl }) bytes
     (subst (λ (p : ℤ). Performs (making p bytes) before after) is did.calls) c.requires.fault (none_or_kept _ c.note.new.self.kept c.requires.fault)
     (subst (λ (p : ℤ). IsMadeOrSame c.note.new.self.kept before after p bytes) is
     (made_or_same c.write_blob-answer.result q bytes ((state_of before).blobs.file q) c.note.new.self.kept (g.D.Device.faults old.config.device) (g.D.Device.faults c.write_blob-answer.new.config.device) before after kept did.refused did.done))

@@ -20,6 +20,7 @@ use Rattle.sled_core.proofs.Line.Shown.{fits_acknowledges}
 use Rattle.sled_core.proofs.Line.LineEnds.{stable_kept, stable_reached}
 use Rattle.sled_core.proofs.Line.SealFirst.{still_came, unused_already, writes_already, writes_err, writes_none, writes_ok}
 use Rattle.sled_core.proofs.Line.Places.{above_read, behind_read, behind_stable, done_as, held_up, holds_none, inside_read, reserved_in_reach, stable_answers, wrote_for}
+use Rattle.sled_core.proofs.Line.Pools.{pools_some, pools_still}
 use Rattle.sled_core.proofs.logger.Log.make_stable.Given as given
 use Rattle.sled_core.proofs.logger.Log.make_stable.Goals as goal
 use Rattle.sled_core.proofs.Line.Outcomes.{no_fault}
@@ -237,3 +238,12 @@ returns-then-lsn-stable_offset-clause-spares g c = record { faulty = λ e is. re
 
 pub returns-then-lsn-self-clause-spares : goal.returns-then-lsn-self-clause-spares
 returns-then-lsn-self-clause-spares g c = record { faulty = λ e is. refl; idle = λ none. refl }
+
+pub returns-in-Some-clause-pooled : goal.returns-in-Some-clause-pooled
+returns-in-Some-clause-pooled g c = pools_some c.args.self.now c.args.self.now (pools_still c.args.self.now)
+
+pub returns-then-lsn-stable_offset-clause-pooled : goal.returns-then-lsn-stable_offset-clause-pooled
+returns-then-lsn-stable_offset-clause-pooled g c = pools_some c.args.self.now c.args.self.now (pools_still c.args.self.now)
+
+pub returns-then-lsn-self-clause-pooled : goal.returns-then-lsn-self-clause-pooled
+returns-then-lsn-self-clause-pooled g c = pools_some c.args.self.now c.args.self.now (pools_still c.args.self.now)

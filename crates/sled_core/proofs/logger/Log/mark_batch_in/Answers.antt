@@ -1,5 +1,5 @@
 -- The manifest of a batch has ended, in one of the segments.
-use Rattle.std.proofs.Common.{◌≡◌, ◌+◌, ◌-◌, ◌<◌, refl, set, subst, sym, true}
+use Rattle.std.proofs.Common.{◌≡◌, ◌+◌, ◌-◌, ◌<◌, refl, set, subst, sym, true, arith}
 use Rattle.std.specs.List.{All}
 use Rattle.sled_core.specs.declared.iobuf.ReservationState.TheVariants.{Manifest}
 use Rattle.sled_core.specs.declared.iobuf.Reserved.{Reserved}
@@ -12,6 +12,7 @@ use Rattle.sled_core.specs.inside.Turned.{HasOpenIn, ended_now}
 use Rattle.sled_core.proofs.Line.EndedIn.{has_ended, index_within, its_view, marks, number_within, numbered, one_is, one_open}
 use Rattle.sled_core.proofs.Line.OpenManifests.{manifests_ended, some_counted}
 use Rattle.sled_core.proofs.Pending.EndsIn.{Ended, in_reach, indexed, own}
+use Rattle.sled_core.proofs.Line.Pooling.{kept_with}
 use Rattle.sled_core.proofs.logger.Log.mark_batch_in.Goals as goal
 
 -- It was counted.
@@ -76,6 +77,8 @@ invariant_of-self g c =
         pegs = subst (All (λ (b : NotedBatch). b.peg < log.reserved_to)) (sym c.end_manifest.ensures.items) log.noted.pegs;
         counted = now.counted true c.end_manifest.new.self.manifests (c.requires.kind its.segment its.reserved its.among its.there) c.end_manifest.ensures.manifests;
       };
+      pooling = kept_with log c.args.n s (record { site = s.site; buffer = c.mark_batch.new.self }) there
+          (λ some. let room = c.mark_batch.ensures.room in omega (arith, some, room));
     }
 
 pub returns-clause-line : goal.returns-clause-line

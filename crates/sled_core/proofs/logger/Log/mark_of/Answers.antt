@@ -15,6 +15,7 @@ use Rattle.sled_core.proofs.Line.NthOpen.{nth_there}
 use Rattle.sled_core.proofs.Reserve.Ranges.{chain_grows}
 use Rattle.sled_core.proofs.Sealed.Around.{sealed_at}
 use Rattle.sled_core.proofs.Sealed.Slices.{end_to, slice_between}
+use Rattle.sled_core.proofs.Line.Pooling.{ready_there}
 use Rattle.sled_core.proofs.logger.Log.mark_of.Goals as goal
 
 -- the buffer ends behind the header
@@ -27,14 +28,17 @@ ends_behind log n k r v among =
     let end = end_to r.segment.parts.written_len r.segment.parts.sealed k r.buffer r.there in
     subst (λ (w : SegmentView). 20 ≤ sealed_end w.parts.written_len (take (k + 1) w.parts.sealed)) same (omega (arith, up, end))
 
+pub as_slice-requires : goal.as_slice-requires
+as_slice-requires g c = ready_there c.args.self.now c.args.n c.args.k c.requires.ready c.segment-s.result.now c.segment-s.ensures
+
 pub mark_at-requires : goal.mark_at-requires
 mark_at-requires g c = λ none.
     let site = c.segment-s.result.now.site in
     let b = c.segment-s.result.now.buffer in
     let long = ends_behind c.args.self.now c.args.n c.args.k c.requires.ready (view_at site b) (nth_there c.args.self.now c.args.n c.segment-s.result.now c.segment-s.ensures) in
     let end = c.span-from.ensures.to in
-    let bytes = ap length c.deref.ensures.value in
-    omega (arith, none, long, end, bytes, c.span-from.ensures.rises, c.span-from.ensures.inside, length-take (c.span-from.result.1 - c.span-from.result.0) (drop c.span-from.result.0 c.deref.result.now))
+    let bytes = ap length c.as_slice.ensures.value in
+    omega (arith, none, long, end, bytes, c.span-from.ensures.rises, c.span-from.ensures.inside, length-take (c.span-from.result.1 - c.span-from.result.0) (drop c.span-from.result.0 c.as_slice.result.now))
 
 -- Its mark is that of its bytes.
 mark_is : (k : ℕ) (site : SegmentPosition) (b : IoBuf) (from to : ℕ) (whole : List ℕ) → from ≡ sealed_end b.written_len (take k b.sealed.items) → to ≡ sealed_end b.written_len (take (k + 1) b.sealed.items)
@@ -48,5 +52,5 @@ returns g c = λ v among.
     let b = c.segment-s.result.now.buffer in
     let same : view_at site b ≡ v = (let both : Some (view_at site b) ≡ Some v = sym (nth_there c.args.self.now c.args.n c.segment-s.result.now c.segment-s.ensures) ∙ among in cc) in
     c.mark_at.ensures
-    ∙ mark_is c.args.k site b c.span-from.result.0 c.span-from.result.1 c.deref.result.now c.span-from.ensures.from c.span-from.ensures.to c.span-from.ensures.rises c.deref.ensures.value
+    ∙ mark_is c.args.k site b c.span-from.result.0 c.span-from.result.1 c.as_slice.result.now c.span-from.ensures.from c.span-from.ensures.to c.span-from.ensures.rises c.as_slice.ensures.value
     ∙ ap (mark_of c.args.k) same

@@ -51,6 +51,7 @@ returns-clause-ends g c = record {
   heads = c.end_batch.ensures.ends.heads;
   fillings = c.end_batch.ensures.ends.fillings;
   machine = c.end_batch.ensures.ends.machine;
+  pooled = c.end_batch.ensures.ends.pooled;
 }
 
 pub returns-clause-answers : goal.returns-clause-answers

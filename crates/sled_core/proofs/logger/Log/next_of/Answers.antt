@@ -37,6 +37,7 @@ returns-clause-log g c =
         heads = λ h there. there;
         fillings = λ f there. there;
         machine = refl;
+        pooled = refl;
         account = refl;
       };
       fault = c.note_item.ensures;

@@ -51,6 +51,7 @@ invariant_of-self g c =
         pegs = c.put_in.ensures.pegs log.reserved_to c.requires.within (c.drop_whole.ensures.pegs log.reserved_to log.noted.pegs);
         counted = log.noted.counted ∙ sym (c.put_in.ensures.manifests ∙ c.drop_whole.ensures.manifests);
       };
+      pooling = record { few = log.pooling.few; room = log.pooling.room; there = log.pooling.there };
     }
 
 pub returns-clause-noted : goal.returns-clause-noted

@@ -99,7 +99,7 @@ returns-clause-prepared g c =
     let did = c.in_ok-begin_next.ensures in
     let long : head.len + n ≡ record_size (number_of old) kept.page n = head_size head kept n (number_of old) (record { bytes = c.fill_head.ensures.bytes; len = c.fill_head.ensures.len }) in
     prepared_next g.D.Device.trace g.C.Checksum.sum_of old kept n c.requires (head.len + n) long (λ has. let bad : false ≡ true = c.if-has_place.ensures.1 has in cc) c.begin_next.new.self c.fill_head-2.new.head
-    (record { bytes = c.fill_head-2.ensures.bytes; len = c.fill_head-2.ensures.len }) did.line did.machine did.rest did.reserved did.room (λ is. did.batch (c.is_manifest-manifest.ensures ∙ is))
+    (record { bytes = c.fill_head-2.ensures.bytes; len = c.fill_head-2.ensures.len }) did.line did.machine did.pooled did.rest did.reserved did.room (λ is. did.batch (c.is_manifest-manifest.ensures ∙ is))
 
 pub returns-clause-answers : goal.returns-clause-answers
 returns-clause-answers g c =

@@ -45,6 +45,7 @@ use Rattle.sled_core.proofs.Read.GivesLemmas.{gives}
 use Rattle.sled_core.proofs.Read.PathLemmas.{stands_readable}
 use Rattle.sled_core.proofs.Read.PointerLemmas.{damage_at, damage_inline, if_err, read_here, reads_inline}
 use Rattle.sled_core.proofs.Read.ReadingLemmas.{if_ok}
+use Rattle.sled_core.proofs.Line.Pools.{pools_same, pools_some, pools_some_further, pools_still}
 use Rattle.sled_core.proofs.logger.Log.read.Given as given
 use Rattle.sled_core.proofs.logger.Log.read.Goals.{Joined-then-lsn-lt0, then-lsn-lt0-via-then-lsn-lt0, then-lsn-lt0-via-else-lsn-lt0+then-not-may_begin}
 use Rattle.sled_core.proofs.logger.Log.read.Goals as goal
@@ -405,3 +406,16 @@ returns-clause-answers g c =
     subst (λ (t : Trace). is old.fault.kept t (g.D.Device.faults old.config.device)) (sym c.read_settled.ensures.trace)
     (subst (λ n. is old.fault.kept (g.D.Device.trace mid.config.device) n) settled.1.4
     (subst (λ (o : Option IoError). is o (g.D.Device.trace mid.config.device) (g.D.Device.faults mid.config.device)) (sym c.in_default.is) answers))
+
+pub returns-in-Some-clause-pooled : goal.returns-in-Some-clause-pooled
+returns-in-Some-clause-pooled g c = pools_some c.args.self.now c.args.self.now (pools_still c.args.self.now)
+
+pub returns-then-lsn-lt0-clause-pooled : goal.returns-then-lsn-lt0-clause-pooled
+returns-then-lsn-lt0-clause-pooled g c = pools_some c.args.self.now c.args.self.now (pools_still c.args.self.now)
+
+pub returns-clause-pooled : goal.returns-clause-pooled
+returns-clause-pooled g c =
+    let mid = c.settle_at.new.self in
+    let new = c.read_settled.new.self in
+    let did = c.read_settled.ensures in
+    pools_some_further c.args.self.now mid new c.settle_at.ensures.pooled (pools_same mid new did.line did.pool did.keeps.position.size)

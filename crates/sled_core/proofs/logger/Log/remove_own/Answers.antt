@@ -35,7 +35,7 @@ returns-clause-keeps g c =
     let after : Trace = trace c.remove_blob-answer.new.config.device in
     let q : ℤ = cast_signed w64 (cast_unsigned w64 c.in-Some.place) in
     let is : c.in-Some.place ≡ q = search rules in
-    removed_blob_keeps trace sum old _ (record { config = did.config; checksum = did.checksum; segments = refl; reserved = refl; pins = refl; marks = refl; accountant = refl; batches = refl }) c.in-Some.place
+    removed_blob_keeps trace sum old _ (record { config = did.config; checksum = did.checksum; segments = refl; reserved = refl; pins = refl; marks = refl; accountant = refl; batches = refl; pool = refl }) c.in-Some.place
     (subst (λ (p : ℤ). Performs (removing_blobs (p ∷ [])) before after) (sym is) did.calls) c.requires (none_or_kept _ c.note.new.self.kept c.requires)
     (λ none. subst (λ (p : ℤ). after ≡ BlobRemoved p true ∷ before) (sym is) (removed_whole c.remove_blob-answer.result _ _ _ did.answers did.memory did.done (sym c.note.ensures ∙ none)))
     c.args.own c.in-Some.is

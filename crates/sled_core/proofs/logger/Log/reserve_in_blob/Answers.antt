@@ -97,6 +97,7 @@ returns-in-Ok-make_blob g c =
       line = laid.line;
       rest = laid.rest;
       accountant = laid.accountant;
+      pool = laid.pool;
       ends = omega (arith, ends);
       own = record { index = laid.ticket.index; place = laid.ticket.place; pointer = laid.ticket.pointer; long = laid.ticket.long };
       manifest = laid.manifest;

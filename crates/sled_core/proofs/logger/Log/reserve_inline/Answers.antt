@@ -69,6 +69,7 @@ returns-in-Ok g c =
       line = laid.line ∙ ap (λ n. at_last (reserved_now (placeholder_head (text_of head) ++ item) (reserved_for kept (length (current_of mid).parts.bytes) head.len n (g.C.Checksum.sum_of (item ++ drop 4 (text_of head))))) (line_of mid)) counted;
       rest = laid.rest;
       accountant = laid.accountant;
+      pool = laid.pool;
       ends = omega (arith, ends, counted);
       own = subst (λ n. IsTicketFor mid c.append.result None (head.len + n)) counted laid.ticket;
       manifest = laid.manifest;

@@ -65,6 +65,7 @@ its_laid g c =
       line = c.append.ensures.line;
       rest = c.append.ensures.rest;
       accountant = c.append.ensures.accountant;
+      pool = c.append.ensures.pool;
       ends = omega (arith, end);
       own = c.append.ensures.ticket;
       manifest = c.append.ensures.manifest;

@@ -1,5 +1,5 @@
 -- Where the current buffer holds nothing, nothing is done.
-use Rattle.std.proofs.Common.{◌≡◌, ◌<◌, ◌-◌, ◌∙◌, ap, sym, arith, rules, length, if◌then◌else◌, Bool, true, false, List, ℕ, Err, None, Option, Some}
+use Rattle.std.proofs.Common.{◌≡◌, ◌<◌, ◌-◌, ◌∙◌, ap, sym, arith, rules, length, if◌then◌else◌, Bool, true, false, List, ℕ, Err, None, Option, Some, subst}
 use Rattle.std.specs.declared.io.Error.{Error as IoError}
 use Rattle.std.proofs.lemmas.Bool.Decides.{nat_tests}
 use Rattle.std.proofs.lemmas.Result.{err_from_is_err_and}
@@ -20,6 +20,8 @@ use Rattle.sled_core.proofs.Holds.Facts.{current_facts}
 use Rattle.sled_core.proofs.Line.KeptCalls.{log_still}
 use Rattle.sled_core.proofs.Line.SealFirst.{sealed_ledger}
 use Rattle.sled_core.proofs.Line.Shows.{buffers_still}
+use Rattle.sled_core.specs.Pooled.{PoolsWith, begun_sealed}
+use Rattle.sled_core.proofs.Line.Pools.{pools_still}
 use Rattle.sled_core.proofs.logger.Log.roll_iobuf.Goals as goal
 
 pub returns-in-Some-clause-keeps : goal.returns-in-Some-clause-keeps
@@ -95,3 +97,24 @@ returns-clause-status g c =
     let more : 0 < held_len c.args.self.now = omega (arith, count, some, held) in
     let did = c.in_ok-seal.ensures in
     one_rolled g.C.Checksum.sum_of c.args.self.now c.seal.new.self (grind (arith, nat_tests, more)) did.waiting did.start did.position did.keeps.position did.same
+
+-- Where nothing is sealed no segment is begun.
+
+pub returns-then-held-eq0-clause-pooled : goal.returns-then-held-eq0-clause-pooled
+returns-then-held-eq0-clause-pooled g c =
+    let log = c.args.self.now in
+    let count : c.len.result ≡ length c.current.result.1.now.bytes.items = search rules in
+    let empty = c.if-held-eq0.true in
+    let held = held_is log c.current.result.0 c.current.result.1.now c.current.ensures.view in
+    let begins = (current_facts log).begins in
+    let none : holds_any (current_of log) ≡ false = grind (arith, nat_tests, count, empty, held, begins) in
+    subst (λ n. PoolsWith n log log) (sym (ap (λ (o : Bool). if o then begun_sealed log else 0) none)) (pools_still log)
+
+pub returns-clause-pooled : goal.returns-clause-pooled
+returns-clause-pooled g c =
+    let old = c.args.self.now in
+    let count : c.len.result ≡ length c.current.result.1.now.bytes.items = search rules in
+    let some = c.if-held-eq0.false in
+    let held = held_is old c.current.result.0 c.current.result.1.now c.current.ensures.view in
+    let any : holds_any (current_of old) ≡ true = grind (arith, nat_tests, count, some, held) in
+    subst (λ n. PoolsWith n old c.seal.new.self) (sym (ap (λ (o : Bool). if o then begun_sealed old else 0) any)) c.in_ok-seal.ensures.pooled

@@ -19,6 +19,7 @@ use Rattle.sled_core.proofs.Line.NthOpen.{last_buffer_is, last_buffer_with, line
 use Rattle.sled_core.proofs.Line.Outcomes.{on_both, refused}
 use Rattle.sled_core.proofs.Reserve.OpenCounts.{first_there}
 use Rattle.sled_core.proofs.Pending.Segments.{still_ready}
+use Rattle.sled_core.proofs.Line.Pooling.{kept_with, there_last}
 use Rattle.sled_core.proofs.logger.Log.room_for.Goals as goal
 
 -- As many are open as may be, of which there is a first one.
@@ -54,13 +55,14 @@ invariant_of-self g c =
         pegs = subst (All (λ (b : NotedBatch). b.peg < log.reserved_to)) (sym c.make_room_for.ensures.items) log.noted.pegs;
         counted = log.noted.counted ∙ sym c.make_room_for.ensures.manifests;
       };
+      pooling = record { few = log.pooling.few; room = log.pooling.room; there = log.pooling.there };
     }
 
 pub returns-then-is_full_of_open-clause-line : goal.returns-then-is_full_of_open-clause-line
 returns-then-is_full_of_open-clause-line g c = refl
 
 pub returns-then-is_full_of_open-clause-rest : goal.returns-then-is_full_of_open-clause-rest
-returns-then-is_full_of_open-clause-rest g c = record { config = refl; reserved = refl; fault = refl; pins = refl; marks = refl; accountant = refl; noted = refl }
+returns-then-is_full_of_open-clause-rest g c = record { config = refl; reserved = refl; fault = refl; pins = refl; marks = refl; accountant = refl; noted = refl; pool = refl }
 
 pub returns-in_err-make_room_for-clause-line : goal.returns-in_err-make_room_for-clause-line
 returns-in_err-make_room_for-clause-line g c = refl
@@ -72,10 +74,15 @@ pub returns-in_err-make_room_for-clause-batch : goal.returns-in_err-make_room_fo
 returns-in_err-make_room_for-clause-batch g c = refused _ c.from_residual.result _ c.from_residual.ensures.1
 
 pub returns-in_err-make_room_for-clause-rest : goal.returns-in_err-make_room_for-clause-rest
-returns-in_err-make_room_for-clause-rest g c = record { config = refl; reserved = refl; fault = refl; pins = refl; marks = refl; accountant = refl; noted = c.make_room_for.ensures.items }
+returns-in_err-make_room_for-clause-rest g c = record { config = refl; reserved = refl; fault = refl; pins = refl; marks = refl; accountant = refl; noted = c.make_room_for.ensures.items; pool = refl }
 
 pub returns-clause-rest : goal.returns-clause-rest
-returns-clause-rest g c = record { config = refl; reserved = refl; fault = refl; pins = refl; marks = refl; accountant = refl; noted = c.make_room_for.ensures.items }
+returns-clause-rest g c = record { config = refl; reserved = refl; fault = refl; pins = refl; marks = refl; accountant = refl; noted = c.make_room_for.ensures.items; pool = refl }
+
+pub make_room-requires-clause-there : goal.make_room-requires-clause-there
+make_room-requires-clause-there g c =
+    let log = c.args.self.now in
+    there_last log c.last_mut.result.now c.last_mut.ensures.value
 
 -- The last segment is as it was, but for its room.
 module _ {D C : Type 0} (log : Log D C) (s : SegmentBuffer) (there : slice_get (open_segments log.segments) (length log.segments.behind.items) ≡ Some s) (new : IoBuf)
@@ -113,6 +120,7 @@ invariant_of-self-2 g c =
         pegs = subst (All (λ (b : NotedBatch). b.peg < log.reserved_to)) (sym c.make_room_for.ensures.items) log.noted.pegs;
         counted = (let same = ap open_manifests line in let old = log.noted.counted in let many = c.make_room_for.ensures.manifests in omega (arith, same, old, many));
       };
+      pooling = kept_with log (length log.segments.behind.items) s (record { site = s.site; buffer = new }) there (λ some. made.there);
     }
 
 pub returns-clause-line : goal.returns-clause-line

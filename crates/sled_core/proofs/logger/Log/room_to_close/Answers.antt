@@ -14,6 +14,7 @@ use Rattle.sled_core.specs.inside.OpenPlaces.{open_manifests}
 use Rattle.sled_core.specs.inside.Turned.{CanClose}
 use Rattle.sled_core.proofs.Line.NthOpen.{last_buffer_with, line_same, line_still, short_in, within_same, within_with}
 use Rattle.sled_core.proofs.Pending.Segments.{still_ready}
+use Rattle.sled_core.proofs.Line.Pooling.{kept_same, last_there, pooling_with}
 use Rattle.sled_core.proofs.logger.Log.room_to_close.Goals as goal
 
 -- The segments are as they were, but for the room behind them, and that of the last one.
@@ -56,12 +57,23 @@ invariant_of-self-in-Break-branch-3 g c =
         pegs = subst (All (λ (b : NotedBatch). b.peg < log.reserved_to)) (sym c.make_room_for.ensures.items) log.noted.pegs;
         counted = (let all = ap open_manifests line in let old = log.noted.counted in let many = c.make_room_for.ensures.manifests in omega (arith, all, old, many));
       };
+      pooling = kept_same log mid made.first made.behind;
     }
 
-pub room_to_close-requires : goal.room_to_close-requires
-room_to_close-requires g c =
+pub room_to_close-requires-clause-inside : goal.room_to_close-requires-clause-inside
+room_to_close-requires-clause-inside g c =
     let made = c.in_ok-make_room-2.ensures in
     its_inside c.args.self.now c.make_room-2.new.self made.first made.behind c.last_mut.result.now c.last_mut.ensures.value
+
+pub room_to_close-requires-clause-small : goal.room_to_close-requires-clause-small
+room_to_close-requires-clause-small g c = let most = c.args.self.now.config.config.most in omega (arith, most)
+
+pub room_to_close-requires-clause-there : goal.room_to_close-requires-clause-there
+room_to_close-requires-clause-there g c =
+    let log = c.args.self.now in
+    let made = c.in_ok-make_room-2.ensures in
+    let mid : IoBufs = c.make_room-2.new.self in
+    last_there log.config.config.segment_size mid log.pool (kept_same log mid made.first made.behind) c.last_mut.result.now c.last_mut.ensures.value
 
 pub invariant_of-self-2 : goal.invariant_of-self-2
 invariant_of-self-2 g c =
@@ -83,6 +95,8 @@ invariant_of-self-2 g c =
         pegs = subst (All (λ (b : NotedBatch). b.peg < log.reserved_to)) (sym c.make_room_for.ensures.items) log.noted.pegs;
         counted = (let all = ap open_manifests line in let old = log.noted.counted in let many = c.make_room_for.ensures.manifests in omega (arith, all, old, many));
       };
+      pooling = pooling_with log.config.config.segment_size mid log.pool (kept_same log mid made.first made.behind) (length mid.behind.items) s
+          (record { site = s.site; buffer = c.room_to_close.new.self }) there (λ some. c.room_to_close.ensures.there);
     }
 
 pub returns-clause-line : goal.returns-clause-line

@@ -1,21 +1,24 @@
 -- The current buffer is sealed: with its segment, where no further record has room there, and else alone.
-use Rattle.std.proofs.Common.{◌≡◌, ◌∙◌, ◌+◌, ◌≤◌, ◌<◌, ap, sym, arith, ℕ, List, [], length, if◌then◌else◌, Bool, true}
+use Rattle.std.proofs.Common.{◌≡◌, ◌∙◌, ◌+◌, ◌≤◌, ◌<◌, ap, sym, arith, ℕ, List, [], length, if◌then◌else◌, Bool, true, subst}
 use Rattle.std.proofs.lemmas.Bool.Decides.{nat_tests}
 use Rattle.std.proofs.lemmas.List.{append-nil}
 use Rattle.std.proofs.lemmas.List.Elements.{All-nil}
 use Rattle.sled_core.specs.declared.logger.Log.{Log}
 use Rattle.sled_core.specs.Begun.{SegmentView}
 use Rattle.sled_core.specs.inside.Fits.{AddsBuffers}
-use Rattle.sled_core.specs.Fits.{buffers_of, current_of, reserved_end, segment_size_of}
+use Rattle.sled_core.specs.Fits.{buffers_of, current_of, reserved_end, segment_size_of, machine_at, stable_end}
 use Rattle.sled_core.specs.Positions.{is_short}
 use Rattle.sled_core.specs.Waiting.{BufferAt}
 use Rattle.sled_core.proofs.Line.Begins.{begins_keeps, begins_marked, begins_same, begins_tickets}
 use Rattle.sled_core.proofs.Line.HeaderMarks.{none_begun}
 use Rattle.sled_core.proofs.Line.LogSpans.{seal_starts, turn_starts}
 use Rattle.sled_core.proofs.Line.Outcomes.{either, on_both, on_err, on_ok}
-use Rattle.sled_core.proofs.Line.Seals.{sealed_begins, sealed_buffers, sealed_current, sealed_keeps, sealed_position, sealed_same, sealed_tickets, sealed_waiting, sealed_fillings, sealed_heads, sealed_with}
+use Rattle.sled_core.proofs.Line.Seals.{sealed_begins, sealed_buffers, sealed_current, sealed_fillings, sealed_heads, sealed_keeps, sealed_position, sealed_same, sealed_tickets, sealed_waiting, sealed_with}
 use Rattle.sled_core.proofs.Line.Turns.{turns_begins, turns_buffers, turns_position, turns_waiting, turns_with}
 use Rattle.sled_core.proofs.Line.Unchanged.{left_alone, unchanged_keeps, unchanged_position, unchanged_same, unchanged_tickets}
+use Rattle.sled_core.specs.Pooled.{PoolsWith, begun_sealed}
+use Rattle.sled_core.proofs.Line.Pools.{pools_begun, pools_sealed}
+use Rattle.sled_store.specs.declared.config.RunningConfig.{RunningConfig}
 use Rattle.sled_core.proofs.logger.Log.seal.Goals as goal
 
 -- Where no further record has room.
@@ -177,3 +180,28 @@ returns-clause-same g c =
 
 pub returns-clause-err : goal.returns-clause-err
 returns-clause-err g c = on_err c.seal_unfilled.result _ _ (λ same. left_alone c.args.self.now c.seal_unfilled.new.self same c.seal_unfilled.ensures.rest) c.seal_unfilled.ensures.unsealed
+
+-- A segment is begun, which takes a buffer of the pool, or none is.
+
+pub returns-then-is_short-clause-pooled : goal.returns-then-is_short-clause-pooled
+returns-then-is_short-clause-pooled g c =
+    let did = c.begin_next.ensures in
+    let old = c.args.self.now in
+    let new = c.begin_next.new.self in
+    let begun : begun_sealed old ≡ 1 = ap (λ (b : Bool). if b then 1 else 0) (sym c.is_short.ensures ∙ c.if-is_short.true) in
+    on_both c.begin_next.result _ _ _
+    (λ line pooled. subst (λ n. PoolsWith n old new) (sym begun)
+    (pools_begun old new g.C.Checksum.sum_of (machine_at old) (stable_end old) line pooled
+    (ap (λ (x : RunningConfig g.row.D.Denot g.row.C.Denot). x.config.segment_size) did.rest.config)))
+    did.line did.pooled
+
+pub returns-clause-pooled : goal.returns-clause-pooled
+returns-clause-pooled g c =
+    let did = c.seal_unfilled.ensures in
+    let old = c.args.self.now in
+    let new = c.seal_unfilled.new.self in
+    let none : begun_sealed old ≡ 0 = ap (λ (b : Bool). if b then 1 else 0) (sym c.is_short.ensures ∙ c.if-is_short.false) in
+    on_ok c.seal_unfilled.result _ _
+    (λ line. subst (λ n. PoolsWith n old new) (sym none)
+    (pools_sealed old new line did.rest.pool (ap (λ (x : RunningConfig g.row.D.Denot g.row.C.Denot). x.config.segment_size) did.rest.config)))
+    did.line

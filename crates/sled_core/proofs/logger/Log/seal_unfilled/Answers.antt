@@ -20,6 +20,7 @@ use Rattle.sled_core.proofs.Line.OpenManifests.{manifests_sealed}
 use Rattle.sled_core.proofs.Line.Outcomes.{all_err}
 use Rattle.sled_core.proofs.Pending.Logs.{seals_now, seals_ready}
 use Rattle.sled_core.proofs.Pending.Segments.{still_ready}
+use Rattle.sled_core.proofs.Line.Pooling.{kept_with, there_last}
 use Rattle.sled_core.proofs.logger.Log.seal_unfilled.Goals as goal
 
 -- The segments are filled as they have to be, sealed or not.
@@ -56,6 +57,7 @@ invariant_of-self g c =
         pegs = log.noted.pegs;
         counted = log.noted.counted;
       };
+      pooling = record { few = log.pooling.few; room = log.pooling.room; there = log.pooling.there };
     }
 
 -- The last one is.
@@ -64,7 +66,8 @@ pub seal-requires : goal.seal-requires
 seal-requires g c =
     let s : SegmentBuffer = c.last_mut-s.result.now in
     let some : holds_any (segment_view s) ≡ true = ap holds_any (sym (last_is c.args.self.now s c.last_mut-s.ensures.value)) ∙ c.requires.some in
-    record { some = grind (arith, nat_tests, some) }
+    let log = c.args.self.now in
+    record { some = grind (arith, nat_tests, some); there = there_last log s c.last_mut-s.ensures.value }
 
 pub note_sealed-requires-clause-some : goal.note_sealed-requires-clause-some
 note_sealed-requires-clause-some g c =
@@ -123,6 +126,7 @@ invariant_of-self-2 g c =
         pegs = log.noted.pegs;
         counted = sealed_counted log _ same;
       };
+      pooling = kept_with log (length log.segments.behind.items) s (record { site = s.site; buffer = new }) there (λ some. c.seal.ensures.there);
     }
 
 -- There was no memory for it.
@@ -145,6 +149,7 @@ invariant_of-self-in-Break-branch-2 g c =
         pegs = log.noted.pegs;
         counted = still_counted log _ same;
       };
+      pooling = kept_with log (length log.segments.behind.items) s (record { site = s.site; buffer = new }) there (λ some. c.seal.ensures.there);
     }
 
 pub returns-clause-line : goal.returns-clause-line

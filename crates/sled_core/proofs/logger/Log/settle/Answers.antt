@@ -21,6 +21,8 @@ use Rattle.sled_core.proofs.Line.HeaderMarks.{none_begun, segment_same}
 use Rattle.sled_core.proofs.Line.SealsFor.{SealsFor, came_sealed, held_at_same, held_sound, holds_reserved, seals_current, seals_still, settling_same, writes_around}
 use Rattle.sled_core.proofs.Line.Settles.{held_stable, stable_written}
 use Rattle.sled_core.proofs.Line.Spared.{spared_at}
+use Rattle.sled_core.specs.Pooled.{PoolsSome}
+use Rattle.sled_core.proofs.Line.Pools.{pools_sealing, pools_some, pools_some_further, pools_still, pools_unchanged}
 use Rattle.sled_core.proofs.logger.Log.settle.Given.{Over}
 use Rattle.sled_core.proofs.logger.Log.settle.Goals.{then-place-current_begin+in_ok-seal, else-place-current_begin}
 use Rattle.sled_core.proofs.logger.Log.settle.Goals as goal
@@ -246,3 +248,22 @@ pub returns-clause-joined : goal.returns-clause-joined
 returns-clause-joined g c =
     joins_further g.D.Device.trace g.C.Checksum.sum_of c.args.self.now c.if-place-current_begin.self c.write_around.new.self (seals g c).keeps.history
     (seals g c).synced c.write_around.ensures.joined
+
+pub returns-then-place-synced_end-clause-pooled : goal.returns-then-place-synced_end-clause-pooled
+returns-then-place-synced_end-clause-pooled g c = pools_some c.args.self.now c.args.self.now (pools_still c.args.self.now)
+
+pub returns-in_err-seal-clause-pooled : goal.returns-in_err-seal-clause-pooled
+returns-in_err-seal-clause-pooled g c =
+    let old = c.args.self.now in
+    pools_some old c.seal.new.self (pools_unchanged old c.seal.new.self c.in_err-seal.ensures.err)
+
+pub returns-clause-pooled : goal.returns-clause-pooled
+returns-clause-pooled g c =
+    let old = c.args.self.now in
+    let mid = c.if-place-current_begin.self in
+    let first : PoolsSome old mid = elim c.if-place-current_begin.branch [
+      | then-place-current_begin+in_ok-seal w ↦
+          subst (λ (l : Log _ _). PoolsSome old l) (sym w.self-is) (pools_sealing old w.seal.new.self w.in_ok-seal.ensures.pooled)
+      | else-place-current_begin w ↦ subst (λ (l : Log _ _). PoolsSome old l) (sym w.self-is) (pools_some old old (pools_still old))
+    ] in
+    pools_some_further old mid c.write_around.new.self first c.write_around.ensures.pooled

@@ -13,6 +13,7 @@ use Rattle.sled_core.proofs.Line.KeptCalls.{writing_still}
 use Rattle.sled_core.proofs.Line.CameFar.{around_none, still_around}
 use Rattle.sled_core.proofs.Line.MarksJoin.{joins_same}
 use Rattle.sled_core.proofs.Line.Reads.{above_zero, at_place, settle_answers}
+use Rattle.sled_core.proofs.Line.Pools.{pools_some, pools_still}
 use Rattle.sled_core.proofs.logger.Log.settle_at.Given as given
 use Rattle.sled_core.proofs.logger.Log.settle_at.Goals.{else-at-synced_end-via-then-at-synced_end+else-at-self, else-at-synced_end-via-else-at-synced_end}
 use Rattle.sled_core.proofs.logger.Log.settle_at.Goals as goal
@@ -82,3 +83,9 @@ returns-then-place-lt0-clause-joined g c = joins_same g.D.Device.trace g.C.Check
 
 pub returns-then-at-self-clause-joined : goal.returns-then-at-self-clause-joined
 returns-then-at-self-clause-joined g c = joins_same g.D.Device.trace g.C.Checksum.sum_of c.args.self.now c.args.self.now refl
+
+pub returns-then-place-lt0-clause-pooled : goal.returns-then-place-lt0-clause-pooled
+returns-then-place-lt0-clause-pooled g c = pools_some c.args.self.now c.args.self.now (pools_still c.args.self.now)
+
+pub returns-then-at-self-clause-pooled : goal.returns-then-at-self-clause-pooled
+returns-then-at-self-clause-pooled g c = pools_some c.args.self.now c.args.self.now (pools_still c.args.self.now)

@@ -14,6 +14,7 @@ use Rattle.sled_core.proofs.Line.LogSpans.{same_buffers, written_starts}
 use Rattle.sled_core.proofs.Line.MarksJoin.{joins_same}
 use Rattle.sled_core.proofs.Line.Outcomes.{answers_free, done_free, either, on_err, on_ok}
 use Rattle.sled_core.proofs.Line.Settles.{CanWrite, IsStill, LooksAt, account_it, found_held, held_none, inside, is_ready_there, ledger_it, looks, number_within, settling_it, some_held, still_early, still_gone, wrote_all, wrote_place, wrote_without}
+use Rattle.sled_core.proofs.Line.Pools.{pools_still}
 use Rattle.sled_core.proofs.logger.Log.write_around.Given.{Over}
 use Rattle.sled_core.proofs.logger.Log.write_around.Goals as goal
 
@@ -255,3 +256,12 @@ returns-then-b-clause-joined g c = joins_same g.D.Device.trace g.C.Checksum.sum_
 
 pub returns-then-b-gt0-clause-joined : goal.returns-then-b-gt0-clause-joined
 returns-then-b-gt0-clause-joined g c = joins_same g.D.Device.trace g.C.Checksum.sum_of c.args.self.now c.args.self.now refl
+
+pub returns-then-at-buffer-clause-pooled : goal.returns-then-at-buffer-clause-pooled
+returns-then-at-buffer-clause-pooled g c = pools_still c.args.self.now
+
+pub returns-then-b-clause-pooled : goal.returns-then-b-clause-pooled
+returns-then-b-clause-pooled g c = pools_still c.args.self.now
+
+pub returns-then-b-gt0-clause-pooled : goal.returns-then-b-gt0-clause-pooled
+returns-then-b-gt0-clause-pooled g c = pools_still c.args.self.now

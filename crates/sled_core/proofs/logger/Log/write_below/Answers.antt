@@ -11,6 +11,8 @@ use Rattle.sled_core.proofs.Line.HeaderMarks.{marked_same, none_begun, segment_s
 use Rattle.sled_core.proofs.Line.CameFar.{front_leaves}
 use Rattle.sled_core.proofs.Line.Outcomes.{all_err, on_err, seal_answers, seal_not_held}
 use Rattle.sled_core.proofs.Line.SealFirst.{SealedFor, first_answers, first_calls, first_keeps, first_performs, sealed_already, sealed_first, sealed_past, some_below, unchanged_came, unchanged_performs}
+use Rattle.sled_core.specs.Pooled.{PoolsSome}
+use Rattle.sled_core.proofs.Line.Pools.{pools_sealing, pools_some, pools_some_further, pools_still, pools_unchanged}
 use Rattle.sled_core.proofs.logger.Log.write_below.Given.{Over}
 use Rattle.sled_core.proofs.logger.Log.write_below.Goals.{then-current_begin-to+in_ok-seal, else-current_begin-to}
 use Rattle.sled_core.proofs.logger.Log.write_below.Goals as goal
@@ -105,3 +107,21 @@ returns-in_err-seal-clause-buffers g c =
 
 pub returns-clause-came : goal.returns-clause-came
 returns-clause-came g c = on_err c.write_sealed_below.result _ _ (λ front. inr ((ready g c).fronts c.write_sealed_below.new.self front)) c.write_sealed_below.ensures.front
+
+-- A segment is begun at most, before the buffers are written.
+
+pub returns-in_err-seal-clause-pooled : goal.returns-in_err-seal-clause-pooled
+returns-in_err-seal-clause-pooled g c =
+    let old = c.args.self.now in
+    pools_some old c.seal.new.self (pools_unchanged old c.seal.new.self c.in_err-seal.ensures.err)
+
+pub returns-clause-pooled : goal.returns-clause-pooled
+returns-clause-pooled g c =
+    let old = c.args.self.now in
+    let mid = c.if-current_begin-to.self in
+    let first : PoolsSome old mid = elim c.if-current_begin-to.branch [
+      | then-current_begin-to+in_ok-seal w ↦
+          subst (λ (l : Log _ _). PoolsSome old l) (sym w.self-is) (pools_sealing old w.seal.new.self w.in_ok-seal.ensures.pooled)
+      | else-current_begin-to w ↦ subst (λ (l : Log _ _). PoolsSome old l) (sym w.self-is) (pools_some old old (pools_still old))
+    ] in
+    pools_some_further old mid c.write_sealed_below.new.self first c.write_sealed_below.ensures.pooled

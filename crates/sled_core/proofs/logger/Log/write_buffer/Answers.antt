@@ -24,6 +24,7 @@ use Rattle.sled_core.proofs.Line.AccountBehind.{account_same, ledger_same}
 use Rattle.sled_core.proofs.Line.KeptCalls.{failed_over, one_writing, writing_further}
 use Rattle.sled_core.proofs.Line.LogSpans.{same_with}
 use Rattle.sled_core.proofs.Line.Outcomes.{all_err, all_ok, on_err, on_ok}
+use Rattle.sled_core.proofs.Line.Pools.{pools_further, pools_same}
 use Rattle.sled_core.proofs.logger.Log.write_buffer.Goals as goal
 
 -- Behind the calls that write it come those of the step.
@@ -203,3 +204,12 @@ returns-clause-joined g c = λ H holds.
     let same = ap (λ (a : Account). a.mark) (account_same mid new rest.marks rest.pins) in
     let low = c.in_ok-write_one.ensures.joined H holds in
     subst (λ (z : ℤ). z ≤ℤ pos (synced_end c.args.self.now)) (sym same) low
+
+-- The step behind the write leaves the pool.
+pub returns-clause-pooled : goal.returns-clause-pooled
+returns-clause-pooled g c =
+    let mid = c.write_one.new.self in
+    let new = c.free_segments.new.self in
+    let rest = c.free_segments.ensures.rest in
+    pools_further c.args.self.now mid new 0 c.write_one.ensures.pooled
+    (pools_same mid new (λ i. line_in (rest.segments i)) rest.pool (ap (λ (x : Config). x.segment_size) rest.config))

@@ -10,6 +10,7 @@ use Rattle.sled_core.specs.SealedBuffers.{bytes_between, sealed_end, writing}
 use Rattle.sled_core.specs.inside.Turned.{write_in, write_of}
 use Rattle.sled_core.proofs.Line.NthOpen.{nth_is, nth_there}
 use Rattle.sled_core.proofs.Sealed.Slices.{slice_between}
+use Rattle.sled_core.proofs.Line.Pooling.{ready_there}
 use Rattle.sled_core.proofs.logger.Log.write_bytes.Goals as goal
 
 pub overflow_add-at : goal.overflow_add-at
@@ -24,7 +25,11 @@ write_out-written-requires g c =
     let is = nth_is c.args.self.now c.args.n c.segment-s.result.now c.segment-s.ensures in
     let short = is.short in
     let small = is.slot_small in
-    omega (arith, short, small, c.span-from.ensures.rises, c.span-from.ensures.inside, length-take (c.span-from.result.1 - c.span-from.result.0) (drop c.span-from.result.0 c.deref.result.now))
+    omega (arith, short, small, c.span-from.ensures.rises, c.span-from.ensures.inside, length-take (c.span-from.result.1 - c.span-from.result.0) (drop c.span-from.result.0 c.as_slice.result.now))
+
+-- It waits, so its bytes are there.
+pub as_slice-requires : goal.as_slice-requires
+as_slice-requires g c = ready_there c.args.self.now c.args.n c.args.k c.requires.ready c.segment-s.result.now c.segment-s.ensures
 
 -- All but the device and the failure is as it was.
 
@@ -42,6 +47,7 @@ invariant_of-self g c =
         pegs = log.noted.pegs;
         counted = log.noted.counted;
       };
+      pooling = record { few = log.pooling.few; room = log.pooling.room; there = log.pooling.there };
     }
 
 pub invariant_of-self-in_default : goal.invariant_of-self-in_default
@@ -58,6 +64,7 @@ invariant_of-self-in_default g c =
         pegs = log.noted.pegs;
         counted = log.noted.counted;
       };
+      pooling = record { few = log.pooling.few; room = log.pooling.room; there = log.pooling.there };
     }
 
 -- The calls are those that write the buffer.
@@ -71,17 +78,17 @@ calls_at line n k site b from to whole among at end rises same =
 pub returns-in-Err-clause-at_most : goal.returns-in-Err-clause-at_most
 returns-in-Err-clause-at_most g c =
     subst (λ (es : List Event). Performs es (g.D.Device.trace c.args.self.now.config.device) (g.D.Device.trace c.write_out-written.new.device))
-    (calls_at (line_of c.args.self.now) c.args.n c.args.k c.segment-s.result.now.site c.segment-s.result.now.buffer c.span-from.result.0 c.span-from.result.1 c.deref.result.now (nth_there c.args.self.now c.args.n c.segment-s.result.now c.segment-s.ensures) c.span-from.ensures.from c.span-from.ensures.to c.span-from.ensures.rises c.deref.ensures.value)
+    (calls_at (line_of c.args.self.now) c.args.n c.args.k c.segment-s.result.now.site c.segment-s.result.now.buffer c.span-from.result.0 c.span-from.result.1 c.as_slice.result.now (nth_there c.args.self.now c.args.n c.segment-s.result.now c.segment-s.ensures) c.span-from.ensures.from c.span-from.ensures.to c.span-from.ensures.rises c.as_slice.ensures.value)
     c.write_out-written.ensures.calls
 
 pub returns-clause-calls : goal.returns-clause-calls
 returns-clause-calls g c =
     c.in_default.ensures.done
     ∙ ap (λ (es : List Event). after_all es (g.D.Device.trace c.args.self.now.config.device))
-    (calls_at (line_of c.args.self.now) c.args.n c.args.k c.segment-s.result.now.site c.segment-s.result.now.buffer c.span-from.result.0 c.span-from.result.1 c.deref.result.now (nth_there c.args.self.now c.args.n c.segment-s.result.now c.segment-s.ensures) c.span-from.ensures.from c.span-from.ensures.to c.span-from.ensures.rises c.deref.ensures.value)
+    (calls_at (line_of c.args.self.now) c.args.n c.args.k c.segment-s.result.now.site c.segment-s.result.now.buffer c.span-from.result.0 c.span-from.result.1 c.as_slice.result.now (nth_there c.args.self.now c.args.n c.segment-s.result.now c.segment-s.ensures) c.span-from.ensures.from c.span-from.ensures.to c.span-from.ensures.rises c.as_slice.ensures.value)
 
 pub returns-clause-at_most : goal.returns-clause-at_most
 returns-clause-at_most g c =
     subst (λ (es : List Event). Performs es (g.D.Device.trace c.args.self.now.config.device) (g.D.Device.trace c.write_out-written.new.device))
-    (calls_at (line_of c.args.self.now) c.args.n c.args.k c.segment-s.result.now.site c.segment-s.result.now.buffer c.span-from.result.0 c.span-from.result.1 c.deref.result.now (nth_there c.args.self.now c.args.n c.segment-s.result.now c.segment-s.ensures) c.span-from.ensures.from c.span-from.ensures.to c.span-from.ensures.rises c.deref.ensures.value)
+    (calls_at (line_of c.args.self.now) c.args.n c.args.k c.segment-s.result.now.site c.segment-s.result.now.buffer c.span-from.result.0 c.span-from.result.1 c.as_slice.result.now (nth_there c.args.self.now c.args.n c.segment-s.result.now c.segment-s.ensures) c.span-from.ensures.from c.span-from.ensures.to c.span-from.ensures.rises c.as_slice.ensures.value)
     c.write_out-written.ensures.calls

@@ -1,4 +1,4 @@
-use Rattle.std.proofs.Common.{nat_lt, if◌then◌else◌, ◌≡◌, ◌∙◌, List, ℕ, ℤ, Bool, ap, sym, subst, refl, arith, rules, length, deque_len, map, set, true, Option, None, Some, Err, inl, inr, ◌≤ℤ◌}
+use Rattle.std.proofs.Common.{nat_lt, if◌then◌else◌, ◌≡◌, ◌==◌, ◌<◌, ◌∙◌, List, ℕ, ℤ, Bool, ap, sym, subst, refl, arith, rules, length, deque_len, map, set, true, Option, None, Some, Err, inl, inr, ◌≤ℤ◌}
 use Rattle.std.specs.declared.io.Error.{Error as IoError}
 use Rattle.sled_codec.specs.declared.result.Error.{Error}
 use Rattle.sled_codec.specs.declared.result.Error.TheVariants.{Io, OutOfMemory}
@@ -16,6 +16,7 @@ use Rattle.sled_core.specs.inside.Begun.{open_segments, with_nth}
 use Rattle.sled_core.specs.declared.logger.io_bufs.IoBufs.{IoBufs}
 use Rattle.sled_core.specs.declared.logger.io_bufs.SegmentBuffer.{SegmentBuffer}
 use Rattle.sled_core.specs.declared.logger.batches.NotedBatch.{NotedBatch}
+use Rattle.sled_core.specs.declared.iobuf.IoBuf.{IoBuf}
 use Rattle.sled_core.specs.declared.iobuf.Sealed.{Sealed}
 use Rattle.sled_core.specs.declared.logger.ready.ReadyBuffers.{ReadyBuffers}
 use Rattle.sled_core.specs.declared.logger.Log.{Log}
@@ -43,9 +44,12 @@ use Rattle.sled_core.proofs.Line.Faulty.{fits_with_same, holds_with_same}
 use Rattle.sled_core.proofs.Line.Among.{among_further, among_same}
 use Rattle.sled_core.proofs.Line.GivenUp.{given_promoted, set_given}
 use Rattle.sled_core.proofs.Line.LineEnds.{kept_same, noted_later, noted_same}
-use Rattle.sled_core.proofs.Line.LogWrites.{KeepsInvariants, crash_write, end_grows, fits_done, fits_failed, holds_done, holds_failed, keeps_invariants, line_after, line_left, names, noted_left, same_line, segments_written, mark_joins, Joins}
+use Rattle.sled_core.proofs.Line.LogWrites.{Joins, KeepsInvariants, crash_write, end_grows, fits_done, fits_failed, holds_done, holds_failed, keeps_invariants, line_after, line_left, mark_joins, names, noted_left, same_line, segments_written}
 use Rattle.sled_core.proofs.Line.Marks.{HasReady, ready_at}
-use Rattle.sled_core.proofs.Line.NthOpen.{nth_is, nth_there, nth_within}
+use Rattle.sled_core.proofs.Line.NthOpen.{nth_is, nth_same, nth_there, nth_within}
+use Rattle.sled_core.proofs.Line.Pooling.{last_kept, last_low, waits_low, with_few}
+use Rattle.sled_core.proofs.Line.Pools.{pools_same, pools_written}
+use Rattle.sled_core.specs.Pool.{with_given}
 use Rattle.sled_core.proofs.Line.OpenManifests.{manifests_promoted, set_same}
 use Rattle.sled_core.proofs.Line.Outcomes.{all_err}
 use Rattle.sled_core.proofs.Line.OpenPlaces.{places_promoted, set_places}
@@ -167,7 +171,7 @@ kept : {D C : Type 0} (old mid : Log D C) (n k : ℕ) (r : IsReadyIn (line_of ol
     → (r' : IsReadyIn (line_of mid) n k) × KeepsInvariants mid n k r' now × (open_manifests (line_in now) ≡ mid.batches.manifests) × AreReady (line_in now) ready
 kept old mid n k r rest s there marked is_marked now is ready noted =
     let r' : IsReadyIn (line_of mid) n k = subst (λ (l : List SegmentView). IsReadyIn l n k) (sym (same_line old mid rest)) r in
-    let still : ChangesDevice mid mid = record { config = refl; checksum = refl; segments = refl; reserved = refl; pins = refl; marks = refl; accountant = refl; batches = refl } in
+    let still : ChangesDevice mid mid = record { config = refl; checksum = refl; segments = refl; reserved = refl; pins = refl; marks = refl; accountant = refl; batches = refl; pool = refl } in
     let line = line_after mid mid n k r'.segment still r'.among s there marked is_marked (line_in now) is in
     let same = ap open_manifests line in
     let left = manifests_promoted mid.config.config.segment_size mid.segments.first.site.place (set (line_of mid) n (written_now k r'.segment)) mid.config.config.least (segments_written mid n k r') in
@@ -215,8 +219,9 @@ pub invariant_of-self : goal.invariant_of-self
 invariant_of-self g c =
     let mid = c.write_bytes.new.self in
     let s : SegmentBuffer = c.segment_mut-s.result.now in
-    let found = kept c.args.self.now mid c.args.n c.args.k c.requires.ready c.in_ok-write_bytes.ensures.rest s c.segment_mut-s.ensures.value (record { site = s.site; buffer = c.mark_written.new.self })
-    (c.mark_written.ensures s.site) c.promote.new.self c.promote.ensures c.note_written.new.self c.note_written.ensures in
+    let found = kept c.args.self.now mid c.args.n c.args.k c.requires.ready c.in_ok-write_bytes.ensures.rest s c.segment_mut-s.ensures.value (record { site = s.site; buffer = c.retire.new.self })
+    (c.retire.ensures.same s.site ∙ c.mark_written.ensures.written s.site) c.promote.new.self c.promote.ensures.line
+    c.note_written.new.self c.note_written.ensures in
     let lie = found.1.lie in
     record {
       line = record {
@@ -229,13 +234,57 @@ invariant_of-self g c =
         pegs = mid.noted.pegs;
         counted = found.2;
       };
+      pooling = record {
+        few = (let few = mid.pooling.few in with_few _ mid.pool.count _ few c.retire.ensures.pooled);
+        room = c.retire.ensures.room ∙ mid.pooling.room;
+        there = subst (λ (b : IoBuf). 0 < b.bytes.room) (sym c.promote.ensures.last)
+            (last_kept mid.segments c.args.n (record { site = s.site; buffer = c.retire.new.self })
+            (λ last.
+            let at = subst (λ k. slice_get (open_segments mid.segments) k ≡ Some s) last c.segment_mut-s.ensures.value in
+            c.retire.ensures.there (last_low mid s at c.args.k c.mark_written.new.self (c.mark_written.ensures.written s.site)))
+            mid.pooling.there);
+      };
     }
+
+-- Its bytes are there, and it has room enough for the pool.
+pub retire-requires-clause-short : goal.retire-requires-clause-short
+retire-requires-clause-short g c =
+    let mid = c.write_bytes.new.self in
+    let s : SegmentBuffer = c.segment_mut-s.result.now in
+    let short = (nth_is mid c.args.n s c.segment_mut-s.ensures.value).short in
+    let same = ap (λ (v : SegmentView). length v.parts.bytes) (c.mark_written.ensures.written s.site) in
+    omega (arith, short, same)
+
+-- As many more are kept as segments are wholly on the device by it.
+pub returns-in_err-write_bytes-clause-pooled : goal.returns-in_err-write_bytes-clause-pooled
+returns-in_err-write_bytes-clause-pooled g c =
+    let old = c.args.self.now in
+    let mid = c.write_bytes.new.self in
+    let rest = c.in_err-write_bytes.ensures.rest in
+    pools_same old mid (same_line old mid rest) rest.pool (kept_size old mid rest)
 
 pub returns-clause-line : goal.returns-clause-line
 returns-clause-line g c = λ v among.
     let s : SegmentBuffer = c.segment_mut-s.result.now in
-    line_after c.args.self.now c.write_bytes.new.self c.args.n c.args.k v c.in_ok-write_bytes.ensures.rest among s c.segment_mut-s.ensures.value (record { site = s.site; buffer = c.mark_written.new.self })
-    (c.mark_written.ensures s.site) (line_in c.promote.new.self) c.promote.ensures
+    line_after c.args.self.now c.write_bytes.new.self c.args.n c.args.k v c.in_ok-write_bytes.ensures.rest among s c.segment_mut-s.ensures.value (record { site = s.site; buffer = c.retire.new.self })
+    (c.retire.ensures.same s.site ∙ c.mark_written.ensures.written s.site) (line_in c.promote.new.self) c.promote.ensures.line
+
+pub returns-clause-pooled : goal.returns-clause-pooled
+returns-clause-pooled g c =
+    let old = c.args.self.now in
+    let mid = c.write_bytes.new.self in
+    let rest = c.in_ok-write_bytes.ensures.rest in
+    let r = c.requires.ready in
+    let s : SegmentBuffer = c.segment_mut-s.result.now in
+    let size = kept_size old mid rest in
+    let among = ap (λ (l : List SegmentView). slice_get l c.args.n) (same_line old mid rest) ∙ r.among in
+    let its : segment_view s ≡ r.segment = nth_same mid c.args.n s c.segment_mut-s.ensures.value r.segment among in
+    let written : c.mark_written.new.self.written_len ≡ (written_now c.args.k r.segment).parts.written_len =
+    ap (λ (v : SegmentView). v.parts.written_len) (c.mark_written.ensures.written s.site)
+    ∙ ap (λ (v : SegmentView). (written_now c.args.k v).parts.written_len) its in
+    pools_written old _ c.args.n r.segment (written_now c.args.k r.segment) r.among (waits_low old c.args.n c.args.k r)
+    (returns-clause-line g c r.segment r.among)
+    (c.retire.ensures.pooled ∙ (λ i. with_given (written i == size i) (rest.pool i).count)) size
 
 -- The next record begins where it would have begun, whichever slots are left.
 pub returns-clause-position : goal.returns-clause-position

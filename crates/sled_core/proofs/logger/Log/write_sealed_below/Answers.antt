@@ -11,6 +11,7 @@ use Rattle.sled_core.proofs.Line.HeaderMarks.{segment_further, segment_same}
 use Rattle.sled_core.proofs.Line.CameFar.{failed_front, wrote_front}
 use Rattle.sled_core.proofs.Line.LogSpans.{leaves_above, same_buffers}
 use Rattle.sled_core.proofs.Line.Outcomes.{all_err}
+use Rattle.sled_core.proofs.Line.Pools.{pools_further, pools_still}
 use Rattle.sled_core.proofs.logger.Log.write_sealed_below.Given as given
 use Rattle.sled_core.proofs.logger.Log.write_sealed_below.Goals as goal
 use Rattle.sled_core.specs.Ledger.{ledger_behind}
@@ -18,7 +19,10 @@ use Rattle.sled_core.specs.Waiting.{BufferAt}
 use Rattle.sled_core.proofs.Line.AccountBehind.{front_whole}
 
 pub loop-self-init : goal.loop-self-init
-loop-self-init g c = record { advanced = advanced_still g.D.Device.trace g.C.Checksum.sum_of g.D.Device.faults c.args.to c.args.self.now c.requires.fault }
+loop-self-init g c = record {
+  advanced = advanced_still g.D.Device.trace g.C.Checksum.sum_of g.D.Device.faults c.args.to c.args.self.now c.requires.fault;
+  pooled = pools_still c.args.self.now;
+}
 
 pub write_buffer-requires-clause-fault : goal.write_buffer-requires-clause-fault
 write_buffer-requires-clause-fault g c = c.loop-self.invariant.advanced.fault
@@ -41,6 +45,7 @@ loop-self-preserved g c =
     record {
       advanced = advanced_further g.D.Device.trace g.C.Checksum.sum_of g.D.Device.faults c.args.to c.args.self.now mid c.write_buffer.new.self c.loop-self.invariant.advanced ready (c.in_ok-write_buffer.ensures.line (first_view mid) refl)
           c.write_buffer.ensures.keeps c.write_buffer.ensures.position c.in_ok-write_buffer.ensures.calls c.in_ok-write_buffer.ensures.answers.1 c.in_ok-write_buffer.ensures.answers.2 (c.in_ok-write_buffer.ensures.ledger (first_view mid) refl);
+      pooled = pools_further c.args.self.now mid c.write_buffer.new.self 0 c.loop-self.invariant.pooled c.write_buffer.ensures.pooled;
     }
 
 -- A write failed: the buffer wasn't written, or the step behind it failed.
@@ -191,3 +196,15 @@ returns-clause-above g c =
 
 pub returns-clause-idle : goal.returns-clause-idle
 returns-clause-idle g c = λ _. c.loop-self.invariant.advanced.counted
+
+-- The pool has what all of them gave.
+
+pub returns-in_err-write_buffer-clause-pooled : goal.returns-in_err-write_buffer-clause-pooled
+returns-in_err-write_buffer-clause-pooled g c =
+    pools_further c.args.self.now c.loop-self.self c.write_buffer.new.self 0 c.loop-self.invariant.pooled c.write_buffer.ensures.pooled
+
+pub returns-then-synced_end-to-clause-pooled : goal.returns-then-synced_end-to-clause-pooled
+returns-then-synced_end-to-clause-pooled g c = c.loop-self.invariant.pooled
+
+pub returns-clause-pooled : goal.returns-clause-pooled
+returns-clause-pooled g c = c.loop-self.invariant.pooled

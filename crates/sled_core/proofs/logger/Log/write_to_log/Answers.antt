@@ -19,6 +19,7 @@ use Rattle.sled_core.proofs.Line.LogSpans.{same_buffers, written_starts}
 use Rattle.sled_core.proofs.Line.LogWrites.{segments_written}
 use Rattle.sled_core.proofs.Line.Advanced.{same_synced}
 use Rattle.sled_core.proofs.Line.Outcomes.{either, on_err, on_ok}
+use Rattle.sled_core.proofs.Line.Pools.{pools_still}
 use Rattle.sled_core.proofs.logger.Log.write_to_log.Given as given
 use Rattle.sled_core.proofs.logger.Log.write_to_log.Goals as goal
 
@@ -145,3 +146,6 @@ returns-clause-ledger g c =
     on_ok c.write_buffer.result _ _
     (λ is. is ∙ ap (λ (m : Option ℤ). written_ledger size m (ledger_of old)) (sym one.2) ∙ ap (λ (l : List BufferAt). ledger_behind size l (ledger_of old)) (sym one.1))
     (c.write_buffer.ensures.ledger r.segment r.among)
+
+pub returns-in-Some-clause-pooled : goal.returns-in-Some-clause-pooled
+returns-in-Some-clause-pooled g c = pools_still c.args.self.now
