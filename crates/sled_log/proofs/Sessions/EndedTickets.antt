@@ -332,7 +332,7 @@ module _ {D C : Type 0} (view : D → DeviceView) (sum : List ℕ → ℕ) (old 
         after = now given_back pages mid.due
 
         pub back_beside : KeepsBeside log given_back
-        back_beside = record { config = refl; segments = refl; reserved = refl; fault = refl; pins = refl; marks = refl; batches = refl }
+        back_beside = record { config = refl; segments = refl; reserved = refl; fault = refl; pins = refl; marks = refl; batches = refl; pool = refl }
 
         -- what the log fitted it fits
         pub back_pinned : pins_of log ≡ pins_of old.log → pins_of log - 1 ≡ length (open_messages (set k.tickets n None)) + length at.unmarked

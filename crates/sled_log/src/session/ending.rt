@@ -51,25 +51,9 @@ pub(crate) fn complete<D: CrashDevice, C: Checksum>(
     let size = reservation.reservation_len() as u64;
     match opened.log.complete(reservation) {
         Ok((place, pointer)) => {
-            apply(
-                opened.alloc,
-                &mut opened.pages,
-                kind,
-                page,
-                (place, pointer, size),
-            );
-            let new = CacheInfo {
-                lsn: place,
-                pointer,
-                log_size: size,
-            };
-            let due = Due {
-                kind,
-                page,
-                old,
-                new,
-                guard,
-            };
+            let entry = (place, pointer, size);
+            apply(opened.alloc, &mut opened.pages, kind, page, entry);
+            let due = Due::for_entry(kind, page, old, entry, guard);
             settle(opened, due);
             Reply::Done(place, pointer)
         }

@@ -33,6 +33,26 @@ pub(crate) struct Due {
 }
 
 impl Due {
+    /// Returns the mark of a message that stands in the table as this entry.
+    pub(crate) fn for_entry(
+        kind: LogKind,
+        page: PageId,
+        old: Vec<CacheInfo>,
+        entry: Entry,
+        guard: Guard,
+    ) -> Due
+        ensures { result ≡ record { kind = kind; page = page; old = old; new = told_of entry; guard = guard } }
+    {
+        let new = told(&entry);
+        Due {
+            kind,
+            page,
+            old,
+            new,
+            guard,
+        }
+    }
+
     /// Gives the mark up, with its pin.
     pub(crate) fn abandon(self) {
         let Due {

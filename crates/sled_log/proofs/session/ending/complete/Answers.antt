@@ -5,6 +5,7 @@ use Rattle.sled_codec.specs.Snapshots.{Entry, page_of}
 use Rattle.std.specs.List.{slice_get}
 use Rattle.std.specs.Int.{w64, cast_signed, cast_unsigned}
 use Rattle.std.proofs.lemmas.Bool.{false≢true}
+use Rattle.sled_store.specs.Marks.{told_of}
 use Rattle.sled_core.specs.Fits.{Awaits, KeepsAll, KeepsBuffers, fault_of, given_up_of, machine_at, open_places, pins_of}
 use Rattle.sled_core.specs.Among.{AreAmong}
 use Rattle.sled_core.specs.Keeps.{SamePosition}
@@ -152,8 +153,9 @@ returns-in-Ok-complete-clause-step g c = λ none k at asked.
     let entry : Entry = (cast_signed w64 (cast_unsigned w64 c.in-Ok-complete.place), c.in-Ok-complete.pointer, c.reservation_len-size.result) in
     let same : KeepsAll old.log new = subst (λ x. KeepsAll x new) took.log c.complete.ensures.same in
     let whole : fault_of old.log ≡ None = sym (ap (λ x. fault_of x) took.log) ∙ done.answers in
-    let due : Due = record { kind = c.in-Some.field-0.kind; page = c.in-Some.field-0.page; old = c.in-Ok.old; new = record { lsn = entry.0; pointer = entry.1; log_size = entry.2 }; guard = c.in-Some.field-0.guard } in
-    let told : due.old.items ≡ replacing c.in-Some.field-0.kind (told_state old.origin.size old.origin.floor c.in-Some.field-0.page (slice_get old.pages.items c.in-Some.field-0.page)) = c.in-Ok.ensures.former whole c.in-Some.field-0 took.there in
+    let due : Due = c.for_entry-due.result in
+    let made = c.for_entry-due.ensures in
+    let told : due.old.items ≡ replacing c.in-Some.field-0.kind (told_state old.origin.size old.origin.floor c.in-Some.field-0.page (slice_get old.pages.items c.in-Some.field-0.page)) = ap (λ (d : Due). d.old.items) made ∙ c.in-Ok.ensures.former whole c.in-Some.field-0 took.there in
     room_does view sum given old c.room_for.ensures.kept k c.args.number _
     (completes view sum old k open_there c.args.number m one.1 mid c.in-Some.field-0 took none_due new c.apply.new.pages
     (record { synced = same.synced; noted = same.noted; pins = same.pins; account = same.account }) same.fault (c.complete.ensures.ends.machine ∙ ap (λ x. machine_at x) took.log)
@@ -163,5 +165,5 @@ returns-in-Ok-complete-clause-step g c = λ none k at asked.
     (subst (λ x. TakesOut m.place (open_places x) (open_places new)) took.log (done.ends.opens m.place says.0))
     same.config (subst (λ x. AreAmong (given_up_of new) (given_up_of x)) took.log c.complete.ensures.given_up) (subst (λ x. HasNoOther x new) took.log (record { heads = c.complete.ensures.ends.heads; fillings = c.complete.ensures.ends.fillings })) one.2 _ c.in-Ok-complete.pointer (sym place, pointer) gives.0 gives.1 gives.2 entry (λ i. (sym place i, pointer i, size i))
     (c.apply.ensures ∙ ap (λ x. applied_to (map page_of x.items) c.in-Some.field-0.kind c.in-Some.field-0.page entry) took.pages)
-    due refl refl refl told
+    due (ap (λ (d : Due). d.kind) made) (ap (λ (d : Due). d.page) made) (ap (λ (d : Due). d.new) made) told
     c.settle.new.opened c.settle.result c.settle.ensures.rest c.settle.ensures.beside c.settle.ensures.settles)
