@@ -147,6 +147,7 @@ pub mod WithoutBlob
 pub mod WriteHides
 pub mod WriteMarks
 pub mod Writes
+pub mod Wrote
 pub mod WrittenHides
 pub mod WrittenSlots
 pub mod WrittenTickets

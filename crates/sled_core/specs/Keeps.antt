@@ -13,16 +13,15 @@ use Rattle.sled_core.specs.declared.logger.Log.{Log}
 use Rattle.sled_core.specs.declared.reservation.Reservation.{Reservation}
 use Rattle.sled_core.specs.Fits.{KeepsTickets, Awaits, NoneSealed, buffers_of, config_of, current_begin, current_of, device_of, fault_of, kept_batches}
 use Rattle.sled_core.specs.Fits.{line_of, machine_at, pooled_of}
-use Rattle.sled_core.specs.Fits.{ledger_for, ledger_of, next_place, noted_in, pins_of, position_of, position_sealed, position_with, reserved_end}
+use Rattle.sled_core.specs.Fits.{next_place, noted_in, pins_of, position_of, position_sealed, position_with, reserved_end}
 use Rattle.sled_core.specs.Fits.{segment_size_of, start_of, synced_end, waiting_of}
 use Rattle.sled_core.specs.invariants.Fits.{Holds}
 use Rattle.sled_store.specs.Outdated.{NamesBlob}
 use Rattle.sled_store.specs.SegmentStates.{Machine, next_slot, slot_at}
-use Rattle.sled_core.specs.Ledger.{ledger_behind}
 use Rattle.sled_core.specs.Marked.{BeginsMarked}
 use Rattle.sled_core.specs.Positions.{Position, is_short}
 use Rattle.sled_core.specs.Tickets.{place_of}
-use Rattle.sled_core.specs.Waiting.{BufferAt, BufferStart, front_below, not_below}
+use Rattle.sled_core.specs.Waiting.{BufferAt, BufferStart}
 use Rattle.sled_core.specs.Recoverable.{RecoverableIfOwn}
 use Rattle.sled_core.specs.OpenBatches.{not_whole}
 use Rattle.sled_core.specs.invariants.Running.{Fits}
@@ -182,13 +181,6 @@ start_for to log = if nat_lt (current_begin log) to then start_sealed log else s
 abbrev pub position_for : {D C : Type 0} → ℕ → Log D C → Machine → Position
 position_for to log m = if nat_lt (current_begin log) to then position_sealed log m else position_with log m
 
--- A call wrote the buffers that begin below a place, and no others.
-pub record LeavesAbove {D C : Type 0} (sum : List ℕ → ℕ) (to : ℕ) (old new : Log D C) : Type 0 where
-  pub left : waiting_of new ≡ not_below to (sealed_for sum to old)
-  pub start : start_of new ≡ start_for to old
-  pub position : (m : Machine) → position_with new m ≡ position_for to old m
-  pub ledger : ledger_of new ≡ ledger_behind (segment_size_of old) (front_below to (sealed_for sum to old)) (ledger_for to old)
-
 -- It failed: nothing was sealed and written, or those that begin below the place are sealed, and so many at the front are written.
 abbrev pub LeavesSome : {D C : Type 0} → (List ℕ → ℕ) → ℕ → Log D C → Log D C → Type 0
 LeavesSome sum to old new =
@@ -198,7 +190,6 @@ LeavesSome sum to old new =
 -- What a call that writes up to a place seals and writes.
 pub record WritesBelow {T D C : Type 0} (sum : List ℕ → ℕ) (result : Result T Error) (to : ℕ) (old new : Log D C) : Type 0 where
   pub seals : SealsBelow result to old new
-  pub above : OnOk result (LeavesAbove sum to old new)
   pub some : OnErr result (LeavesSome sum to old new)
   -- a segment that was begun has the last stable place for its mark
   pub marked : BeginsMarked sum old new

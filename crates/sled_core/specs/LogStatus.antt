@@ -6,13 +6,15 @@ use Rattle.sled_codec.specs.History.{Batch}
 use Rattle.sled_store.specs.SegmentStates.{Machine}
 use Rattle.sled_core.specs.Account.{Account, account_of}
 use Rattle.sled_core.specs.declared.logger.Log.{Log}
-use Rattle.sled_core.specs.Fits.{fault_of, machine_at, noted_in, pins_of, position_of, reserved_end, start_of, synced_end, waiting_of}
+use Rattle.sled_core.specs.Fits.{fault_of, ledger_for, ledger_of, machine_at, noted_in, pins_of, position_of, position_with, reserved_end, segment_size_of}
+use Rattle.sled_core.specs.Fits.{start_of, synced_end, waiting_of}
 use Rattle.sled_core.specs.Freeing.{Ledger}
+use Rattle.sled_core.specs.Keeps.{position_for, sealed_for, start_for}
 use Rattle.sled_core.specs.Ledger.{ledger_behind}
 use Rattle.sled_core.specs.OpenBatches.{not_whole}
 use Rattle.sled_core.specs.Positions.{Position}
 use Rattle.sled_core.specs.Stable.{first_begin}
-use Rattle.sled_core.specs.Waiting.{BufferAt, BufferStart, front_below, not_below}
+use Rattle.sled_core.specs.Waiting.{BufferAt, BufferStart, front_below, not_below, one_pending, without_pending}
 
 -- Where a log stands.
 pub record LogStatus : Type 0 where
@@ -50,14 +52,27 @@ status_of log = record {
 abbrev pub rolled : List BufferAt → BufferStart → Machine → LogStatus → LogStatus
 rolled buffers start m s = record s { waiting = buffers; start = start; machine = m }
 
--- those of them are written that begin below what was reserved, from these slots and marks on; and the next record may begin there, by which slots are left
-abbrev pub flushed : ℕ → List BufferAt → BufferStart → Ledger → (Machine → Position) → LogStatus → LogStatus
-flushed size buffers start l position s = record s {
-  position = position (ledger_behind size (front_below s.reserved buffers) l).machine;
-  machine = (ledger_behind size (front_below s.reserved buffers) l).machine;
-  waiting = not_below s.reserved buffers;
+-- Some of the sealed buffers are written, from these slots and marks on, and these are left: all before the first of those is on the device, or before the current
+-- one, which begins there; and the next record may begin there, by which slots are left.
+abbrev pub wrote : ℕ → List BufferAt → List BufferAt → BufferStart → Ledger → (Machine → Position) → LogStatus → LogStatus
+wrote size written left start l position s = record s {
+  position = position (ledger_behind size written l).machine;
+  machine = (ledger_behind size written l).machine;
+  synced = first_begin left start;
+  noted = not_whole (first_begin left start) s.noted;
+  waiting = left;
   start = start;
-  synced = first_begin (not_below s.reserved buffers) start;
-  noted = not_whole (first_begin (not_below s.reserved buffers) start) s.noted;
-  account = (ledger_behind size (front_below s.reserved buffers) l).account;
+  account = (ledger_behind size written l).account;
 }
+
+-- where a log stands once all that begins below a place is sealed and written
+abbrev pub status_below : {D C : Type 0} → (List ℕ → ℕ) → ℕ → Log D C → LogStatus
+status_below sum to log =
+    wrote (segment_size_of log) (front_below to (sealed_for sum to log)) (not_below to (sealed_for sum to log)) (start_for to log) (ledger_for to log)
+    (position_for to log) (status_of log)
+
+-- where it stands once the i-th of the buffers is written that can be
+abbrev pub status_behind : {D C : Type 0} → ℕ → Log D C → LogStatus
+status_behind i log =
+    wrote (segment_size_of log) (one_pending i (waiting_of log)) (without_pending i (waiting_of log)) (start_of log) (ledger_of log) (position_with log)
+    (status_of log)

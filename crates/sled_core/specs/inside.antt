@@ -16,6 +16,7 @@ pub mod LaidBytes
 pub mod LaidView
 pub mod Lasting
 pub mod Lending
+pub mod LeavesAbove
 pub mod LogFacts
 pub mod LogFile
 pub mod LogSegments

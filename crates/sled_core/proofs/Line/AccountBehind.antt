@@ -1,5 +1,5 @@
 -- The slots and the marks of a log are the same where nothing of it is another; and which of its buffers are written.
-use Rattle.std.proofs.Common.{◌≡◌, ◌∙◌, ◌<◌, ap, sym, refl, arith, ℕ, zero, suc, Bool, true, false, nat_lt, if◌then◌else◌, List, [], ◌∷◌, ◌++◌, length, length-append, take, drop, append_assoc, Result, Ok, Err, OnOk}
+use Rattle.std.proofs.Common.{◌≡◌, ◌∙◌, ◌<◌, ap, sym, refl, arith, ℕ, zero, suc, Bool, true, false, nat_lt, if◌then◌else◌, List, [], ◌∷◌, ◌++◌, length, length-append, take, drop, append_assoc}
 use Rattle.std.proofs.lemmas.List.{append-nil}
 use Rattle.std.proofs.lemmas.Bool.Decides.{nat_tests}
 use Rattle.sled_core.specs.declared.logger.Log.{Log}
@@ -64,8 +64,3 @@ module _ (to n : ℕ) (old mid new : List BufferAt) (b : BufferAt) (gone : mid �
 -- Where those that are left begin at the place or behind it, all were written that begin below it.
 pub front_whole : (to : ℕ) (done old new : List BufferAt) → BeginFrom to new → front_below to old ≡ done ++ front_below to new → done ≡ front_below to old
 front_whole to done old new begin is = sym (is ∙ ap (λ (l : List BufferAt). done ++ l) (front_none to new begin) ∙ append-nil done)
-
--- Two things are so of a call that succeeded, and what follows of both.
-pub on_ok_both : {T E : Type 0} (r : Result T E) (A B P : Type 0) → (A → B → P) → OnOk r A → OnOk r B → OnOk r P
-on_ok_both (Ok x) A B P f a b = f a b
-on_ok_both (Err e) A B P f a b = tt

@@ -9,9 +9,10 @@ use Rattle.sled_core.specs.declared.iobuf.Reserved.{Reserved}
 use Rattle.sled_core.specs.declared.iobuf.ReservationState.{ReservationState}
 use Rattle.sled_core.specs.declared.logger.Log.{Log}
 use Rattle.sled_core.specs.Fits.{KeepsBuffers, buffers_of, current_begin, current_of, is_moved, ledger_for, ledger_of, ledger_sealed, line_of, machine_at, position_sealed, position_with, segment_size_of, start_behind, start_of, waiting_behind, waiting_of}
-use Rattle.sled_core.specs.Keeps.{LeavesAbove, LeavesSome, position_for, sealed_for, start_for, start_sealed}
+use Rattle.sled_core.specs.Keeps.{LeavesSome, position_for, sealed_for, start_for, start_sealed}
 use Rattle.sled_core.specs.Ledger.{ledger_behind}
 use Rattle.sled_core.specs.Positions.{is_short, position_in}
+use Rattle.sled_core.specs.inside.LeavesAbove.{LeavesAbove}
 use Rattle.sled_core.specs.inside.Turned.{ended_now, next_line, promoted, reserved_now, written_now}
 use Rattle.sled_core.specs.Waiting.{BufferAt, BufferStart, at_last, closed_now, last_of, front_below, not_below, sealed_now, spans, start_in, unwritten}
 use Rattle.sled_core.proofs.Line.Below.{BeginFrom, IsFirst}

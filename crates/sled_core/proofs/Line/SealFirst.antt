@@ -18,8 +18,9 @@ use Rattle.sled_core.specs.inside.Fits.{AddsBuffers}
 use Rattle.sled_core.specs.Fits.{IsUnchanged, IsUsedUp, IsUsedUpBelow, KeepsAll, NoneSealed, buffers_of, current_begin, current_of, device_of, fault_of, holding_below, ledger_for, ledger_of, ledger_sealed, machine_at, pins_of, position_of, position_sealed, position_with, reserved_end, sealing_end, segment_size_of, start_of, synced_end, waiting_of, writing_below, writing_some}
 use Rattle.sled_core.specs.Fronts.{CameTo, FailedFront, IsOnTheWay, WroteFront, synced_writes}
 use Rattle.sled_core.specs.Freeing.{Ledger}
-use Rattle.sled_core.specs.Keeps.{FailedStep, IsSpared, KeepsLog, KeepsWriting, LeavesAbove, LeavesSome, WritesBelow, sealed_for, start_sealed}
+use Rattle.sled_core.specs.Keeps.{FailedStep, IsSpared, KeepsLog, KeepsWriting, LeavesSome, WritesBelow, sealed_for, start_sealed}
 use Rattle.sled_core.specs.Ledger.{ledger_behind, writings}
+use Rattle.sled_core.specs.inside.LeavesAbove.{LeavesAbove}
 use Rattle.sled_core.specs.Marked.{BeginsMarked}
 use Rattle.sled_core.specs.Positions.{Position, is_short}
 use Rattle.sled_core.specs.Waiting.{BufferAt, free_below, held_below, holds_any}
@@ -32,7 +33,7 @@ use Rattle.sled_core.proofs.Holds.Facts.{current_facts}
 use Rattle.sled_core.proofs.Line.HeaderMarks.{none_begun}
 use Rattle.sled_core.proofs.Line.LogSpans.{above_first, leaves_above, left_all, same_buffers, same_for, same_ledger, same_position, same_start, same_with, some_first}
 use Rattle.sled_core.proofs.Line.Lying.{synced_up}
-use Rattle.sled_core.proofs.Line.Outcomes.{answers_used, held_alike, on_done, on_err, on_ok}
+use Rattle.sled_core.proofs.Line.Outcomes.{answers_used, held_alike, on_done, on_err}
 use Rattle.sled_core.proofs.Line.Segments.{line_segments}
 use Rattle.sled_core.specs.Account.{account_of}
 use Rattle.sled_core.proofs.Line.AccountBehind.{front_none, ledger_unchanged}
@@ -131,7 +132,7 @@ module _ {D C : Type 0} (sum : List ℕ → ℕ) (to : ℕ) (old mid : Log D C) 
       (current : current_begin new ≡ current_begin mid) (none : ((b : BufferAt) → Contains (waiting_of mid) b → b.place < to) → OnOk result (NoneSealed new))
       (sound : fault_of old ≡ None) (pins : pins_of mid ≡ pins_of old)
       (one : length (waiting_of mid) ≤ 1 → OnErr result (FailedStep mid new ⊎ (synced_end new ≡ synced_end mid)))
-      (above : OnOk result (LeavesAbove sum to mid new)) (some : OnErr result (LeavesSome sum to mid new)) (marked : BeginsMarked sum old new) where
+      (some : OnErr result (LeavesSome sum to mid new)) (marked : BeginsMarked sum old new) where
     few : NoneSealed old → (length (waiting_of mid) ≤ 1) × ((b : BufferAt) → Contains (waiting_of mid) b → b.place < to)
     few unsealed =
         subst (λ (l : List BufferAt). (length l ≤ 1) × ((b : BufferAt) → Contains l b → b.place < to)) (sym waiting)
@@ -149,7 +150,6 @@ module _ {D C : Type 0} (sum : List ℕ → ℕ) (to : ℕ) (old mid : Log D C) 
         none = λ unsealed. none (few unsealed).1;
         err = λ unsealed. on_err result _ _ since (one (few unsealed).0);
       };
-      above = on_ok result (LeavesAbove sum to mid new) (LeavesAbove sum to old new) (above_first sum to old mid new below (sealed_past begins) waiting start with_slots ledger size) above;
       some = on_err result (LeavesSome sum to mid new) (LeavesSome sum to old new) (some_first sum to old mid new below (sealed_past begins) waiting start with_slots ledger size) some;
       marked = marked;
     }
@@ -157,33 +157,35 @@ module _ {D C : Type 0} (sum : List ℕ → ℕ) (to : ℕ) (old mid : Log D C) 
 -- So it is where the current buffer begins behind the place.
 pub writes_still : {T D C : Type 0} (sum : List ℕ → ℕ) (to : ℕ) (old new : Log D C) (result : Result T Error) → to ≤ current_begin old → current_begin new ≡ current_begin old → (((b : BufferAt) → Contains (waiting_of old) b → b.place < to) → OnOk result (NoneSealed new))
     → (length (waiting_of old) ≤ 1 → OnErr result (FailedStep old new ⊎ (synced_end new ≡ synced_end old)))
-    → OnOk result (LeavesAbove sum to old new) → OnErr result (LeavesSome sum to old new) → BeginsMarked sum old new → WritesBelow sum result to old new
-writes_still sum to old new result sealed current none one above some marked = record {
+    → OnErr result (LeavesSome sum to old new) → BeginsMarked sum old new → WritesBelow sum result to old new
+writes_still sum to old new result sealed current none one some marked = record {
   seals = record {
     held = λ held. omega (arith, sealed, current);
     none = λ unsealed. none (λ b there. absurd (in_nothing b (subst (λ (l : List BufferAt). Contains l b) unsealed there)));
     err = λ unsealed. one (omega (arith, ap length unsealed));
   };
-  above = above;
   some = some;
   marked = marked;
 }
 
 -- All below the place was on the device already: nothing is done.
 
-pub writes_already : {T D C : Type 0} (sum : List ℕ → ℕ) (to : ℕ) (log : Log D C) (x : T) → to ≤ synced_end log → WritesBelow {T = T} sum (Ok x) to log log
-writes_already sum to log x past =
+pub writes_already : {T D C : Type 0} (sum : List ℕ → ℕ) (to : ℕ) (log : Log D C) (x : T) → WritesBelow {T = T} sum (Ok x) to log log
+writes_already sum to log x = record {
+  seals = record { held = λ held. absurd held; none = λ unsealed. unsealed; err = λ unsealed. tt };
+  some = tt;
+  marked = none_begun sum log log refl (λ h there. there) (λ f there. there);
+}
+
+pub above_already : {D C : Type 0} (sum : List ℕ → ℕ) (to : ℕ) (log : Log D C) → to ≤ synced_end log → LeavesAbove sum to log log
+above_already sum to log past =
     let size : ℕ = segment_size_of log in
     let first : SegmentView = segment_view log.segments.first in
     let behind : List SegmentView = map segment_view log.segments.behind.items in
     let up = synced_up log in
-    record {
-      seals = record { held = λ held. absurd held; none = λ unsealed. unsealed; err = λ unsealed. tt };
-      above = leaves_above sum to log log (omega (arith, past, up)) refl (left_all to (waiting_of log)) (line_past size log.segments.first.site.place to first behind (line_segments log) past) (λ m. refl)
-          (ap (λ (l : List BufferAt). ledger_behind size l (ledger_of log)) (sym (front_none to (waiting_of log) (line_past size log.segments.first.site.place to first behind (line_segments log) past))));
-      some = tt;
-      marked = none_begun sum log log refl (λ h there. there) (λ f there. there);
-    }
+    let none = line_past size log.segments.first.site.place to first behind (line_segments log) past in
+    leaves_above sum to log log (omega (arith, past, up)) refl (left_all to (waiting_of log)) none (λ m. refl)
+    (ap (λ (l : List BufferAt). ledger_behind size l (ledger_of log)) (sym (front_none to (waiting_of log) none)))
 
 -- the current buffer isn't sealed for that
 pub unused_already : {D C : Type 0} (to : ℕ) (log : Log D C) → to ≤ synced_end log → IsUsedUpBelow log to → ⊥
@@ -195,10 +197,10 @@ unused_already to log past used =
 -- What is so of a call is so of another that answers for it.
 
 pub writes_ok : {T S D C : Type 0} (sum : List ℕ → ℕ) (to : ℕ) (old new : Log D C) (x : T) (y : S) → WritesBelow {T = T} sum (Ok x) to old new → WritesBelow {T = S} sum (Ok y) to old new
-writes_ok sum to old new x y writes = record { seals = record { held = λ held. absurd held; none = writes.seals.none; err = λ unsealed. tt }; above = writes.above; some = tt; marked = writes.marked }
+writes_ok sum to old new x y writes = record { seals = record { held = λ held. absurd held; none = writes.seals.none; err = λ unsealed. tt }; some = tt; marked = writes.marked }
 
 pub writes_err : (T S : Type 0) {D C : Type 0} (sum : List ℕ → ℕ) (to : ℕ) (old new : Log D C) (e : Error) → WritesBelow {T = T} sum (Err e) to old new → WritesBelow {T = S} sum (Err e) to old new
-writes_err T S sum to old new e writes = record { seals = record { held = λ held. writes.seals.held (held_alike T S e held); none = λ unsealed. tt; err = writes.seals.err }; above = tt; some = writes.some; marked = writes.marked }
+writes_err T S sum to old new e writes = record { seals = record { held = λ held. writes.seals.held (held_alike T S e held); none = λ unsealed. tt; err = writes.seals.err }; some = writes.some; marked = writes.marked }
 
 -- The current buffer could not be sealed: nothing was done.
 pub unchanged_performs : {D C : Type 0} (old new : Log D C) → IsUnchanged old new → (trace : D → Trace) (es : List Event) → Performs es (trace (device_of old)) (trace (device_of new))
@@ -208,7 +210,6 @@ unchanged_performs {D} {C} old new same trace es = performs_nothing es _ _ (ap (
 pub writes_none : {T D C : Type 0} (sum : List ℕ → ℕ) (to : ℕ) (log : Log D C) (e : Error) → (IsHeld {T = T} (Err e) → ⊥) → WritesBelow {T = T} sum (Err e) to log log
 writes_none sum to log e never = record {
   seals = record { held = λ held. absurd (never held); none = λ unsealed. tt; err = λ unsealed. inr refl };
-  above = tt;
   some = inl (refl, refl);
   marked = none_begun sum log log refl (λ h there. there) (λ f there. there);
 }
@@ -245,7 +246,8 @@ module _ {D C : Type 0} (trace : D → Trace) (sum : List ℕ → ℕ) (to : ℕ
     pub marked : BeginsMarked sum old mid
     pub writes : (new : Log D C) (result : Result (Unit {0}) Error) → current_begin new ≡ current_begin mid → (((b : BufferAt) → Contains (waiting_of mid) b → b.place < to) → OnOk result (NoneSealed new))
         → (length (waiting_of mid) ≤ 1 → OnErr result (FailedStep mid new ⊎ (synced_end new ≡ synced_end mid)))
-        → OnOk result (LeavesAbove sum to mid new) → OnErr result (LeavesSome sum to mid new) → BeginsMarked sum old new → WritesBelow sum result to old new
+        → OnErr result (LeavesSome sum to mid new) → BeginsMarked sum old new → WritesBelow sum result to old new
+    pub above : (new : Log D C) → LeavesAbove sum to mid new → LeavesAbove sum to old new
     pub fronts : (new : Log D C) → WroteFront trace sum to mid new → WroteFront trace sum to old new
 
   pub sealed_already : (log : Log D C) → fault_of log ≡ None → to ≤ reserved_end log → to ≤ current_begin log → SealedFor log log
@@ -260,7 +262,8 @@ module _ {D C : Type 0} (trace : D → Trace) (sum : List ℕ → ℕ) (to : ℕ
     holding = refl;
     unused = λ used. let below = used.0 in omega (arith, past, below);
     marked = none_begun sum log log refl (λ h there. there) (λ f there. there);
-    writes = λ new result current none one above some marked. writes_still sum to log new result past current none one above some marked;
+    writes = λ new result current none one some marked. writes_still sum to log new result past current none one some marked;
+    above = λ new above. above;
     fronts = λ new front. front;
   }
 
@@ -279,9 +282,10 @@ module _ {D C : Type 0} (trace : D → Trace) (sum : List ℕ → ℕ) (to : ℕ
     holding = holding_more sum to old mid reserved adds;
     unused = λ used. unused used.1;
     marked = marked;
-    writes = λ new result current none one above some known.
+    writes = λ new result current none one some known.
         writes_sealed sum to old mid reserved new result below begins waiting start same.synced with_slots ledger keeps.position.size current none fault same.pins
-        one above some known;
+        one some known;
+    above = λ new. above_first sum to old mid new below (sealed_past sum to old mid reserved begins) waiting start with_slots ledger keeps.position.size;
     fronts = λ new front.
         front_first sum to old mid reserved adds new below (sealed_past sum to old mid reserved begins) waiting start
         (ap (λ (x : RunningConfig D C). x.device) same.config) with_slots ledger keeps.position.size fault same.pins front;

@@ -87,9 +87,8 @@ impl<D: Device, C: Checksum> Log<D, C> {
         ensures answers { HeldAnswers result (held_at C.sum_of self.old (pos place)) ⊥ None (fault_of self.new)
             (D.faults (device_of self.old)) (D.faults (device_of self.new)) }
         ensures start { (start_of self.new ≡ start_of self.old) × ((m : Machine) → position_with self.new m ≡ position_with self.old m) }
-        ensures without { OnOk result (waiting_of self.new ≡ without_around place (waiting_of self.old)) }
-        ensures ledger { OnOk result (ledger_of self.new
-            ≡ ledger_behind (segment_size_of self.old) (one_around place (waiting_of self.old)) (ledger_of self.old)) }
+        ensures without { OnOk result ((waiting_of self.new ≡ without_around place (waiting_of self.old))
+            × (ledger_of self.new ≡ ledger_behind (segment_size_of self.old) (one_around place (waiting_of self.old)) (ledger_of self.old))) }
         ensures same { OnErr result (((waiting_of self.new ≡ waiting_of self.old) × WroteNone D.trace self.old self.new
             × (ledger_of self.new ≡ ledger_of self.old))
             ⊎ (WroteThenFailed D.trace (one_around place (waiting_of self.old)) (without_around place (waiting_of self.old)) self.old self.new

@@ -18,12 +18,13 @@ ghost use Rattle.sled_core.specs.Begun.{SegmentView};
 ghost use Rattle.sled_core.specs.Buffers.{first_open_in, open_in};
 ghost use Rattle.sled_core.specs.Causes.{Answers, FaultOrMemory, HeldAnswers, OnDone};
 ghost use Rattle.sled_core.specs.invariants.Fits.{Holds};
-ghost use Rattle.sled_core.specs.Fits.{IsUnchanged, IsUsedUp, IsUsedUpBelow, IsWritten, KeepsAll, NoneSealed, buffers_of, config_of, current_begin, current_of, device_of, fault_of, fillings_of, flushing, heads_of, held_len, holding_below, ledger_for, ledger_of, ledger_sealed, line_of, machine_at, pending_of, position_with, reserved_end, sealing_end, segment_size_of, stable_end, start_of, synced_end, waiting_of, writing_below, writing_pending};
-ghost use Rattle.sled_core.specs.Fronts.{CameTo, IsOnTheWay, WroteFront, WroteNone, WroteThenFailed, synced_writes, syncs};
-ghost use Rattle.sled_core.specs.Keeps.{FailedStep, HoldsFast, KeepsLog, KeepsWriting, LeavesAbove, WritesBelow, position_for, sealed_for, start_for, start_sealed};
-ghost use Rattle.sled_core.specs.Ledger.{ledger_behind, ledger_step, stepped_ledger, written_ledger};
-ghost use Rattle.sled_core.specs.LogStatus.{flushed, rolled, status_of};
+ghost use Rattle.sled_core.specs.Fits.{IsUnchanged, IsUsedUp, IsUsedUpBelow, IsWritten, KeepsAll, NoneSealed, buffers_of, config_of, current_begin, current_of, device_of, fault_of, fillings_of, flushing, heads_of, held_len, holding_below, ledger_of, ledger_sealed, line_of, machine_at, pending_of, position_with, reserved_end, sealing_end, segment_size_of, stable_end, start_of, synced_end, waiting_of, writing_below, writing_pending};
+ghost use Rattle.sled_core.specs.Fronts.{CameTo, IsOnTheWay, WroteFront, WroteThenFailed, synced_writes, syncs};
+ghost use Rattle.sled_core.specs.Keeps.{FailedStep, HoldsFast, KeepsLog, KeepsWriting, WritesBelow, start_sealed};
+ghost use Rattle.sled_core.specs.Ledger.{ledger_step, stepped_ledger, written_ledger};
+ghost use Rattle.sled_core.specs.LogStatus.{rolled, status_behind, status_below, status_of};
 ghost use Rattle.sled_core.specs.Marked.{BeginsMarked};
+ghost use Rattle.sled_core.specs.inside.LeavesAbove.{LeavesAbove};
 ghost use Rattle.sled_core.specs.inside.Marked.{JoinsBelow, KeepsSegment};
 ghost use Rattle.sled_core.specs.inside.OneWritten.{KeepsOne, WritesNone, WroteOne};
 ghost use Rattle.sled_core.specs.invariants.Running.{Fits};
@@ -60,9 +61,7 @@ impl<D: Device, C: Checksum> Log<D, C> {
         requires { i < pending_of self.old }
         ensures calls { OnOk result (D.trace (device_of self.new) ≡ after_all (writing_pending self.old i) (D.trace (device_of self.old))) }
         ensures at_most { Performs (writing_pending self.old i) (D.trace (device_of self.old)) (D.trace (device_of self.new)) }
-        ensures written { OnOk result (waiting_of self.new ≡ without_pending i (waiting_of self.old)) }
-        ensures ledger { OnOk result (ledger_of self.new
-            ≡ ledger_behind (segment_size_of self.old) (one_pending i (waiting_of self.old)) (ledger_of self.old)) }
+        ensures status { OnOk result (status_of self.new ≡ status_behind i self.old) }
         ensures keeps { KeepsWriting D.trace C.sum_of self.old self.new }
         ensures start { (start_of self.new ≡ start_of self.old) × ((m : Machine) → position_with self.new m ≡ position_with self.old m) }
         ensures heads { AreAmong (heads_of self.new) (heads_of self.old) }
@@ -146,9 +145,7 @@ impl<D: Device, C: Checksum> Log<D, C> {
     /// where it was after each of them, but where the device failed as segments came free: then all may be written.
     pub fn flush(&mut self) -> Result<usize>
         ensures answer { IfOk result (λ n. stable_end self.new ≡ stable_end self.old + n) }
-        ensures status { OnOk result (status_of self.new
-            ≡ flushed (segment_size_of self.old) (sealed_for C.sum_of (reserved_end self.old) self.old) (start_for (reserved_end self.old) self.old)
-            (ledger_for (reserved_end self.old) self.old) (position_for (reserved_end self.old) self.old) (status_of self.old)) }
+        ensures status { OnOk result (status_of self.new ≡ status_below C.sum_of (reserved_end self.old) self.old) }
         ensures synced { OnOk result (SyncsAll self.old self.new) }
         ensures records { (H : History) → HoldsFast D.trace C.sum_of self.old H → OnOk result (IsWritten D.trace C.sum_of self.new H) }
         ensures calls { OnDone result (D.trace (device_of self.new) ≡ after_all (flushing C.sum_of self.old) (D.trace (device_of self.old))) }
@@ -192,6 +189,7 @@ impl<D: Device, C: Checksum> Log<D, C> {
         ensures answers { HeldAnswers result (holding_below C.sum_of self.old to) (IsUsedUpBelow self.old to) None (fault_of self.new)
             (D.faults (device_of self.old)) (D.faults (device_of self.new)) }
         ensures idle { writing_below C.sum_of self.old to ≡ [] → D.faults (device_of self.new) ≡ D.faults (device_of self.old) }
+        ensures above { OnOk result (LeavesAbove C.sum_of to self.old self.new) }
         ensures buffers { WritesBelow C.sum_of result to self.old self.new }
         ensures came { OnErr result (CameTo D.trace C.sum_of to self.old self.new) }
         ensures pooled { PoolsSome self.old self.new }
@@ -283,7 +281,6 @@ impl<D: Device, C: Checksum> Log<D, C> {
         requires ready { IsReadyIn (line_of self.old) n k }
         ensures line { (v : SegmentView) → slice_get (line_of self.old) n ≡ Some v
             → OnOk result (line_of self.new ≡ promoted (segment_size_of self.old) (set (line_of self.old) n (written_now k v))) }
-        ensures same { OnErr result (line_of self.new ≡ line_of self.old) }
         ensures account { (v : SegmentView) → slice_get (line_of self.old) n ≡ Some v
             → OnOk result (account_of self.new ≡ written_account (mark_of k v) (account_of self.old)) }
         ensures machine { machine_at self.new ≡ machine_at self.old }
@@ -293,7 +290,7 @@ impl<D: Device, C: Checksum> Log<D, C> {
         ensures keeps { KeepsOne D.trace C.sum_of self.old self.new }
         ensures answers { Answers result None (fault_of self.new) (D.faults (device_of self.old)) (D.faults (device_of self.new)) }
         ensures refused { UnlessFault result (D.trace (device_of self.old)) (D.trace (device_of self.new)) }
-        ensures unwritten { OnErr result (WroteNone D.trace self.old self.new) }
+        ensures unwritten { OnErr result (WritesNone D.trace self.old self.new) }
         ensures joined { JoinsBelow D.trace C.sum_of self.old self.new }
         ensures pooled { PoolsWith 0 self.old self.new }
     {

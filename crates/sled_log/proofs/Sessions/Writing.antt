@@ -26,8 +26,9 @@ use Rattle.sled_core.specs.Fits.{FirstWaits, IsUsedUp, IsUsedUpBelow, KeepsTicke
 use Rattle.sled_core.specs.Freeing.{Ledger}
 use Rattle.sled_core.specs.Fronts.{CameTo, synced_writes, syncs}
 use Rattle.sled_core.specs.Heads.{HeadAt}
-use Rattle.sled_core.specs.Keeps.{KeepsWriting, LeavesAbove, Preserves, SamePosition, position_for, sealed_for, start_for, start_sealed}
+use Rattle.sled_core.specs.Keeps.{KeepsWriting, Preserves, SamePosition, position_for, sealed_for, start_for, start_sealed}
 use Rattle.sled_core.specs.Ledger.{ledger_behind, writings}
+use Rattle.sled_core.specs.LogStatus.{LogStatus, status_below, status_of}
 use Rattle.sled_core.specs.OpenBatches.{not_whole, stable_below}
 use Rattle.sled_core.specs.OpenPlaces.{first_between}
 use Rattle.sled_core.specs.Positions.{Position, next_segment_at, is_short}
@@ -321,12 +322,12 @@ module _ {D C : Type 0} (log : Log D C) (sum : List ℕ → ℕ) (begun : ℕ) (
 
     -- with these buffers left, these slots and marks, and the next record there
     pub leaves : (reached : ℕ) (waiting : List Span) (start : BufferStart) (fault : Option IoError) (ledger : Ledger) (place : Machine → Position) → spans (waiting_of new) ≡ waiting → start_of new ≡ start → fault_of new ≡ fault
-        → ledger_of new ≡ ledger → ((m : Machine) → position_with new m ≡ place m)
+        → ledger_of new ≡ ledger → position_of new ≡ place (machine_at new)
         → after reached ≡ record { device = now; history = H; acknowledged = reached; floor = f; log = Some (view_flushed l waiting start fault ledger place); due = due }
     leaves reached waiting start fault ledger place left from kept slots lies =
         let synced : synced_end new ≡ first_waiting waiting start = first_seen new ∙ (λ i. first_waiting (left i) (from i)) in
         let noted : noted_in new ≡ not_whole (first_waiting waiting start) (noted_in log) = put.noted ∙ ap (λ n. not_whole n (noted_in log)) synced in
-        let position : position_of new ≡ place ledger.machine = lies (machine_at new) ∙ ap (λ (x : Ledger). place x.machine) slots in
+        let position : position_of new ≡ place ledger.machine = lies ∙ ap (λ (x : Ledger). place x.machine) slots in
         λ i. record {
           device = now;
           history = H;
@@ -437,28 +438,33 @@ module _ {D C : Type 0} (log : Log D C) (sum : List ℕ → ℕ) (begun : ℕ) (
 
       -- What is left of it.
       module _ (new : Log D C) where
-        pub left_seen : LeavesAbove sum to log new → spans (waiting_of new) ≡ left_from to l
-        left_seen above = ap spans above.left ∙ above_seen to (sealed_for sum to log) ∙ ap (spans_from to) sealed_seen
+        pub left_seen : status_of new ≡ status_below sum to log → spans (waiting_of new) ≡ left_from to l
+        left_seen is = ap (λ (s : LogStatus). spans s.waiting) is ∙ above_seen to (sealed_for sum to log) ∙ ap (spans_from to) sealed_seen
 
-        pub synced_seen : LeavesAbove sum to log new → synced_end new ≡ synced_from to l
-        synced_seen above = let waiting = left_seen above in let first = above.start ∙ start_seen in first_seen new ∙ (λ i. first_waiting (waiting i) (first i))
+        starts_seen : status_of new ≡ status_below sum to log → start_of new ≡ start_below to l
+        starts_seen is = ap (λ (s : LogStatus). s.start) is ∙ start_seen
+
+        pub synced_seen : status_of new ≡ status_below sum to log → synced_end new ≡ synced_from to l
+        synced_seen is = let waiting = left_seen is in let first = starts_seen is in first_seen new ∙ (λ i. first_waiting (waiting i) (first i))
 
         -- Where the run stands then.
         module _ (trace : D → Trace) (device now : DeviceView) (H : History) (A f : ℕ) (due : Option DueMark) (put : StaysPut trace sum log new) where
-          pub stable_seen : LeavesAbove sum to log new → stable_end new ≡ stable_from to l
-          stable_seen above =
-              let ends = synced_seen above in
+          pub stable_seen : status_of new ≡ status_below sum to log → stable_end new ≡ stable_from to l
+          stable_seen is =
+              let ends = synced_seen is in
               let noted : noted_in new ≡ not_whole (synced_from to l) (noted_in log) = put.noted ∙ ap (λ n. not_whole n (noted_in log)) ends in
               λ i. stable_below (ends i) (noted i)
 
           pub has_written : AreWhole sum log given_up heads → (n : ℕ) → fault_of log ≡ None → fault_of new ≡ None → (IsUsedUpBelow log to → ⊥) → holding_below sum log to ≡ None → now.trace ≡ after_all its_writings device.trace → now.failures ≡ device.failures
-              → stable_end new ≡ stable_end log + n → to ≤ synced_end new → A ≤ stable_end log → LeavesAbove sum to log new
+              → stable_end new ≡ stable_end log + n → to ≤ synced_end new → A ≤ stable_end log → status_of new ≡ status_below sum to log
               → HasWrittenTo sum size (before trace new device now H A f due put) l to n now (after trace new device now H A f due put (max A (end_below (stable_end new) H)))
-          has_written records n none still unused free made failures answer whole past above =
-              let ends = synced_seen above in
-              let stable = stable_seen above in
+          has_written records n none still unused free made failures answer whole past is =
+              let ends = synced_seen is in
+              let stable = stable_seen is in
               let ledger : ledger_of new ≡ ledger_behind size (front_below to its_buffers) (ledger_below to l) =
-              above.ledger ∙ ap (ledger_behind size (front_below to its_buffers)) (ledger_below_seen log begun tickets given_up heads to) in
+              (λ i. record { machine = (is i).machine; account = (is i).account }) ∙ ap (ledger_behind size (front_below to its_buffers)) (ledger_below_seen log begun tickets given_up heads to) in
+              let lies : position_of new ≡ position_below size to l (machine_at new) =
+              ap (λ (s : LogStatus). s.position) is ∙ below_seen log begun tickets given_up heads to _ ∙ ap (λ (s : LogStatus). position_below size to l s.machine) (sym is) in
               record {
                 sound = none;
                 in_reach = λ less. flush_in (λ used. unused (less, used));
@@ -469,7 +475,7 @@ module _ {D C : Type 0} (log : Log D C) (sum : List ℕ → ℕ) (begun : ℕ) (
                 reaches = omega (arith, whole, ends);
                 more = omega (arith, past, answer, stable);
                 leads =
-                    leaves trace new device now H A f due put (max A (end_below (stable_end new) H)) (left_from to l) (start_below to l) None _ (position_below size to l) (left_seen above) (above.start ∙ start_seen) still ledger (lies_below new above.position)
+                    leaves trace new device now H A f due put (max A (end_below (stable_end new) H)) (left_from to l) (start_below to l) None _ (position_below size to l) (left_seen is) (starts_seen is) still ledger lies
                     ∙ ap (λ reached. record { device = now; history = H; acknowledged = max A (end_below reached H); floor = f; log = Some (view_flushed l (left_from to l) (start_below to l) None (ledger_behind size (front_below to its_buffers) (ledger_below to l)) (position_below size to l)); due = due }) stable;
               }
 
@@ -507,7 +513,7 @@ module _ {D C : Type 0} (log : Log D C) (sum : List ℕ → ℕ) (begun : ℕ) (
               | inr front ↦ (
                   let left : spans (waiting_of new) ≡ drop front.count (sealed_below to l) = ap spans front.left ∙ drop_seen front.count (sealed_for sum to log) ∙ ap (λ (ss : List Span). drop front.count ss) sealed_seen in
                   let start : start_of new ≡ start_below to l = front.start ∙ start_seen in
-                  let lies = lies_below new front.position in
+                  let lies = lies_below new front.position (machine_at new) in
                   let seen = ledger_below_seen log begun tickets given_up heads to in (
                     front.count,
                     record {

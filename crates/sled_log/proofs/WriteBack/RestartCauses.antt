@@ -11,8 +11,7 @@ use Rattle.sled_store.specs.Script.{after_all}
 use Rattle.sled_core.specs.declared.logger.Log.{Log}
 use Rattle.sled_core.specs.Causes.{HeldAnswers}
 use Rattle.sled_core.specs.Fits.{device_of, fault_of, flushing, reserved_end, segment_size_of}
-use Rattle.sled_core.specs.Freeing.{Ledger}
-use Rattle.sled_core.specs.Keeps.{LeavesAbove}
+use Rattle.sled_core.specs.LogStatus.{LogStatus, status_below, status_of}
 use Rattle.sled_core.specs.Recoverable.{LeavesRecoverable, ReadsOnlyOwn}
 use Rattle.sled_core.specs.invariants.Running.{Fits}
 use Rattle.sled_core.proofs.PublicLaws.{fits_leaves, fits_reads_own}
@@ -43,9 +42,9 @@ flush_undamaged T _ held used old new before after answers is = absurd is
 pub can_recover : {D C : Type 0} (trace : D → Trace) (sum : List ℕ → ℕ) (old new : Log D C) (device : D) (H : History) (A end f : ℕ) (U : List Message)
     → segment_size_of new ≡ segment_size_of old → trace device ≡ trace (device_of new)
     → trace device ≡ after_all (flushing sum old) (trace (device_of old))
-    → fault_of old ≡ None → fault_of new ≡ None → LeavesAbove sum (reserved_end old) old new → CanRestart trace sum old H A f U → Fits trace sum new H end f U
+    → fault_of old ≡ None → fault_of new ≡ None → status_of new ≡ status_below sum (reserved_end old) old → CanRestart trace sum old H A f U → Fits trace sum new H end f U
     → CanRecover sum (segment_size_of old) (state_of (trace device)) H end f
-can_recover trace sum old new device H A end f U size same came none still above can fits = record {
+can_recover trace sum old new device H A end f U size same came none still is can fits = record {
   orderly = can.orderly;
   left = subst (λ (t : Trace). LeavesRecoverable sum (segment_size_of old) H end f (state_of t)) (sym same)
       (subst (λ n. LeavesRecoverable sum n H end f (state_of (trace (device_of new)))) size (fits_leaves trace sum new H end f U fits));
@@ -53,7 +52,7 @@ can_recover trace sum old new device H A end f U size same came none still above
     | inl (zeros, low) ↦ subst (λ (t : Trace). ReadsOnlyOwn sum (segment_size_of old) (state_of t)) (sym same)
         (subst (λ n. ReadsOnlyOwn sum n (state_of (trace (device_of new)))) size
         (fits_reads_own trace sum new H end f U fits still zeros
-        (subst (λ z. z ≤ℤ pos f) (sym (ap (λ (l : Ledger). l.account.mark) above.ledger)) low)))
+        (subst (λ z. z ≤ℤ pos f) (sym (ap (λ (s : LogStatus). s.account.mark) is)) low)))
     | inr own ↦ subst (λ (t : Trace). ReadsOnlyOwn sum (segment_size_of old) (state_of t)) (sym came) own
   ];
 }

@@ -10,8 +10,9 @@ use Rattle.sled_core.specs.Account.{Account, account_of}
 use Rattle.sled_core.specs.Causes.{HeldAnswers}
 use Rattle.sled_core.specs.Fits.{IsUsedUpBelow, device_of, fault_of, holding_below, ledger_for, reserved_end, segment_size_of, stable_end, synced_end}
 use Rattle.sled_core.specs.Fronts.{CameTo, ClosedAt, FailedFront, IsIo, IsStepDue, UnlessIo, WroteFront}
-use Rattle.sled_core.specs.Keeps.{LeavesAbove, sealed_for}
+use Rattle.sled_core.specs.Keeps.{sealed_for}
 use Rattle.sled_core.specs.Ledger.{ledger_behind}
+use Rattle.sled_core.specs.LogStatus.{LogStatus, status_below, status_of}
 use Rattle.sled_core.specs.Recoverable.{LeavesRecoverable, RecoverableIfOwn}
 use Rattle.sled_core.specs.Running.{end_below}
 use Rattle.sled_core.specs.Stable.{CloseAnswers, SyncsAll, first_begin, stable_behind}
@@ -34,8 +35,8 @@ close_answers (Err _) held used fault now before after answers = absurd answers
 
 -- By how much the stable end grew: what is left begins there.
 
-stable_left : {D C : Type 0} (sum : List ℕ → ℕ) (to : ℕ) (old new : Log D C) → LeavesAbove sum to old new → stable_behind sum to old ≡ synced_end new
-stable_left sum to old new above = (λ i. first_begin (sym above.left i) (sym above.start i)) ∙ sym (first_left new)
+stable_left : {D C : Type 0} (sum : List ℕ → ℕ) (to : ℕ) (old new : Log D C) → status_of new ≡ status_below sum to old → stable_behind sum to old ≡ synced_end new
+stable_left sum to old new is = sym (ap (λ (s : LogStatus). s.synced) is)
 
 grown : {D C : Type 0} (r : Result ℕ Error) (P : Type 0) (old new : Log D C) (behind before : ℕ) → (P → behind ≡ synced_end new) → IfOk r (λ n. stable_end new ≡ before + n) → OnOk r P → OnOk r (SyncsAll old new) → IfOk r (λ n. behind ≡ before + n)
 grown (Ok n) P old new behind before left grows is all = left is ∙ sym all.stable ∙ grows
@@ -45,7 +46,7 @@ pub returns-clause-answer : goal.returns-clause-answer
 returns-clause-answer g c =
     let old = c.args.self in
     let new = c.flush-flushed.new.self in
-    grown c.flush-flushed.result _ old new _ (stable_end old) (stable_left g.C.Checksum.sum_of (reserved_end old) old new) c.flush-flushed.ensures.answer c.flush-flushed.ensures.buffers.0.above c.flush-flushed.ensures.synced
+    grown c.flush-flushed.result _ old new _ (stable_end old) (stable_left g.C.Checksum.sum_of (reserved_end old) old new) c.flush-flushed.ensures.answer c.flush-flushed.ensures.status c.flush-flushed.ensures.synced
 
 reached : {D C : Type 0} (r : Result ℕ Error) (old new : Log D C) (before : ℕ) → IfOk r (λ n. stable_end new ≡ before + n) → OnOk r (SyncsAll old new) → IfOk r (λ n. reserved_end old ≤ before + n)
 reached (Ok n) old new before grows all = let low = all.whole in let same = all.stable in omega (arith, low, grows, same)

@@ -1,21 +1,12 @@
 -- All that was reserved is written.
-use Rattle.std.proofs.Common.{◌≡◌, ◌∙◌, ◌≤◌, ap, ℕ, List, max, arith, refl, subst, sym, Option, None, Err}
+use Rattle.std.proofs.Common.{◌≡◌, ◌∙◌, ◌≤◌, ℕ, max, arith, refl, subst, sym, Option, None, Err}
 use Rattle.sled_store.proofs.Traces.ScriptLemmas.{performs_nothing}
 use Rattle.std.proofs.lemmas.Result.{err_from_is_err_and}
 use Rattle.sled_codec.specs.declared.result.Error.{Error}
 use Rattle.sled_codec.specs.declared.result.Error.TheVariants.{Held, Io, OutOfMemory, PlacesUsedUp}
 use Rattle.std.specs.declared.io.Error.{Error as IoError}
 use Rattle.sled_core.specs.Causes.{HeldAnswers}
-use Rattle.sled_core.specs.declared.logger.Log.{Log}
-use Rattle.sled_core.specs.Fits.{fault_of, ledger_for, machine_at, noted_in, reserved_end, segment_size_of, stable_end, synced_end}
-use Rattle.sled_core.specs.Freeing.{Ledger}
-use Rattle.sled_core.specs.Keeps.{LeavesAbove, SamePlace, position_for, sealed_for, start_for}
-use Rattle.sled_core.specs.Ledger.{ledger_behind}
-use Rattle.sled_core.specs.LogStatus.{flushed, status_of}
-use Rattle.sled_core.specs.OpenBatches.{not_whole}
-use Rattle.sled_core.specs.Stable.{first_begin, stable_behind}
-use Rattle.sled_core.specs.Waiting.{front_below}
-use Rattle.sled_core.proofs.Line.Buffers.{first_left}
+use Rattle.sled_core.specs.Fits.{fault_of, reserved_end, stable_end, synced_end}
 use Rattle.sled_core.specs.invariants.Running.{Fits}
 use Rattle.sled_core.specs.Running.{end_below}
 use Rattle.sled_core.proofs.Line.KeptCalls.{writing_still}
@@ -24,6 +15,7 @@ use Rattle.sled_core.proofs.Line.LineEnds.{stable_kept}
 use Rattle.sled_core.proofs.Line.NoneLeft.{all_stable, all_written}
 use Rattle.sled_core.proofs.Line.SealFirst.{still_came, writes_err, writes_none, writes_ok}
 use Rattle.sled_core.proofs.Line.Pools.{pools_some, pools_still}
+use Rattle.sled_core.proofs.Line.Wrote.{status_written}
 use Rattle.sled_core.proofs.logger.Log.flush.Given as given
 use Rattle.sled_core.proofs.logger.Log.flush.Goals as goal
 use Rattle.sled_core.proofs.Line.Outcomes.{no_fault}
@@ -56,35 +48,11 @@ stable g c = let did = c.in_ok-write_below.ensures in all_stable c.write_below.n
 pub returns-clause-synced : goal.returns-clause-synced
 returns-clause-synced g c = record { whole = (let did = c.in_ok-write_below.ensures in omega (arith, did.written)); stable = stable g c }
 
--- What is written of a log makes this of what is seen of it.
-all_flushed : {D C : Type 0} (sum : List ℕ → ℕ) (old new : Log D C) → LeavesAbove sum (reserved_end old) old new → SamePlace old new → fault_of new ≡ fault_of old
-    → noted_in new ≡ not_whole (synced_end new) (noted_in old)
-    → status_of new ≡ flushed (segment_size_of old) (sealed_for sum (reserved_end old) old) (start_for (reserved_end old) old) (ledger_for (reserved_end old) old) (position_for (reserved_end old) old) (status_of old)
-all_flushed sum old new left position fault noted =
-    let l = left.left in let s = left.start in
-    let there : synced_end new ≡ stable_behind sum (reserved_end old) old = first_left new ∙ (λ i. first_begin (l i) (s i)) in
-    let n = noted ∙ ap (λ k. not_whole k (noted_in old)) there in
-    let machine : machine_at new ≡ (ledger_behind (segment_size_of old) (front_below (reserved_end old) (sealed_for sum (reserved_end old) old)) (ledger_for (reserved_end old) old)).machine = ap (λ (x : Ledger). x.machine) left.ledger in
-    let account = ap (λ (x : Ledger). x.account) left.ledger in
-    let at = left.position (machine_at new) ∙ ap (position_for (reserved_end old) old) machine in
-    λ i. record {
-      position = at i;
-      machine = machine i;
-      reserved = position.reserved i;
-      synced = there i;
-      noted = n i;
-      waiting = l i;
-      start = s i;
-      fault = fault i;
-      pins = position.pins i;
-      account = account i;
-    }
-
 pub returns-clause-status : goal.returns-clause-status
 returns-clause-status g c =
     let did = c.in_ok-write_below.ensures in
     let none = did.answers in
-    all_flushed g.C.Checksum.sum_of c.args.self.now c.write_below.new.self did.buffers.above did.keeps.position (none.3 ∙ sym c.in_default.is) did.keeps.preserves.noted
+    status_written g.C.Checksum.sum_of _ c.args.self.now c.write_below.new.self did.above did.keeps.position (none.3 ∙ sym c.in_default.is) did.keeps.preserves.noted
 
 pub returns-clause-acknowledges : goal.returns-clause-acknowledges
 unfolding Fits

@@ -11,16 +11,18 @@ use Rattle.sled_core.specs.Causes.{HeldAnswers}
 use Rattle.sled_core.specs.Fits.{IsUsedUpBelow, fault_of, noted_in, reserved_end, stable_end}
 use Rattle.sled_core.specs.Fronts.{CameTo}
 use Rattle.sled_core.specs.Keeps.{WritesBelow}
+use Rattle.sled_core.specs.inside.LeavesAbove.{LeavesAbove}
 use Rattle.sled_core.specs.invariants.Running.{Fits}
 use Rattle.sled_core.specs.OpenBatches.{behind_batch}
 use Rattle.sled_core.specs.Stable.{behind_place, held_for, target_for}
 use Rattle.sled_core.specs.declared.logger.Log.{Log}
-use Rattle.sled_core.proofs.Line.KeptCalls.{writing_still}
+use Rattle.sled_core.proofs.Line.KeptCalls.{place_still, writing_still}
 use Rattle.sled_core.proofs.Line.Shown.{fits_acknowledges}
-use Rattle.sled_core.proofs.Line.LineEnds.{stable_kept, stable_reached}
-use Rattle.sled_core.proofs.Line.SealFirst.{still_came, unused_already, writes_already, writes_err, writes_none, writes_ok}
+use Rattle.sled_core.proofs.Line.LineEnds.{noted_still, stable_kept, stable_reached}
+use Rattle.sled_core.proofs.Line.SealFirst.{above_already, still_came, unused_already, writes_already, writes_err, writes_none, writes_ok}
 use Rattle.sled_core.proofs.Line.Places.{above_read, behind_read, behind_stable, done_as, held_up, holds_none, inside_read, reserved_in_reach, stable_answers, wrote_for}
 use Rattle.sled_core.proofs.Line.Pools.{pools_some, pools_still}
+use Rattle.sled_core.proofs.Line.Wrote.{status_written}
 use Rattle.sled_core.proofs.logger.Log.make_stable.Given as given
 use Rattle.sled_core.proofs.logger.Log.make_stable.Goals as goal
 use Rattle.sled_core.proofs.Line.Outcomes.{no_fault}
@@ -54,7 +56,14 @@ returns-then-lsn-stable_offset-clause-answers g c =
     (inl (durable g c), (holds_none g.C.Checksum.sum_of old c.args.lsn (durable g c), unused_already (target_for old c.args.lsn) old (behind_stable g.C.Checksum.sum_of old c.args.lsn (durable g c)), c.in_default.is, c.in_default.is, refl))
 
 pub returns-then-lsn-stable_offset-clause-buffers : goal.returns-then-lsn-stable_offset-clause-buffers
-returns-then-lsn-stable_offset-clause-buffers g c = (writes_already g.C.Checksum.sum_of (target_for c.args.self.now c.args.lsn) c.args.self.now 0 (behind_stable g.C.Checksum.sum_of c.args.self.now c.args.lsn (durable g c)), tt)
+returns-then-lsn-stable_offset-clause-buffers g c = (writes_already g.C.Checksum.sum_of (target_for c.args.self.now c.args.lsn) c.args.self.now 0, tt)
+
+pub returns-then-lsn-stable_offset-clause-status : goal.returns-then-lsn-stable_offset-clause-status
+returns-then-lsn-stable_offset-clause-status g c =
+    let old = c.args.self.now in
+    let to = target_for old c.args.lsn in
+    status_written g.C.Checksum.sum_of to old old (above_already g.C.Checksum.sum_of to old (behind_stable g.C.Checksum.sum_of old c.args.lsn (durable g c)))
+    (place_still old) refl (noted_still old)
 
 -- It wasn't reserved.
 
@@ -172,6 +181,16 @@ returns-clause-answers g c =
     let at = to_is c.args.self.now c.args.lsn _ _ c.behind_batch-to.ensures.is (behind_read c.args.lsn _ _ (to_z-of_z w64 c.args.lsn c.ranges.lsn) (above_done g c)) in
     let answers = c.in_ok-write_below.ensures.answers in
     (inr (inside_done g c), (sym (held_up g.C.Checksum.sum_of old c.args.lsn _ at (above_done g c)) ∙ answers.0, subst (λ n. IsUsedUpBelow old n → ⊥) at answers.1, c.in_default.is, answers.3, answers.4))
+
+pub returns-clause-status : goal.returns-clause-status
+returns-clause-status g c =
+    let old = c.args.self.now in
+    let new = c.write_below.new.self in
+    let sum = g.C.Checksum.sum_of in
+    let did = c.in_ok-write_below.ensures in
+    let to = to_is old c.args.lsn _ _ c.behind_batch-to.ensures.is (behind_read c.args.lsn _ _ (to_z-of_z w64 c.args.lsn c.ranges.lsn) (above_done g c)) in
+    status_written sum (target_for old c.args.lsn) old new (subst (λ n. LeavesAbove sum n old new) to did.above) did.keeps.position
+    (let none = did.answers in none.3 ∙ sym c.in_default.is) did.keeps.preserves.noted
 
 pub returns-clause-buffers : goal.returns-clause-buffers
 returns-clause-buffers g c =

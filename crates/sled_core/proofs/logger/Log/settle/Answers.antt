@@ -26,7 +26,7 @@ use Rattle.sled_core.proofs.Line.Pools.{pools_sealing, pools_some, pools_some_fu
 use Rattle.sled_core.proofs.logger.Log.settle.Given.{Over}
 use Rattle.sled_core.proofs.logger.Log.settle.Goals.{then-place-current_begin+in_ok-seal, else-place-current_begin}
 use Rattle.sled_core.proofs.logger.Log.settle.Goals as goal
-use Rattle.sled_core.proofs.Line.AccountBehind.{account_unchanged, ledger_unchanged, on_ok_both}
+use Rattle.sled_core.proofs.Line.AccountBehind.{account_unchanged, ledger_unchanged}
 use Rattle.sled_core.proofs.Line.MarksJoin.{joins_further, joins_same}
 
 -- The place is stable.
@@ -231,7 +231,7 @@ returns-clause-buffers g c =
     let did = c.write_around.ensures in
     let r = c.write_around.result in (
       writes_around g.D.Device.trace g.C.Checksum.sum_of c.args.place c.args.self.now c.if-place-current_begin.self (seals g c) c.write_around.new.self did.start.0 did.start.1 r
-          (omega (arith, c.if-place-synced_end.false, c.synced_end.ensures.is)) (on_ok_both r _ _ _ (λ left ledger. (left, ledger)) did.without did.ledger) did.same (held_sound r _ _ _ _ _ did.answers) did.segment,
+          (omega (arith, c.if-place-synced_end.false, c.synced_end.ensures.is)) did.without did.same (held_sound r _ _ _ _ _ did.answers) did.segment,
       on_err r _ _ (came_sealed g.D.Device.trace g.C.Checksum.sum_of c.args.place c.args.self.now c.if-place-current_begin.self (seals g c) c.write_around.new.self did.start.0 did.start.1) did.same,
     )
 

@@ -12,7 +12,7 @@ use Rattle.sled_core.specs.inside.Turned.{promoted, written_now}
 use Rattle.sled_core.proofs.Line.HeaderMarks.{segment_same, segment_written}
 use Rattle.sled_core.proofs.Line.LogSpans.{same_buffers, written_starts}
 use Rattle.sled_core.proofs.Line.MarksJoin.{joins_same}
-use Rattle.sled_core.proofs.Line.Outcomes.{answers_free, done_free, either, on_err, on_ok}
+use Rattle.sled_core.proofs.Line.Outcomes.{answers_free, done_free, either, on_both, on_err, on_ok}
 use Rattle.sled_core.proofs.Line.Settles.{CanWrite, IsStill, LooksAt, account_it, found_held, held_none, inside, is_ready_there, ledger_it, looks, number_within, settling_it, some_held, still_early, still_gone, wrote_all, wrote_place, wrote_without}
 use Rattle.sled_core.proofs.Line.Pools.{pools_still}
 use Rattle.sled_core.proofs.logger.Log.write_around.Given.{Over}
@@ -59,10 +59,7 @@ pub returns-then-at-buffer-clause-one : goal.returns-then-at-buffer-clause-one
 returns-then-at-buffer-clause-one g c = (early g c).alone
 
 pub returns-then-at-buffer-clause-without : goal.returns-then-at-buffer-clause-without
-returns-then-at-buffer-clause-without g c = (early g c).without
-
-pub returns-then-at-buffer-clause-ledger : goal.returns-then-at-buffer-clause-ledger
-returns-then-at-buffer-clause-ledger g c = (early g c).ledger
+returns-then-at-buffer-clause-without g c = ((early g c).without, (early g c).ledger)
 
 -- That buffer is written.
 
@@ -91,10 +88,7 @@ pub returns-then-b-clause-one : goal.returns-then-b-clause-one
 returns-then-b-clause-one g c = (gone g c).alone
 
 pub returns-then-b-clause-without : goal.returns-then-b-clause-without
-returns-then-b-clause-without g c = (gone g c).without
-
-pub returns-then-b-clause-ledger : goal.returns-then-b-clause-ledger
-returns-then-b-clause-ledger g c = (gone g c).ledger
+returns-then-b-clause-without g c = ((gone g c).without, (gone g c).ledger)
 
 -- It has an open reservation.
 
@@ -212,7 +206,9 @@ returns-clause-start g c =
 pub returns-clause-without : goal.returns-clause-without
 returns-clause-without g c =
     let looked = looked g c.before in
-    on_ok c.write_buffer.result _ _ (wrote_without looked (can g c.before) c.write_buffer.new.self) (c.write_buffer.ensures.line looked.segment looked.among)
+    on_both c.write_buffer.result _ _ _
+    (λ line ledger. (wrote_without looked (can g c.before) c.write_buffer.new.self line, ledger ∙ sym (ledger_it looked (can g c.before))))
+    (c.write_buffer.ensures.line looked.segment looked.among) (c.write_buffer.ensures.ledger looked.segment looked.among)
 
 pub returns-clause-same : goal.returns-clause-same
 returns-clause-same g c =
@@ -241,11 +237,6 @@ returns-clause-one g c = λ all.
     (c.write_buffer.ensures.line looked.segment looked.among)
 
 -- The slots and the marks are those behind what was written.
-pub returns-clause-ledger : goal.returns-clause-ledger
-returns-clause-ledger g c =
-    let looked = looked g c.before in
-    on_ok c.write_buffer.result _ _ (λ is. is ∙ sym (ledger_it looked (can g c.before))) (c.write_buffer.ensures.ledger looked.segment looked.among)
-
 -- The mark that joins isn't above what was synced.
 
 pub returns-then-at-buffer-clause-joined : goal.returns-then-at-buffer-clause-joined

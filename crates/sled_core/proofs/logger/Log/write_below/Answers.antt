@@ -9,7 +9,7 @@ use Rattle.sled_core.specs.Fits.{current_begin}
 use Rattle.sled_core.proofs.Line.KeptCalls.{log_writing, spared_same}
 use Rattle.sled_core.proofs.Line.HeaderMarks.{marked_same, none_begun, segment_same}
 use Rattle.sled_core.proofs.Line.CameFar.{front_leaves}
-use Rattle.sled_core.proofs.Line.Outcomes.{all_err, on_err, seal_answers, seal_not_held}
+use Rattle.sled_core.proofs.Line.Outcomes.{all_err, on_err, on_ok, seal_answers, seal_not_held}
 use Rattle.sled_core.proofs.Line.SealFirst.{SealedFor, first_answers, first_calls, first_keeps, first_performs, sealed_already, sealed_first, sealed_past, some_below, unchanged_came, unchanged_performs}
 use Rattle.sled_core.specs.Pooled.{PoolsSome}
 use Rattle.sled_core.proofs.Line.Pools.{pools_sealing, pools_some, pools_some_further, pools_still, pools_unchanged}
@@ -83,7 +83,7 @@ returns-clause-idle g c = λ none. c.write_sealed_below.ensures.idle ((ready g c
 pub returns-clause-buffers : goal.returns-clause-buffers
 returns-clause-buffers g c =
     let did = c.write_sealed_below.ensures in
-    (ready g c).writes c.write_sealed_below.new.self c.write_sealed_below.result did.current.0 did.none did.one did.above
+    (ready g c).writes c.write_sealed_below.new.self c.write_sealed_below.result did.current.0 did.none did.one
     (on_err c.write_sealed_below.result _ _ (front_leaves g.D.Device.trace g.C.Checksum.sum_of c.args.to c.if-current_begin-to.self c.write_sealed_below.new.self) did.front)
     (marked_same g.C.Checksum.sum_of c.args.self.now c.if-current_begin-to.self c.write_sealed_below.new.self (ready g c).marked did.current.1 did.current.0)
 
@@ -100,10 +100,12 @@ returns-in_err-seal-clause-buffers g c =
         none = λ unsealed. tt;
         err = λ unsealed. inr (same_synced old new same.line);
       };
-      above = tt;
       some = inl (same_buffers old new same.line);
       marked = none_begun g.C.Checksum.sum_of old new kept.place kept.heads kept.fillings;
     })
+
+pub returns-clause-above : goal.returns-clause-above
+returns-clause-above g c = on_ok c.write_sealed_below.result _ _ ((ready g c).above c.write_sealed_below.new.self) c.write_sealed_below.ensures.above
 
 pub returns-clause-came : goal.returns-clause-came
 returns-clause-came g c = on_err c.write_sealed_below.result _ _ (λ front. inr ((ready g c).fronts c.write_sealed_below.new.self front)) c.write_sealed_below.ensures.front

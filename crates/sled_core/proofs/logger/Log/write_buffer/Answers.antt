@@ -16,11 +16,11 @@ use Rattle.sled_core.specs.declared.logger.Log.{Log}
 use Rattle.sled_core.specs.Fits.{ledger_of, line_of, machine_at, pins_of, segment_size_of, synced_end}
 use Rattle.sled_core.specs.Freeing.{Ledger}
 use Rattle.sled_core.specs.Fronts.{IsOnTheWay, synced_writes}
-use Rattle.sled_core.specs.inside.OneWritten.{WritesNone, WroteOne}
+use Rattle.sled_core.specs.inside.OneWritten.{WroteOne}
 use Rattle.sled_core.specs.inside.Turned.{FreesSlots, mark_of, promoted, write_in, write_of, writing_in, writing_of, written_now}
 use Rattle.sled_core.specs.Keeps.{FailedStep}
 use Rattle.sled_core.specs.Ledger.{ledger_step, marked_ledger, stepped_ledger, written_step}
-use Rattle.sled_core.proofs.Line.AccountBehind.{account_same, ledger_same}
+use Rattle.sled_core.proofs.Line.AccountBehind.{account_same}
 use Rattle.sled_core.proofs.Line.KeptCalls.{failed_over, one_writing, writing_further}
 use Rattle.sled_core.proofs.Line.LogSpans.{same_with}
 use Rattle.sled_core.proofs.Line.Outcomes.{all_err, all_ok, on_err, on_ok}
@@ -100,15 +100,7 @@ returns-in_err-write_one-clause-keeps g c =
 
 pub returns-in_err-write_one-clause-unwritten : goal.returns-in_err-write_one-clause-unwritten
 returns-in_err-write_one-clause-unwritten g c =
-    let old = c.args.self.now in
-    let mid = c.write_one.new.self in
-    let did = c.in_err-write_one.ensures in
-    let none : WritesNone g.D.Device.trace old mid = record {
-      line = did.same;
-      none = did.unwritten;
-      ledger = ledger_same old mid did.machine did.unwritten.account;
-    } in
-    all_err c.from_residual.result _ (inl none)
+    all_err c.from_residual.result _ (inl c.in_err-write_one.ensures.unwritten)
 
 pub returns-clause-line : goal.returns-clause-line
 returns-clause-line g c = λ v among.

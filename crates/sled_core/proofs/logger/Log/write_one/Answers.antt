@@ -20,7 +20,7 @@ use Rattle.sled_core.specs.declared.iobuf.IoBuf.{IoBuf}
 use Rattle.sled_core.specs.declared.iobuf.Sealed.{Sealed}
 use Rattle.sled_core.specs.declared.logger.ready.ReadyBuffers.{ReadyBuffers}
 use Rattle.sled_core.specs.declared.logger.Log.{Log}
-use Rattle.sled_core.specs.Fronts.{WroteNone}
+use Rattle.sled_core.specs.inside.OneWritten.{WritesNone}
 use Rattle.sled_core.specs.HeaderMark.{greater_mark}
 use Rattle.sled_core.specs.inside.Fits.{written_to}
 use Rattle.sled_core.specs.Fits.{AwaitsIn, line_of, noted_in, pins_of, position_with, segment_size_of}
@@ -59,7 +59,7 @@ use Rattle.sled_core.proofs.Reached.OpenBatch.{not_whole_further}
 use Rattle.sled_core.proofs.Line.WrittenTickets.{awaits_written, given_written, manifests_written, places_written}
 use Rattle.sled_core.proofs.Pending.Logs.{written_ready}
 use Rattle.sled_core.proofs.logger.Log.write_one.Goals as goal
-use Rattle.sled_core.proofs.Line.AccountBehind.{account_same}
+use Rattle.sled_core.proofs.Line.AccountBehind.{account_same, ledger_same}
 use Rattle.sled_core.proofs.Line.LogSpans.{same_with}
 use Rattle.sled_core.proofs.Line.MarksJoin.{joined_as, joined_up, joins_same}
 use Rattle.sled_core.specs.declared.logger.joined_marks.JoinedMarks.{JoinedMarks}
@@ -118,8 +118,15 @@ returns-in_err-write_bytes-clause-refused g c =
 
 pub returns-in_err-write_bytes-clause-unwritten : goal.returns-in_err-write_bytes-clause-unwritten
 returns-in_err-write_bytes-clause-unwritten g c =
+    let old = c.args.self.now in
+    let mid = c.write_bytes.new.self in
     let did = c.in_err-write_bytes.ensures in
-    let none : WroteNone g.D.Device.trace c.args.self.now c.write_bytes.new.self = record { synced = did.unsynced.0; written = did.unsynced.1; still = did.refused; account = account_same c.args.self.now c.write_bytes.new.self did.rest.marks did.rest.pins } in
+    let account = account_same old mid did.rest.marks did.rest.pins in
+    let none : WritesNone g.D.Device.trace old mid = record {
+      line = λ i. line_in (did.rest.segments i);
+      none = record { synced = did.unsynced.0; written = did.unsynced.1; still = did.refused; account = account };
+      ledger = ledger_same old mid (ap machine_of did.rest.accountant) account;
+    } in
     all_err c.from_residual.result _ none
 
 pub returns-in_err-write_bytes-clause-keeps : goal.returns-in_err-write_bytes-clause-keeps

@@ -9,7 +9,7 @@ use Rattle.sled_core.specs.Fillings.{fillings_along}
 use Rattle.sled_core.specs.Heads.{heads_along}
 use Rattle.sled_core.specs.Among.{AreAmong}
 use Rattle.sled_core.specs.Account.{account_behind, account_of, written_account}
-use Rattle.sled_core.specs.Fits.{fillings_of, heads_of, ledger_of, line_of, segment_size_of, start_of, waiting_of, writing_pending}
+use Rattle.sled_core.specs.Fits.{fillings_of, heads_of, ledger_of, line_of, machine_at, position_with, segment_size_of, start_of, waiting_of, writing_pending}
 use Rattle.sled_core.specs.Ledger.{ledger_behind, written_ledger}
 use Rattle.sled_core.specs.inside.Turned.{mark_of, promoted, writing_in, written_now}
 use Rattle.sled_core.specs.Waiting.{BufferAt, one_pending, unwritten, without_pending}
@@ -20,6 +20,7 @@ use Rattle.sled_core.proofs.Line.LogWrites.{segments_written}
 use Rattle.sled_core.proofs.Line.Advanced.{same_synced}
 use Rattle.sled_core.proofs.Line.Outcomes.{either, on_err, on_ok}
 use Rattle.sled_core.proofs.Line.Pools.{pools_still}
+use Rattle.sled_core.proofs.Line.Wrote.{status_wrote, wrote_ok}
 use Rattle.sled_core.proofs.logger.Log.write_to_log.Given as given
 use Rattle.sled_core.proofs.logger.Log.write_to_log.Goals as goal
 
@@ -98,10 +99,29 @@ account_it g c is =
     let one = c.ready_at-n.ensures.one r.segment r.among in
     is ∙ ap (λ (m : Option ℤ). written_account m (account_of old)) (sym one.2) ∙ ap (λ (l : List BufferAt). account_behind l (account_of old)) (sym one.1)
 
-pub returns-clause-written : goal.returns-clause-written
-returns-clause-written g c =
+its_ledger : (g : given.Over) (c : goal.After-write_buffer g)
+    → written_ledger (segment_size_of c.args.self.now) (mark_of c.ready_at-n.result.1 c.ready_at-n.ensures.ready.segment) (ledger_of c.args.self.now)
+    ≡ ledger_behind (segment_size_of c.args.self.now) (one_pending c.args.i (waiting_of c.args.self.now)) (ledger_of c.args.self.now)
+its_ledger g c =
+    let old = c.args.self.now in
+    let size : ℕ = segment_size_of old in
     let r = c.ready_at-n.ensures.ready in
-    on_ok c.write_buffer.result _ _ (without_it g c) (c.write_buffer.ensures.line r.segment r.among)
+    let one = c.ready_at-n.ensures.one r.segment r.among in
+    ap (λ (m : Option ℤ). written_ledger size m (ledger_of old)) (sym one.2) ∙ ap (λ (l : List BufferAt). ledger_behind size l (ledger_of old)) (sym one.1)
+
+-- So that is what is seen of the log then.
+pub returns-clause-status : goal.returns-clause-status
+returns-clause-status g c =
+    let old = c.args.self.now in
+    let new = c.write_buffer.new.self in
+    let r = c.ready_at-n.ensures.ready in
+    let keeps = c.write_buffer.ensures.keeps in
+    let start = (returns-clause-start g c).0 in
+    wrote_ok c.write_buffer.result _ _ _ _ _ _
+    (λ line ledger fault.
+    status_wrote old new (one_pending c.args.i (waiting_of old)) (without_pending c.args.i (waiting_of old)) (start_of old) (ledger_of old) (position_with old)
+    (without_it g c line) start (ledger ∙ its_ledger g c) (c.write_buffer.ensures.position (machine_at new)) keeps.position (fault ∙ sym c.in_default.is) keeps.preserves.noted)
+    (c.write_buffer.ensures.line r.segment r.among) (c.write_buffer.ensures.ledger r.segment r.among) c.write_buffer.ensures.answers
 
 pub returns-clause-err : goal.returns-clause-err
 returns-clause-err g c =
@@ -136,16 +156,6 @@ returns-clause-calls g c =
 pub returns-clause-at_most : goal.returns-clause-at_most
 returns-clause-at_most g c =
     subst (λ (es : List Event). Performs es (g.D.Device.trace c.args.self.now.config.device) (g.D.Device.trace c.write_buffer.new.self.config.device)) (its_calls g c) c.write_buffer.ensures.at_most
-
-pub returns-clause-ledger : goal.returns-clause-ledger
-returns-clause-ledger g c =
-    let old = c.args.self.now in
-    let size : ℕ = segment_size_of old in
-    let r = c.ready_at-n.ensures.ready in
-    let one = c.ready_at-n.ensures.one r.segment r.among in
-    on_ok c.write_buffer.result _ _
-    (λ is. is ∙ ap (λ (m : Option ℤ). written_ledger size m (ledger_of old)) (sym one.2) ∙ ap (λ (l : List BufferAt). ledger_behind size l (ledger_of old)) (sym one.1))
-    (c.write_buffer.ensures.ledger r.segment r.among)
 
 pub returns-in-Some-clause-pooled : goal.returns-in-Some-clause-pooled
 returns-in-Some-clause-pooled g c = pools_still c.args.self.now

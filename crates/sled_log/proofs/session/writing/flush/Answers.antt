@@ -35,9 +35,8 @@ returns-in-Ok-clause-step g c = λ none k at free.
     let some : current_begin old < to → 0 < held_len old = some_reserved old sum begun k.tickets k.given_up k.heads to (omega arith) in
     let fast : HoldsFast trace sum old H = inr (k.acknowledged, k.floor, at.unmarked, at.fits) in
     let past = fits_stable trace sum old H k.acknowledged k.floor at.unmarked at.fits in
-    let above = c.in-Ok.ensures.buffers.0.above in
     let answers = c.in-Ok.ensures.answers in
-    let ends : synced_end new ≡ stable_from to l = sym c.in-Ok.ensures.synced.stable ∙ stable_seen old sum begun k.tickets k.given_up k.heads to some new trace (view old.config.device) (view new.config.device) H k.acknowledged k.floor due put above in
+    let ends : synced_end new ≡ stable_from to l = sym c.in-Ok.ensures.synced.stable ∙ stable_seen old sum begun k.tickets k.given_up k.heads to some new trace (view old.config.device) (view new.config.device) H k.acknowledged k.floor due put c.in-Ok.ensures.status in
     let settled : IsKept sum (account_of new).mark (account_of new).durable (segment_size_of old) new.segments.first.site new.segments.first.buffer.written_len (state_of (trace (device_of new))) (logged H) =
     subst (λ n. IsKept sum (account_of new).mark (account_of new).durable n new.segments.first.site new.segments.first.buffer.written_len (state_of (trace (device_of new))) (logged H)) put.size (c.in-Ok.ensures.records H fast) in
     let reached : ℕ = max k.acknowledged (end_below (stable_end new) H) in
@@ -47,7 +46,7 @@ returns-in-Ok-clause-step g c = λ none k at free.
       next = kept trace sum opened new k reached;
       step = record {
         written = has_written old sum begun k.tickets k.given_up k.heads to some new trace (view old.config.device) (view new.config.device) H k.acknowledged k.floor due put (whole_of trace sum old k.given_up k.heads H k.acknowledged k.floor at.unmarked at.given_up at.heads at.fits answers.2) c.in-Ok.grown answers.2 answers.3 answers.1 answers.0
-            made answers.4 c.in-Ok.ensures.answer c.in-Ok.ensures.synced.whole past above;
+            made answers.4 c.in-Ok.ensures.answer c.in-Ok.ensures.synced.whole past c.in-Ok.ensures.status;
         all = λ i d lt. let low = written_past trace sum new H (c.in-Ok.ensures.records H fast) i d lt in omega (arith, low, ends);
         site = new.segments.first.site;
         from = new.segments.first.buffer.written_len;

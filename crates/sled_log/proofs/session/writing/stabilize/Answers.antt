@@ -33,7 +33,7 @@ returns-in-Ok-clause-step g c = λ none k at free.
     let H = k.history in
     let to = target_for old place in
     let answers = c.in-Ok.ensures.answers in
-    let above = c.in-Ok.ensures.buffers.0.above in
+    let status = c.in-Ok.ensures.status in
     let fits = c.in-Ok.ensures.acknowledges H k.acknowledged k.floor at.unmarked at.fits in
     let some : current_begin old < to → 0 < held_len old = some_known old sum begun k.tickets k.given_up k.heads place answers.0 in
     let past = fits_stable trace sum old H k.acknowledged k.floor at.unmarked at.fits in
@@ -48,8 +48,8 @@ returns-in-Ok-clause-step g c = λ none k at free.
         answers.0,
         has_written old sum begun k.tickets k.given_up k.heads to some new trace (view old.config.device) (view new.config.device) H k.acknowledged k.floor due put (whole_of trace sum old k.given_up k.heads H k.acknowledged k.floor at.unmarked at.given_up at.heads at.fits answers.1.2) c.in-Ok.more answers.1.2 answers.1.3 answers.1.1 unheld
             made answers.1.4 c.in-Ok.ensures.answer
-            (target_written old new place put.noted c.in-Ok.ensures.target) past above,
-        subst (λ n. place <ℤ pos n) (stable_seen old sum begun k.tickets k.given_up k.heads to some new trace (view old.config.device) (view new.config.device) H k.acknowledged k.floor due put above) c.in-Ok.ensures.target,
+            (target_written old new place put.noted c.in-Ok.ensures.target) past status,
+        subst (λ n. place <ℤ pos n) (stable_seen old sum begun k.tickets k.given_up k.heads to some new trace (view old.config.device) (view new.config.device) H k.acknowledged k.floor due put status) c.in-Ok.ensures.target,
       );
       at = λ own. still_open trace sum opened new k reached at (only_begun sum opened.log new c.make_stable.ensures.buffers.0.marked) put none fits;
       crash = λ own. c.make_stable.ensures.keeps.preserves.goes_on.crash k.history k.acknowledged k.floor at.unmarked at.fits;

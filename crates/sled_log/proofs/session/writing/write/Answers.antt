@@ -1,11 +1,11 @@
 -- A buffer that nothing holds up is written, unless memory is wanting, the device fails, or the log keeps a failure.
 use Rattle.std.proofs.Common.{◌≡◌, ◌∙◌, ◌≤◌, ◌&&◌, inl, inr, nat_le, true, false, None, Some, ap, sym, refl, arith, length}
 use Rattle.std.proofs.lemmas.Bool.Decides.{nat_tests}
-use Rattle.sled_store.specs.SegmentStates.{Machine}
 use Rattle.sled_core.specs.Account.{account_of}
-use Rattle.sled_core.specs.Fits.{fault_of, ledger_of, machine_at, position_with, segment_size_of, waiting_of}
+use Rattle.sled_core.specs.Fits.{fault_of, ledger_of, machine_at, position_of, segment_size_of, waiting_of}
 use Rattle.sled_core.specs.Fronts.{synced_writes, syncs}
 use Rattle.sled_core.specs.Ledger.{ledger_behind}
+use Rattle.sled_core.specs.LogStatus.{LogStatus}
 use Rattle.sled_core.specs.Waiting.{one_pending, spans}
 use Rattle.sled_log.specs.RunPhases.{seen, shown_due, view_by}
 use Rattle.sled_log.specs.RunSlots.{position_over}
@@ -38,8 +38,9 @@ returns-in-Ok-clause-step g c = λ none k at free.
     let begun = length opened.pages.items in
     let l : LogView = seen opened k.tickets k.given_up k.heads in
     let answers = c.in-Ok.ensures.answers in
-    let left : spans (waiting_of new) ≡ without_unheld (opens l) c.args.i l.waiting = ap spans c.in-Ok.ensures.written ∙ without_seen (opens l) c.args.i (waiting_of old) (waiting_held old sum begun k.tickets k.given_up k.heads) in
-    let lies : (m : Machine) → position_with new m ≡ position_over (segment_size_of old) l m = λ m. c.write_to_log.ensures.start.1 m ∙ over_seen old begun k.tickets k.given_up k.heads m in
+    let left : spans (waiting_of new) ≡ without_unheld (opens l) c.args.i l.waiting = ap (λ (s : LogStatus). spans s.waiting) c.in-Ok.ensures.status ∙ without_seen (opens l) c.args.i (waiting_of old) (waiting_held old sum begun k.tickets k.given_up k.heads) in
+    let lies : position_of new ≡ position_over (segment_size_of old) l (machine_at new) = c.write_to_log.ensures.start.1 (machine_at new) ∙ over_seen old begun k.tickets k.given_up k.heads (machine_at new) in
+    let ledger : ledger_of new ≡ ledger_behind (segment_size_of old) (one_pending c.args.i (waiting_of old)) (ledger_of old) = λ i. record { machine = (c.in-Ok.ensures.status i).machine; account = (c.in-Ok.ensures.status i).account } in
     record {
       not_refused = refl;
       next = kept trace sum opened new k k.acknowledged;
@@ -47,7 +48,7 @@ returns-in-Ok-clause-step g c = λ none k at free.
         answers.0,
         record { buffers = waiting_of old; shown = shows_waiting old sum begun k.tickets k.given_up k.heads (whole_of trace sum old k.given_up k.heads k.history k.acknowledged k.floor at.unmarked at.given_up at.heads at.fits answers.0); made = c.in-Ok.ensures.calls },
         answers.2,
-        leaves old sum begun k.tickets k.given_up k.heads trace new (view old.config.device) (view new.config.device) k.history k.acknowledged k.floor (shown_due opened.due) put k.acknowledged (without_unheld (opens l) c.args.i l.waiting) l.start None (ledger_behind (segment_size_of old) (one_pending c.args.i (waiting_of old)) (ledger_of old)) (position_over (segment_size_of old) l) left c.write_to_log.ensures.start.0 answers.1 c.in-Ok.ensures.ledger lies,
+        leaves old sum begun k.tickets k.given_up k.heads trace new (view old.config.device) (view new.config.device) k.history k.acknowledged k.floor (shown_due opened.due) put k.acknowledged (without_unheld (opens l) c.args.i l.waiting) l.start None (ledger_behind (segment_size_of old) (one_pending c.args.i (waiting_of old)) (ledger_of old)) (position_over (segment_size_of old) l) left c.write_to_log.ensures.start.0 answers.1 ledger lies,
       );
       at = λ own. still_open trace sum opened new k k.acknowledged at (begun_none sum old new (record { heads = c.write_to_log.ensures.heads; fillings = c.write_to_log.ensures.fillings })) put none (c.write_to_log.ensures.keeps.preserves.fits k.history k.acknowledged k.floor at.unmarked at.fits);
       crash = λ own. c.write_to_log.ensures.keeps.preserves.goes_on.crash k.history k.acknowledged k.floor at.unmarked at.fits;
@@ -70,7 +71,7 @@ returns-in-Err-clause-step g c = λ none k at free.
     let due = shown_due opened.due in
     let device = view old.config.device in
     let now = view new.config.device in
-    let lies : (m : Machine) → position_with new m ≡ position_over (segment_size_of old) l m = λ m. c.write_to_log.ensures.start.1 m ∙ over_seen old begun k.tickets k.given_up k.heads m in
+    let lies : position_of new ≡ position_over (segment_size_of old) l (machine_at new) = c.write_to_log.ensures.start.1 (machine_at new) ∙ over_seen old begun k.tickets k.given_up k.heads (machine_at new) in
     let answers = held_none (Unit {0}) c.in-Err.e (fault_of old) (fault_of new) device.failures now.failures c.in-Err.ensures.answers in
     record {
       not_refused = refl;
