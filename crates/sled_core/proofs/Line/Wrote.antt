@@ -5,7 +5,7 @@ use Rattle.sled_codec.specs.declared.result.Error.{Error}
 use Rattle.sled_store.specs.SegmentStates.{Machine}
 use Rattle.sled_core.specs.Causes.{Answers}
 use Rattle.sled_core.specs.declared.logger.Log.{Log}
-use Rattle.sled_core.specs.Fits.{fault_of, ledger_for, ledger_of, machine_at, noted_in, position_of, segment_size_of, start_of, synced_end, waiting_of}
+use Rattle.sled_core.specs.Fits.{fault_of, ledger_for, ledger_of, noted_in, position_with, segment_size_of, start_of, synced_end, waiting_of}
 use Rattle.sled_core.specs.Freeing.{Ledger}
 use Rattle.sled_core.specs.Keeps.{SamePlace, position_for, sealed_for, start_for}
 use Rattle.sled_core.specs.Ledger.{ledger_behind}
@@ -19,15 +19,14 @@ use Rattle.sled_core.proofs.Line.Buffers.{first_left}
 
 -- These are written and those are left: all that is seen of the log is as it was, but for what that makes of it.
 pub status_wrote : {D C : Type 0} (old new : Log D C) (written left : List BufferAt) (start : BufferStart) (l : Ledger) (position : Machine → Position)
-    → waiting_of new ≡ left → start_of new ≡ start → ledger_of new ≡ ledger_behind (segment_size_of old) written l → position_of new ≡ position (machine_at new)
+    → waiting_of new ≡ left → start_of new ≡ start → ledger_of new ≡ ledger_behind (segment_size_of old) written l → ((m : Machine) → position_with new m ≡ position m)
     → SamePlace old new → fault_of new ≡ fault_of old → noted_in new ≡ not_whole (synced_end new) (noted_in old)
     → status_of new ≡ wrote (segment_size_of old) written left start l position (status_of old)
 status_wrote old new written left start l position left_is start_is ledger lies same fault noted =
     let there : synced_end new ≡ first_begin left start = first_left new ∙ (λ i. first_begin (left_is i) (start_is i)) in
     let still = noted ∙ ap (λ k. not_whole k (noted_in old)) there in
-    let at = lies ∙ ap (λ (x : Ledger). position x.machine) ledger in
     λ i. record {
-      position = at i;
+      position = λ m. lies m i;
       machine = (ledger i).machine;
       reserved = same.reserved i;
       synced = there i;
@@ -45,7 +44,7 @@ pub status_written : {D C : Type 0} (sum : List ℕ → ℕ) (to : ℕ) (old new
 status_written sum to old new above same fault noted =
     let buffers = sealed_for sum to old in
     status_wrote old new (front_below to buffers) (not_below to buffers) (start_for to old) (ledger_for to old) (position_for to old) above.left above.start above.ledger
-    (above.position (machine_at new)) same fault noted
+    above.position same fault noted
 
 -- What follows where a buffer was written: no failure is kept.
 pub wrote_ok : {T : Type 0} (r : Result T Error) (A B P : Type 0) (now : Option IoError) (before after : ℕ) → (A → B → now ≡ None → P)

@@ -17,12 +17,11 @@ ghost use Rattle.sled_core.specs.Among.{AreAmong};
 ghost use Rattle.sled_core.specs.Begun.{SegmentView};
 ghost use Rattle.sled_core.specs.Buffers.{first_open_in, open_in};
 ghost use Rattle.sled_core.specs.Causes.{Answers, FaultOrMemory, HeldAnswers, OnDone};
-ghost use Rattle.sled_core.specs.invariants.Fits.{Holds};
-ghost use Rattle.sled_core.specs.Fits.{IsUnchanged, IsUsedUp, IsUsedUpBelow, IsWritten, KeepsAll, NoneSealed, buffers_of, config_of, current_begin, current_of, device_of, fault_of, fillings_of, flushing, heads_of, held_len, holding_below, ledger_of, ledger_sealed, line_of, machine_at, pending_of, position_with, reserved_end, sealing_end, segment_size_of, stable_end, start_of, synced_end, waiting_of, writing_below, writing_pending};
+ghost use Rattle.sled_core.specs.Fits.{IsUnchanged, IsUsedUp, IsUsedUpBelow, IsWritten, NoneSealed, config_of, current_begin, device_of, fault_of, fillings_of, flushing, heads_of, held_len, holding_below, ledger_of, line_of, machine_at, pending_of, position_with, reserved_end, segment_size_of, stable_end, start_of, synced_end, waiting_of, writing_below, writing_pending};
 ghost use Rattle.sled_core.specs.Fronts.{CameTo, IsOnTheWay, WroteFront, WroteThenFailed, synced_writes, syncs};
-ghost use Rattle.sled_core.specs.Keeps.{FailedStep, HoldsFast, KeepsLog, KeepsWriting, WritesBelow, start_sealed};
+ghost use Rattle.sled_core.specs.Keeps.{FailedStep, HoldsFast, KeepsLog, KeepsWriting, WritesBelow};
 ghost use Rattle.sled_core.specs.Ledger.{ledger_step, stepped_ledger, written_ledger};
-ghost use Rattle.sled_core.specs.LogStatus.{rolled, status_behind, status_below, status_of};
+ghost use Rattle.sled_core.specs.LogStatus.{status_behind, status_below, status_of, status_rolled};
 ghost use Rattle.sled_core.specs.Marked.{BeginsMarked};
 ghost use Rattle.sled_core.specs.inside.LeavesAbove.{LeavesAbove};
 ghost use Rattle.sled_core.specs.inside.Marked.{JoinsBelow, KeepsSegment};
@@ -32,7 +31,7 @@ ghost use Rattle.sled_core.specs.Running.{end_below};
 ghost use Rattle.sled_core.specs.Pooled.{PoolsSome, PoolsWith, begun_rolled};
 ghost use Rattle.sled_core.specs.Stable.{SparesDevice, SyncsAll};
 ghost use Rattle.sled_core.specs.inside.Turned.{ChangesDevice, FreesSlots, IsReadyIn, mark_of, promoted, ready_below, write_in, writing_in, written_now};
-ghost use Rattle.sled_core.specs.Waiting.{BufferAt, holds_any, one_pending, unwritten, without_pending, write_pending};
+ghost use Rattle.sled_core.specs.Waiting.{BufferAt, one_pending, unwritten, without_pending, write_pending};
 
 use crate::logger::Log;
 use crate::logger::joined_marks::mark_at;
@@ -108,9 +107,7 @@ impl<D: Device, C: Checksum> Log<D, C> {
     /// is to be begun and would not end below 2^63 in the log and in the file; and `OutOfMemory`. The log is as it was.
     pub fn roll_iobuf(&mut self) -> Result<usize>
         ensures answer { IfOk result (λ n. n ≡ held_len self.old) }
-        ensures status { OnOk result (status_of self.new ≡ rolled (buffers_of C.sum_of self.old)
-            (if holds_any (current_of self.old) then start_sealed self.old else start_of self.old)
-            (if holds_any (current_of self.old) then ledger_sealed self.old else ledger_of self.old).machine (status_of self.old)) }
+        ensures status { OnOk result (status_of self.new ≡ status_rolled C.sum_of self.old) }
         ensures marked { OnOk result (BeginsMarked C.sum_of self.old self.new) }
         ensures keeps { KeepsLog D.trace C.sum_of self.old self.new }
         ensures untouched { config_of self.new ≡ config_of self.old }

@@ -250,7 +250,7 @@ module _ {D C : Type 0} (view : D → DeviceView) (sum : List ℕ → ℕ) (old 
   leaves waiting start fault ledger position left first kept slots begins =
       ap (log_or before)
       (leaves_log old sum begun k.tickets k.given_up k.heads (traces view) new old_view new_view k.history k.acknowledged k.floor None put
-      k.acknowledged waiting start fault ledger position left first kept slots begins)
+      k.acknowledged waiting start fault ledger position left first kept slots (begins (machine_at new)))
 
   -- where the next record may begin, once the buffer of the place is sealed
   begins_seen : ((m : Machine) → position_with new m ≡ position_at at old m) → (m : Machine) → position_with new m ≡ position_around (segment_size_of old) at before m

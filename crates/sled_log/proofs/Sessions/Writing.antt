@@ -464,7 +464,7 @@ module _ {D C : Type 0} (log : Log D C) (sum : List ℕ → ℕ) (begun : ℕ) (
               let ledger : ledger_of new ≡ ledger_behind size (front_below to its_buffers) (ledger_below to l) =
               (λ i. record { machine = (is i).machine; account = (is i).account }) ∙ ap (ledger_behind size (front_below to its_buffers)) (ledger_below_seen log begun tickets given_up heads to) in
               let lies : position_of new ≡ position_below size to l (machine_at new) =
-              ap (λ (s : LogStatus). s.position) is ∙ below_seen log begun tickets given_up heads to _ ∙ ap (λ (s : LogStatus). position_below size to l s.machine) (sym is) in
+              ap (λ (s : LogStatus). s.position (machine_at new)) is ∙ below_seen log begun tickets given_up heads to (machine_at new) in
               record {
                 sound = none;
                 in_reach = λ less. flush_in (λ used. unused (less, used));

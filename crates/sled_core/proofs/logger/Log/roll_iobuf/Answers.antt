@@ -1,5 +1,5 @@
 -- Where the current buffer holds nothing, nothing is done.
-use Rattle.std.proofs.Common.{◌≡◌, ◌<◌, ◌-◌, ◌∙◌, ap, sym, arith, rules, length, if◌then◌else◌, Bool, true, false, List, ℕ, Err, None, Option, Some, subst}
+use Rattle.std.proofs.Common.{◌≡◌, ◌<◌, ◌-◌, ◌∙◌, ap, sym, refl, arith, rules, length, if◌then◌else◌, Bool, true, false, List, ℕ, Err, None, Option, Some, subst}
 use Rattle.std.specs.declared.io.Error.{Error as IoError}
 use Rattle.std.proofs.lemmas.Bool.Decides.{nat_tests}
 use Rattle.std.proofs.lemmas.Result.{err_from_is_err_and}
@@ -11,15 +11,14 @@ use Rattle.sled_store.specs.SegmentStates.{Machine}
 use Rattle.sled_core.specs.declared.iobuf.IoBuf.{IoBuf}
 use Rattle.sled_core.specs.declared.iobuf.SegmentPosition.{SegmentPosition}
 use Rattle.sled_core.specs.declared.logger.Log.{Log}
-use Rattle.sled_core.specs.Fits.{KeepsAll, buffers_of, current_of, held_len, ledger_of, ledger_sealed, machine_at, position_sealed, position_with, start_of, waiting_of}
+use Rattle.sled_core.specs.Fits.{KeepsAll, buffers_of, current_of, held_len, ledger_sealed, machine_at, position_sealed, position_with, start_of, waiting_of}
 use Rattle.sled_core.specs.Freeing.{Ledger}
 use Rattle.sled_core.specs.Keeps.{SamePosition, start_sealed}
-use Rattle.sled_core.specs.LogStatus.{rolled, status_of}
-use Rattle.sled_core.specs.Waiting.{BufferStart, holds_any}
+use Rattle.sled_core.specs.LogStatus.{LogStatus, rolled, status_of}
+use Rattle.sled_core.specs.Waiting.{holds_any}
 use Rattle.sled_core.proofs.Holds.Facts.{current_facts}
 use Rattle.sled_core.proofs.Line.KeptCalls.{log_still}
 use Rattle.sled_core.proofs.Line.SealFirst.{sealed_ledger}
-use Rattle.sled_core.proofs.Line.Shows.{buffers_still}
 use Rattle.sled_core.specs.Pooled.{PoolsWith, begun_sealed}
 use Rattle.sled_core.proofs.Line.Pools.{pools_still}
 use Rattle.sled_core.proofs.logger.Log.roll_iobuf.Goals as goal
@@ -27,34 +26,28 @@ use Rattle.sled_core.proofs.logger.Log.roll_iobuf.Goals as goal
 pub returns-in-Some-clause-keeps : goal.returns-in-Some-clause-keeps
 returns-in-Some-clause-keeps g c = log_still g.D.Device.trace g.C.Checksum.sum_of c.args.self.now
 
--- where the current buffer of a log begins behind it
-abbrev start_rolled : {D C : Type 0} → Log D C → BufferStart
-start_rolled log = if holds_any (current_of log) then start_sealed log else start_of log
-
--- and which slots there are then
-abbrev ledger_rolled : {D C : Type 0} → Log D C → Ledger
-ledger_rolled log = if holds_any (current_of log) then ledger_sealed log else ledger_of log
-
--- A log of which nothing is sealed is as it was.
-none_rolled : {D C : Type 0} (sum : List ℕ → ℕ) (log : Log D C) → held_len log ≡ 0
-    → status_of log ≡ rolled (buffers_of sum log) (start_rolled log) (ledger_rolled log).machine (status_of log)
-none_rolled sum log none =
-    let begins = (current_facts log).begins in
-    let any : holds_any (current_of log) ≡ false = grind (arith, nat_tests, none, begins) in
-    let start : start_of log ≡ start_rolled log = sym (ap (λ (o : Bool). if o then start_sealed log else start_of log) any) in
-    let ledger : ledger_of log ≡ ledger_rolled log = sym (ap (λ (o : Bool). if o then ledger_sealed log else ledger_of log) any) in
-    λ i. record (status_of log) { waiting = sym (buffers_still sum log none) i; start = start i; machine = (ledger i).machine }
-
 -- One of which the current buffer is sealed has one more.
-one_rolled : {D C : Type 0} (sum : List ℕ → ℕ) (old new : Log D C) → holds_any (current_of old) ≡ true → waiting_of new ≡ buffers_of sum old → start_of new ≡ start_sealed old
+one_rolled : {D C : Type 0} (sum : List ℕ → ℕ) (old new : Log D C) → waiting_of new ≡ buffers_of sum old → start_of new ≡ start_sealed old
     → ((m : Machine) → position_with new m ≡ position_sealed old m) → SamePosition old new → KeepsAll old new
-    → status_of new ≡ rolled (buffers_of sum old) (start_rolled old) (ledger_rolled old).machine (status_of old)
-one_rolled sum old new any waits start with_slots position same =
-    let begun : start_of new ≡ start_rolled old = start ∙ sym (ap (λ (o : Bool). if o then start_sealed old else start_of old) any) in
-    let ledger : ledger_of new ≡ ledger_rolled old =
-    sealed_ledger old new with_slots position.position same.account ∙ sym (ap (λ (o : Bool). if o then ledger_sealed old else ledger_of old) any) in
-    let machine : machine_at new ≡ (ledger_rolled old).machine = ap (λ (l : Ledger). l.machine) ledger in
-    let a = position.position in let b = position.reserved in let c = same.synced in let d = same.noted in let e = same.fault in let f = same.pins in let h = same.account in cc
+    → status_of new ≡ rolled (buffers_of sum old) (start_sealed old) (ledger_sealed old).machine (position_sealed old) (status_of old)
+one_rolled sum old new waits start with_slots position same =
+    let machine : machine_at new ≡ (ledger_sealed old).machine = ap (λ (l : Ledger). l.machine) (sealed_ledger old new with_slots position.position same.account) in
+    λ i. record {
+      position = λ m. with_slots m i;
+      machine = machine i;
+      reserved = position.reserved i;
+      synced = same.synced i;
+      noted = same.noted i;
+      waiting = waits i;
+      start = start i;
+      fault = same.fault i;
+      pins = same.pins i;
+      account = same.account i;
+    }
+
+-- a test decides which of two a log is rolled to
+rolled_by : (any is : Bool) (one none at : LogStatus) → any ≡ is → at ≡ (if is then one else none) → at ≡ (if any then one else none)
+rolled_by any is one none at test same = same ∙ sym (ap (λ (o : Bool). if o then one else none) test)
 
 -- What the current buffer holds is counted behind where it begins.
 held_is : {D C : Type 0} (log : Log D C) (site : SegmentPosition) (b : IoBuf) → view_at site b ≡ current_of log → length b.bytes.items - b.begin ≡ held_len log
@@ -68,7 +61,10 @@ returns-then-held-eq0-clause-status g c =
     let count : c.len.result ≡ length c.current.result.1.now.bytes.items = search rules in
     let empty = c.if-held-eq0.true in
     let held = held_is c.args.self.now c.current.result.0 c.current.result.1.now c.current.ensures.view in
-    none_rolled g.C.Checksum.sum_of c.args.self.now (omega (arith, count, empty, held))
+    let log = c.args.self.now in
+    let begins = (current_facts log).begins in
+    let none : holds_any (current_of log) ≡ false = grind (arith, nat_tests, count, empty, held, begins) in
+    rolled_by (holds_any (current_of log)) false _ (status_of log) (status_of log) none refl
 
 pub returns-then-held-eq0-clause-keeps : goal.returns-then-held-eq0-clause-keeps
 returns-then-held-eq0-clause-keeps g c = log_still g.D.Device.trace g.C.Checksum.sum_of c.args.self.now
@@ -96,7 +92,10 @@ returns-clause-status g c =
     let held = held_is c.args.self.now c.current.result.0 c.current.result.1.now c.current.ensures.view in
     let more : 0 < held_len c.args.self.now = omega (arith, count, some, held) in
     let did = c.in_ok-seal.ensures in
-    one_rolled g.C.Checksum.sum_of c.args.self.now c.seal.new.self (grind (arith, nat_tests, more)) did.waiting did.start did.position did.keeps.position did.same
+    let old = c.args.self.now in
+    let any : holds_any (current_of old) ≡ true = grind (arith, nat_tests, more) in
+    rolled_by (holds_any (current_of old)) true _ (status_of old) (status_of c.seal.new.self) any
+    (one_rolled g.C.Checksum.sum_of old c.seal.new.self did.waiting did.start did.position did.keeps.position did.same)
 
 -- Where nothing is sealed no segment is begun.
 

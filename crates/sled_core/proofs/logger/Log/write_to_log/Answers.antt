@@ -9,7 +9,7 @@ use Rattle.sled_core.specs.Fillings.{fillings_along}
 use Rattle.sled_core.specs.Heads.{heads_along}
 use Rattle.sled_core.specs.Among.{AreAmong}
 use Rattle.sled_core.specs.Account.{account_behind, account_of, written_account}
-use Rattle.sled_core.specs.Fits.{fillings_of, heads_of, ledger_of, line_of, machine_at, position_with, segment_size_of, start_of, waiting_of, writing_pending}
+use Rattle.sled_core.specs.Fits.{fillings_of, heads_of, ledger_of, line_of, position_with, segment_size_of, start_of, waiting_of, writing_pending}
 use Rattle.sled_core.specs.Ledger.{ledger_behind, written_ledger}
 use Rattle.sled_core.specs.inside.Turned.{mark_of, promoted, writing_in, written_now}
 use Rattle.sled_core.specs.Waiting.{BufferAt, one_pending, unwritten, without_pending}
@@ -120,7 +120,7 @@ returns-clause-status g c =
     wrote_ok c.write_buffer.result _ _ _ _ _ _
     (λ line ledger fault.
     status_wrote old new (one_pending c.args.i (waiting_of old)) (without_pending c.args.i (waiting_of old)) (start_of old) (ledger_of old) (position_with old)
-    (without_it g c line) start (ledger ∙ its_ledger g c) (c.write_buffer.ensures.position (machine_at new)) keeps.position (fault ∙ sym c.in_default.is) keeps.preserves.noted)
+    (without_it g c line) start (ledger ∙ its_ledger g c) c.write_buffer.ensures.position keeps.position (fault ∙ sym c.in_default.is) keeps.preserves.noted)
     (c.write_buffer.ensures.line r.segment r.among) (c.write_buffer.ensures.ledger r.segment r.among) c.write_buffer.ensures.answers
 
 pub returns-clause-err : goal.returns-clause-err
