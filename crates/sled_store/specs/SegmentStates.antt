@@ -319,7 +319,7 @@ tested size k m = freed_if_done size k (drained_if_sparse size k m)
 abbrev pub waiting_for : ℕ → Machine → List ℕ
 waiting_for place m = map (λ w. w.1) (filter (λ w. w.0 == place) (waiting_among m.slots))
 
--- more than five segments are inactive, and at least half of all slots are free
+-- more than five segments are inactive, and the free slots are at least half of the number of free and inactive ones plus one
 abbrev pub is_wasteful : List SlotState → Bool
 is_wasteful slots =
     let free = length (free_among slots) in

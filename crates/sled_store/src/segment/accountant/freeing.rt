@@ -262,7 +262,7 @@ impl SegmentAccountant {
         Ok(())
     }
 
-    /// Drains the highest inactive segment where more than five are inactive and half of all slots are free.
+    /// Drains the highest inactive segment where that is wasteful.
     fn drain_if_wasteful(&mut self)
         requires { IsAccountant (size_of self.old) self.old }
         ensures machine { machine_of self.new ≡ drained_if_wasteful (machine_of self.old) }
@@ -278,7 +278,8 @@ impl SegmentAccountant {
         }
     }
 
-    /// Whether more than five segments are inactive and at least half of all slots are free.
+    /// Whether more than five segments are inactive, and the free slots are at least half of the number of free and inactive
+    /// ones plus one.
     fn is_wasteful(&self) -> bool
         requires { IsAccountant (size_of self.now) self.now }
         ensures { result ≡ is_wasteful (machine_of self.now).slots }
