@@ -106,6 +106,7 @@ pub mod Promotes
 pub mod Quiet
 pub mod Reads
 pub mod ReadsOwn
+pub mod ReadySeen
 pub mod Records
 pub mod Refilled
 pub mod Reserved
@@ -130,7 +131,9 @@ pub mod Shows
 pub mod Slots
 pub mod Spans
 pub mod Spared
+pub mod StableTargets
 pub mod StandsThere
+pub mod StatusSeen
 pub mod Stays
 pub mod StepAlong
 pub mod StepBetween
@@ -147,7 +150,7 @@ pub mod WithoutBlob
 pub mod WriteHides
 pub mod WriteMarks
 pub mod Writes
-pub mod Wrote
 pub mod WrittenHides
 pub mod WrittenSlots
 pub mod WrittenTickets
+pub mod Wrote

@@ -1,11 +1,11 @@
 -- The lemmas by which a proof of a crate above cites the laws of logs: where the messages lie that a log fits, what a crash leaves of its device, and that an empty device is ready.
 -- The laws are the interface (`src/laws.rt`): each says what a client may rely on, and its lemma here says the same. Those under "Helpers" have no law: they put clauses of calls together, or say a law once more in the form that a proof needs.
-use Rattle.std.proofs.Common.{◌≡◌, ◌∙◌, ◌≤◌, ◌<◌, ◌+◌, ◌*◌, ◌^◌, ℕ, ℤ, pos, Bool, true, false, nat_lt, if◌then◌else◌, List, [], ◌∷◌, ◌++◌, Option, None, Some, rules, refl, sym, ap, subst, arith, inl, inr}
+use Rattle.std.proofs.Common.{◌≡◌, ◌∙◌, ◌≤◌, ◌<◌, ◌+◌, ◌^◌, ℕ, ℤ, pos, Bool, true, false, nat_lt, if◌then◌else◌, List, [], ◌∷◌, ◌++◌, Option, None, Some, rules, refl, sym, ap, subst, arith, inl, inr}
 use Rattle.std.specs.Prelude.{FitsSigned}
 use Rattle.std.specs.Int.{w64, cast_signed, cast_unsigned}
 use Rattle.std.specs.List.{All, Contains}
-use Rattle.std.proofs.lemmas.Int.{to_z-of_z, ints}
-use Rattle.std.proofs.lemmas.List.Elements.{All-contains, All-tail}
+use Rattle.std.proofs.lemmas.Int.{to_z-of_z}
+use Rattle.std.proofs.lemmas.List.Elements.{All-tail}
 use Rattle.sled_codec.specs.declared.result.DiskPtr.TheVariants.{Blob}
 use Rattle.sled_codec.specs.declared.serialization.message.LogKind.TheVariants.{Replace}
 use Rattle.sled_codec.specs.History.{History, Message, table}
@@ -15,10 +15,9 @@ use Rattle.sled_store.specs.Device.{Trace, State, Content, Left, Leaves, Crashed
 use Rattle.sled_store.proofs.LogFile.LogLemmas.{at_rest_left}
 use Rattle.sled_store.proofs.Names.NamesLemmas.{settled_name_left, settled_name_at_rest}
 use Rattle.sled_core.specs.declared.logger.Log.{Log}
-use Rattle.sled_core.specs.Fits.{KeepsAll, stable_end, FirstWaits, FitsInline, HasRecordOf, NoneOpen, NoneOpenIn, IsUnchanged, IsWritten, synced_end, segment_size_of, buffers_of, current_begin, current_of, held_len, holding_below, is_moved, line_of, machine_at, message_rewriting, next_place, noted_in, reserved_end, sealing_end, start_behind, start_of, target_of, waiting_behind, waiting_of}
+use Rattle.sled_core.specs.Fits.{KeepsAll, stable_end, FirstWaits, FitsInline, HasRecordOf, NoneOpen, NoneOpenIn, IsUnchanged, IsWritten, synced_end, segment_size_of, buffers_of, current_begin, current_of, holding_below, machine_at, message_rewriting, next_place, noted_in, reserved_end, start_of, target_of, waiting_of}
 use Rattle.sled_core.specs.Logged.{logged}
-use Rattle.sled_core.specs.Waiting.{BufferAt, BufferStart, at_last, closed_now, first_held, held_below, spans, unwritten}
-use Rattle.sled_store.specs.SegmentStates.{next_slot}
+use Rattle.sled_core.specs.Waiting.{BufferAt, BufferStart, first_held, held_below}
 use Rattle.sled_core.specs.Recoverable.{NoForeign, LeavesRecoverable}
 use Rattle.sled_core.specs.inside.Lasting.{IsLasting, LeavesRecovering}
 use Rattle.sled_core.specs.invariants.Lasting.{Lasts}
@@ -34,8 +33,7 @@ use Rattle.sled_core.proofs.Holds.ReachLemmas.{kept_past}
 use Rattle.sled_core.proofs.Holds.Facts.{current_facts}
 use Rattle.sled_core.proofs.Line.Rewritten.{rewritten_stored}
 use Rattle.sled_core.proofs.Line.Targets.{lies}
-use Rattle.sled_core.proofs.Line.Shows.{buffers_add, buffers_closed, buffers_free}
-use Rattle.sled_core.proofs.Line.Spans.{spans_added}
+use Rattle.sled_core.proofs.Line.Shows.{buffers_free}
 use Rattle.sled_core.proofs.Logged.Messages.{all_in_log}
 use Rattle.sled_core.proofs.Start.Places.{goes_on_at}
 pub use Rattle.sled_core.proofs.Start.FreshReady.{fresh_leaves, fresh_ready, empty_ready, empty_recoverable}
@@ -86,6 +84,11 @@ pub use Rattle.sled_core.proofs.Holds.ReachLemmas.{fits_acknowledged, inline_nam
 pub use Rattle.sled_core.proofs.Line.WithoutBlob.{alone_answers, alone_keeps, alone_same, without_further, without_none}
 pub use Rattle.sled_core.proofs.Line.ReservedInline.{ReservesInline, comes_inline, inline_keeps, inline_message, not_in_blob, refused_inline}
 pub use Rattle.sled_core.proofs.Line.Shows.{buffers_still as shows_empty, buffers_long as shows_long}
+-- A log is as its status tells it: where the next record may begin with any slots (`over_seen`), where the current buffer and the next record begin once what
+-- begins below a place, or has it, is sealed, and what a reservation seals.
+pub use Rattle.sled_core.proofs.Line.ReadySeen.{machine_seen, shows_behind, start_with_seen, waiting_seen}
+pub use Rattle.sled_core.proofs.Line.StatusSeen.{around_seen, below_seen, ledger_around_seen, ledger_below_seen, over_seen, sealed_around_seen, sealed_seen, shows_current}
+pub use Rattle.sled_core.proofs.Line.StatusSeen.{start_around_seen, start_seen}
 
 -- As much is synced where the same buffers wait, and the current one begins where it did.
 first_same : (s s' begin begin' : ℕ) (bs bs' : List BufferAt) → FirstWaits s begin bs → FirstWaits s' begin' bs' → bs' ≡ bs → begin' ≡ begin → s' ≡ s
@@ -113,22 +116,6 @@ place_back z n is small = let fits : FitsSigned w64 (pos n) = search rules in sy
 -- What was written ends at the stable end at most.
 pub written_past : {D C : Type 0} (trace : D → Trace) (sum : List ℕ → ℕ) (log : Log D C) (H : History) → IsWritten trace sum log H → All (λ m. m.place + m.size ≤ synced_end log) H.messages
 written_past trace sum log H written = all_in_log (λ (m : Message). m.place + m.size ≤ synced_end log) H.messages (kept_past sum (segment_size_of log) log.segments.first.site log.segments.first.buffer.written_len _ (logged H) written)
-
--- What is seen of the buffers of a log: the current one, as it would be sealed, lies behind the sealed ones,
-pub shows_current : {D C : Type 0} (sum : List ℕ → ℕ) (log : Log D C) → 0 < held_len log
-    → spans (buffers_of sum log) ≡ spans (waiting_of log) ++ record { place = current_begin log; end = sealing_end log; lid = (start_of log).lid } ∷ []
-shows_current sum log some = spans_added (waiting_of log) (buffers_of sum log) _ (buffers_add sum log some)
-
--- and so it does where a reservation fills its segment;
-pub shows_behind : {D C : Type 0} (sum : List ℕ → ℕ) (log : Log D C) (page n : ℕ) → is_moved log page n ≡ true
-    → spans (waiting_behind sum log page n) ≡ spans (waiting_of log) ++ record { place = current_begin log; end = (start_behind log page n).place; lid = (start_of log).lid } ∷ []
-shows_behind sum log page n moves =
-    let size : ℕ = segment_size_of log in
-    let closed : List BufferAt = unwritten (at_last (closed_now sum size) (line_of log)) in
-    let next : BufferStart = record { place = (current_of log).parts.site.place + size; lid = next_slot (machine_at log) * size } in
-    ap (λ (o : Bool). spans (if o then closed else waiting_of log)) moves
-    ∙ spans_added (waiting_of log) closed _ (buffers_closed sum log)
-    ∙ sym (ap (λ (o : Bool). spans (waiting_of log) ++ record { place = current_begin log; end = (if o then next else start_of log).place; lid = (start_of log).lid } ∷ []) moves)
 
 -- The record of a message is put at the next place or behind it.
 pub target_above : {D C : Type 0} (log : Log D C) (page n : ℕ) → FitsInline (segment_size_of log) n → next_place log ≤ (target_of log page n).place

@@ -1,5 +1,6 @@
 -- How far a call came that seals and writes buffers, and fails: as many buffers are gone as it wrote and synced.
-use Rattle.std.specs.Prelude.{◌≡◌, ◌≢◌, ◌⊎◌, ◌+◌, ◌-◌, ◌*◌, ◌<◌, ◌≤ℤ◌, ℕ, ℤ, suc, pos, unsigned_abs, if◌then◌else◌, Bool, true, false, List, [], ◌∷◌, take, drop, None}
+use Rattle.std.specs.Prelude.{◌≡◌, ◌≢◌, ◌⊎◌, ◌+◌, ◌-◌, ◌*◌, ◌<◌, ◌≤ℤ◌, ℕ, ℤ, suc, pos, unsigned_abs, if◌then◌else◌, Bool, true, false, List, [], ◌∷◌, take}
+use Rattle.std.specs.Prelude.{drop, None}
 use Rattle.std.specs.Prelude.{Result, Err}
 use Rattle.std.specs.declared.io.Error.{Error as IoError}
 use Rattle.sled_codec.specs.declared.result.Error.{Error}
@@ -10,11 +11,12 @@ use Rattle.sled_store.specs.Script.{after_all}
 use Rattle.sled_store.specs.Stabilizing.{MovesSlots}
 use Rattle.sled_core.specs.Account.{account_behind, account_of}
 use Rattle.sled_core.specs.declared.logger.Log.{Log}
-use Rattle.sled_core.specs.Fits.{current_begin, device_of, fault_of, ledger_for, ledger_of, machine_at, pins_of, position_with, reserved_end, segment_size_of}
-use Rattle.sled_core.specs.Fits.{start_of, synced_end, waiting_of, writing_some}
-use Rattle.sled_core.specs.Keeps.{FailedStep, position_for, sealed_for, start_for}
+use Rattle.sled_core.specs.Fits.{current_begin, device_of, fault_of, ledger_for, ledger_of, machine_at, pins_of, reserved_end, segment_size_of}
+use Rattle.sled_core.specs.Fits.{synced_end, waiting_of, writing_some}
+use Rattle.sled_core.specs.Keeps.{FailedStep, sealed_for, start_for}
 use Rattle.sled_core.specs.Freeing.{Ledger}
 use Rattle.sled_core.specs.Ledger.{ledger_behind}
+use Rattle.sled_core.specs.LogStatus.{LeavesStatus, HasStatus, status_of, wrote_front}
 use Rattle.sled_core.specs.Stable.{first_begin}
 use Rattle.sled_core.specs.Waiting.{BufferAt}
 use Rattle.sled_core.specs.ReadBuffer.{LeavesFailing, LeavesSealed, LeavesUnsealed, LeavesWritten, held_at, ledger_at, settling}
@@ -67,9 +69,7 @@ FailedFront trace sum to count old new =
 -- Those that begin below a place are sealed, and so many at the front were written; unless the device failed no other call was made.
 pub record WroteFront {D C : Type 0} (trace : D → Trace) (sum : List ℕ → ℕ) (to : ℕ) (old new : Log D C) : Type 0 where
   pub count : ℕ
-  pub left : waiting_of new ≡ drop count (sealed_for sum to old)
-  pub start : start_of new ≡ start_for to old
-  pub position : (m : Machine) → position_with new m ≡ position_for to old m
+  pub stands : LeavesStatus (drop count (sealed_for sum to old)) (wrote_front (segment_size_of old) to count (ledger_of new) (status_of old)) new
   -- the marks of all that were written count; and slots are as behind these, and not all is written that begins below the place: or the step behind the last
   -- one failed
   pub ledger : (account_of new ≡ (ledger_behind (segment_size_of old) (take count (sealed_for sum to old)) (ledger_for to old)).account)
@@ -88,11 +88,7 @@ pub record WroteThenFailed {D C : Type 0} (trace : D → Trace) (bs left : List 
 
 -- Nothing was done, and no failure is new, though the current buffer was to be sealed, or the log keeps a failure.
 pub record SealedNone {D C : Type 0} (trace : D → Trace) (to : ℕ) (old new : Log D C) : Type 0 where
-  pub fault : fault_of new ≡ fault_of old
-  pub waiting : waiting_of new ≡ waiting_of old
-  pub start : start_of new ≡ start_of old
-  pub position : (m : Machine) → position_with new m ≡ position_with old m
-  pub ledger : ledger_of new ≡ ledger_of old
+  pub stands : HasStatus (waiting_of old) (status_of old) new
   pub still : trace (device_of new) ≡ trace (device_of old)
   pub due : fault_of old ≡ None → current_begin old < to
 
@@ -105,7 +101,7 @@ CameTo trace sum to old new = SealedNone trace to old new ⊎ WroteFront trace s
 abbrev pub CameAround : {D C : Type 0} → (D → Trace) → (List ℕ → ℕ) → ℤ → Log D C → Log D C → Type 0
 CameAround trace sum lsn old new =
     let at : ℕ = unsigned_abs lsn in
-    (LeavesUnsealed sum at old new × (trace (device_of new) ≡ trace (device_of old)) × (pos (current_begin old) ≤ℤ lsn → fault_of new ≡ fault_of old))
+    (LeavesUnsealed old new × (trace (device_of new) ≡ trace (device_of old)) × (pos (current_begin old) ≤ℤ lsn → fault_of new ≡ fault_of old))
     ⊎ (LeavesSealed sum at old new × WroteNone trace old new)
     ⊎ (LeavesWritten sum at old new × (trace (device_of new) ≡ after_all (settling sum old (pos at)) (trace (device_of old)))
     × (held_at sum old (pos at) ≡ None))

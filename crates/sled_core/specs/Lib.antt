@@ -51,6 +51,7 @@ pub mod Running
 pub mod Scan
 pub mod SealedBuffers
 pub mod Sources
+pub mod Spans
 pub mod Stable
 pub mod StableEnds
 pub mod Starts

@@ -20,6 +20,7 @@ use Rattle.sled_core.specs.Fits.{position_with, reserved_end, sealing_end, segme
 use Rattle.sled_core.specs.Freeing.{Ledger}
 use Rattle.sled_core.specs.Keeps.{FailedStep, start_sealed}
 use Rattle.sled_core.specs.Ledger.{ledger_behind, writings}
+use Rattle.sled_core.specs.LogStatus.{LeavesStatus, ledger_around, seal_around, status_of, wrote_around}
 use Rattle.sled_core.specs.Marked.{BeginsMarked}
 use Rattle.sled_core.specs.Positions.{Position}
 use Rattle.sled_core.specs.Reading.{IsNoPlace}
@@ -96,41 +97,38 @@ start_at place log = if nat_le (current_begin log) place then start_sealed log e
 abbrev pub position_at : {D C : Type 0} → ℕ → Log D C → Machine → Position
 position_at place log m = if nat_le (current_begin log) place then position_sealed log m else position_with log m
 
--- the buffers are as they were
-abbrev pub LeavesUnsealed : {D C : Type 0} → (List ℕ → ℕ) → ℕ → Log D C → Log D C → Type 0
-LeavesUnsealed sum place old new =
-    (waiting_of new ≡ waiting_of old) × (start_of new ≡ start_of old) × (ledger_of new ≡ ledger_of old)
-    × ((m : Machine) → position_with new m ≡ position_with old m)
+-- the log is as it was, but for its failure
+abbrev pub LeavesUnsealed : {D C : Type 0} → Log D C → Log D C → Type 0
+LeavesUnsealed old new = LeavesStatus (waiting_of old) (status_of old) new
 
--- the current one is sealed where it has the place
+-- the current buffer is sealed where it has the place
 abbrev pub LeavesSealed : {D C : Type 0} → (List ℕ → ℕ) → ℕ → Log D C → Log D C → Type 0
-LeavesSealed sum place old new =
-    (waiting_of new ≡ sealed_at sum place old) × (start_of new ≡ start_at place old) × (ledger_of new ≡ ledger_at place old)
-    × ((m : Machine) → position_with new m ≡ position_at place old m)
+LeavesSealed sum place old new = LeavesStatus (sealed_at sum place old) (seal_around (segment_size_of old) place (status_of old)) new
 
 -- slots and marks, once the buffer is written that has the place
 abbrev pub ledger_written : {D C : Type 0} → (List ℕ → ℕ) → ℕ → Log D C → Ledger
-ledger_written sum place old = ledger_behind (segment_size_of old) (one_around place (sealed_at sum place old)) (ledger_at place old)
+ledger_written sum place old = ledger_behind (segment_size_of old) (one_around place (sealed_at sum place old)) (ledger_around place (status_of old))
 
--- and the one that has the place is written besides
+-- it is written besides, and these are the slots and marks
+abbrev pub LeavesAround : {D C : Type 0} → (List ℕ → ℕ) → ℕ → Ledger → Log D C → Log D C → Type 0
+LeavesAround sum place l old new =
+    LeavesStatus (without_around place (sealed_at sum place old)) (wrote_around (segment_size_of old) place l (status_of old)) new
+
 abbrev pub LeavesWritten : {D C : Type 0} → (List ℕ → ℕ) → ℕ → Log D C → Log D C → Type 0
-LeavesWritten sum place old new =
-    (waiting_of new ≡ without_around place (sealed_at sum place old)) × (start_of new ≡ start_at place old)
-    × (ledger_of new ≡ ledger_written sum place old) × ((m : Machine) → position_with new m ≡ position_at place old m)
+LeavesWritten sum place old new = LeavesAround sum place (ledger_written sum place old) old new
 
 -- and the accountant's step behind that failed, so that slots are on the way
 abbrev pub LeavesFailing : {D C : Type 0} → (List ℕ → ℕ) → ℕ → Log D C → Log D C → Type 0
 LeavesFailing sum place old new =
-    (waiting_of new ≡ without_around place (sealed_at sum place old)) × (start_of new ≡ start_at place old)
-    × (account_of new ≡ (ledger_written sum place old).account) × ((m : Machine) → position_with new m ≡ position_at place old m) × FailedStep old new
+    FailedStep old new × LeavesAround sum place (ledger_of new) old new × (account_of new ≡ (ledger_written sum place old).account)
 
 -- What a read of a place that isn't stable leaves of the buffers: where it succeeds the one that has the place is written; where it is held that one is
 -- sealed; else one of these.
 pub record WritesAround {T D C : Type 0} (sum : List ℕ → ℕ) (result : Result T Error) (lsn : ℤ) (old new : Log D C) : Type 0 where
-  pub still : lsn <ℤ pos (synced_end old) → LeavesUnsealed sum (unsigned_abs lsn) old new
+  pub still : lsn <ℤ pos (synced_end old) → LeavesUnsealed old new
   pub written : pos (synced_end old) ≤ℤ lsn → OnOk result (LeavesWritten sum (unsigned_abs lsn) old new)
   pub held : IsHeld result → LeavesSealed sum (unsigned_abs lsn) old new
-  pub some : OnErr result (LeavesUnsealed sum (unsigned_abs lsn) old new ⊎ LeavesSealed sum (unsigned_abs lsn) old new
+  pub some : OnErr result (LeavesUnsealed old new ⊎ LeavesSealed sum (unsigned_abs lsn) old new
       ⊎ LeavesWritten sum (unsigned_abs lsn) old new ⊎ LeavesFailing sum (unsigned_abs lsn) old new)
   -- a segment that was begun has the last stable place for its mark
   pub marked : BeginsMarked sum old new

@@ -1,5 +1,5 @@
 -- What a reservation does to the log and to its device, by whether the item goes to a blob.
-use Rattle.std.specs.Prelude.{◌≡◌, ◌⊎◌, ◌+◌, ◌%◌, ◌^◌, ◌++◌, ◌∷◌, [], ℕ, ℤ, pos, Bool, true, false, IsTrue, List, Option, None, Some, IsSome}
+use Rattle.std.specs.Prelude.{◌≡◌, ◌⊎◌, ◌+◌, ◌%◌, ◌^◌, ℕ, ℤ, pos, Bool, true, false, IsTrue, List, Option, None, Some, IsSome}
 use Rattle.std.specs.Prelude.{Result, Ok, Err, IfOk, OnOk}
 use Rattle.std.specs.declared.io.Error.{Error as IoError}
 use Rattle.std.specs.declared.io.ErrorKind.TheVariants.{AlreadyExists}
@@ -16,10 +16,12 @@ use Rattle.sled_store.specs.Script.{Performs, after_all}
 use Rattle.sled_core.specs.declared.logger.Log.{Log}
 use Rattle.sled_core.specs.Causes.{ReserveAnswers, ReserveCauses}
 use Rattle.sled_core.specs.Fits.{Awaits, IsLeastOpen, IsUnchanged, IsUsedUpFor, blob_at, config_of, device_of, fault_of, given_up_of, message_as, open_for}
-use Rattle.sled_core.specs.Fits.{machine_at, machine_behind, open_places, pooled_behind, pooled_of}
-use Rattle.sled_core.specs.Fits.{position_behind, position_of, reserved_end, size_for, start_behind, start_of, target_of, waiting_behind, waiting_of}
+use Rattle.sled_core.specs.Fits.{segment_size_of}
+use Rattle.sled_core.specs.Fits.{pooled_behind, pooled_of}
+use Rattle.sled_core.specs.Fits.{size_for, target_of, waiting_behind}
 use Rattle.sled_core.specs.Among.{AreAmong}
 use Rattle.sled_core.specs.Keeps.{KeepsSeen, Preserves}
+use Rattle.sled_core.specs.LogStatus.{LeavesStatus, reserving_at, status_of}
 use Rattle.sled_core.specs.Manifests.{is_manifest, kind_for}
 use Rattle.sled_core.specs.Marked.{BeginsMarked}
 use Rattle.sled_core.specs.Prepared.{IsMadeReady}
@@ -77,13 +79,9 @@ reserve_causes trace faults kind page blob n old new = record {
 -- among the open ones; what counts as given up was given up before. Where it had no room in the current segment, that is sealed, and a further one begins
 -- with it, whose header has the last stable place for its mark.
 pub record StandsBehind {D C : Type 0} (sum : List ℕ → ℕ) (old new : Log D C) (page n : ℕ) : Type 0 where
-  pub position : position_of new ≡ position_behind old page n
-  pub reserved : reserved_end new ≡ (target_of old page n).place + size_for old page n
-  pub opens : open_places new ≡ open_places old ++ (target_of old page n).place ∷ []
+  pub stands : let q = target_of old page n in
+      LeavesStatus (waiting_behind sum old page n) (reserving_at (segment_size_of old) q q.place (size_for old page n) (status_of old)) new
   pub given_up : AreAmong (given_up_of new) (given_up_of old)
-  pub waiting : waiting_of new ≡ waiting_behind sum old page n
-  pub start : start_of new ≡ start_behind old page n
-  pub machine : machine_at new ≡ machine_behind old page n
   pub pooled : pooled_of new ≡ pooled_behind old page n
   pub marked : BeginsMarked sum old new
 

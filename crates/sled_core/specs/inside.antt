@@ -8,6 +8,7 @@ pub mod Cleared
 pub mod FirstBuffer
 pub mod Fits
 pub mod FreeSlots
+pub mod Fronts
 pub mod Full
 pub mod Hides
 pub mod Iterators

@@ -5,6 +5,7 @@ pub mod DueFirst
 pub mod EndedBatches
 pub mod EndedTickets
 pub mod Endings
+pub mod FailedSteps
 pub mod FormerPages
 pub mod Headline
 pub mod KeptPlaces
@@ -15,7 +16,6 @@ pub mod MadePages
 pub mod MadeStable
 pub mod MadeTables
 pub mod MoreTickets
-pub mod NotedSeen
 pub mod OpenApart
 pub mod PinsTaken
 pub mod Reading
@@ -28,7 +28,6 @@ pub mod RunLogs
 pub mod SafeItems
 pub mod SessionLemmas
 pub mod SharedBlobs
-pub mod SlotsSeen
 pub mod SpentTickets
 pub mod TicketsSeen
 pub mod Within

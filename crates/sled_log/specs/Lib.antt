@@ -19,7 +19,6 @@ pub mod Reservations
 pub mod Restores
 pub mod Restarts
 pub mod RunPhases
-pub mod RunSlots
 pub mod RunStates
 pub mod Runs
 pub mod SessionMarks

@@ -10,12 +10,13 @@ use Rattle.sled_core.specs.Account.{Account, account_behind}
 use Rattle.sled_core.specs.Ledger.{ledger_behind}
 use Rattle.sled_core.specs.ReadPointer.{place_read}
 use Rattle.sled_core.specs.Waiting.{BufferAt, Span, free_around, one_around}
+use Rattle.sled_core.specs.LogStatus.{failing, ledger_around, seal_around, sealed_around, wrote_around}
+use Rattle.sled_core.specs.Spans.{held, spans_place}
 use Rattle.sled_log.specs.declared.session.command.Reply.{Reply}
 use Rattle.sled_log.specs.declared.session.command.Reply.TheVariants as reply
-use Rattle.sled_log.specs.RunStates.{DeviceView, EndsInReach, LogView, RunState, held, is_present, opens, sealed_around, spans_place, spans_without}
-use Rattle.sled_log.specs.RunStates.{start_around, with_log}
-use Rattle.sled_log.specs.RunSlots.{ledger_around, ledger_in, position_around, position_over}
-use Rattle.sled_log.specs.WriteSteps.{Fails, IfHeld, KeepsFailing, LeavesLog, StepFailed, Writes, WritesSome, view_flushed}
+use Rattle.sled_log.specs.RunStates.{DeviceView, EndsInReach, LogView, RunState, is_present}
+use Rattle.sled_log.specs.RunStates.{view_at, with_log}
+use Rattle.sled_log.specs.WriteSteps.{Fails, IfHeld, KeepsFailing, LeavesLog, StepFailed, Writes, WritesSome}
 
 -- the place that a read of a message brings to the device: its own, or that of its blob
 abbrev pub read_at : Message → ℕ
@@ -25,49 +26,47 @@ read_at m = unsigned_abs (place_read (pos m.place) m.pointer)
 -- holds that buffer up
 abbrev pub read_around : ℕ → LogView → ℕ → List BufferAt → LogView
 read_around size l at bs =
-    if nat_lt at l.synced then l
-    else view_flushed l (spans_without at (sealed_around at l)) (start_around at l) l.fault (ledger_behind size (one_around at bs) (ledger_around at l))
-    (position_around size at l)
+    if nat_lt at l.status.synced then l
+    else view_at l (wrote_around size at (ledger_behind size (one_around at bs) (ledger_around at l.status)) l.status)
 
 abbrev pub chosen_around : LogView → ℕ → List BufferAt → List BufferAt
-chosen_around l at bs = if nat_lt at l.synced then [] else free_around at bs
+chosen_around l at bs = if nat_lt at l.status.synced then [] else free_around at bs
 
 abbrev pub held_around_place : List ℕ → ℕ → List Span → Option ℕ
 held_around_place places at [] = None
 held_around_place places at (s ∷ ss) = if spans_place at s then held places s else held_around_place places at ss
 
 abbrev pub holding_read : LogView → ℕ → Option ℕ
-holding_read l at = if nat_lt at l.synced then None else held_around_place (opens l) at (sealed_around at l)
+holding_read l at = if nat_lt at l.status.synced then None else held_around_place l.status.opens at (sealed_around at l.status)
 
 -- The buffer with a place is on the device: it was written, where the place wasn't stable.
 pub record ReadsAt (sum : List ℕ → ℕ) (size : ℕ) (l : LogView) (at : ℕ) (old new : DeviceView) : Type 0 where
   pub free : holding_read l at ≡ None
-  pub writes : Writes sum size l (sealed_around at l) (chosen_around l at) (ledger_around at l) old new
+  pub writes : Writes sum size l (sealed_around at l.status) (chosen_around l at) (ledger_around at l.status) old new
   pub failures : new.failures ≡ old.failures
 
 -- These messages were read, one behind another, and lead from one log to another.
 abbrev pub ReadsAll : (List ℕ → ℕ) → ℕ → LogView → List Message → DeviceView → DeviceView → LogView → Type 0
 ReadsAll sum size l [] old new end = (new.trace ≡ old.trace) × (new.failures ≡ old.failures) × (end ≡ l)
 ReadsAll sum size l (m ∷ ms) old new end =
-    (mid : DeviceView) × (reads : ReadsAt sum size l (read_at m) old mid) × ReadsAll sum size (read_around size l (read_at m) reads.writes.buffers) ms mid new end
+    (mid : DeviceView) × (reads : ReadsAt sum size l (read_at m) old mid)
+    × ReadsAll sum size (read_around size l (read_at m) reads.writes.buffers) ms mid new end
 
 -- A read of a place failed: the buffer that has it is sealed, or isn't and the read wasn't held up, and it isn't written: where it is the current one that
 -- isn't sealed, the device didn't fail. Or nothing held it up and it is written: what it has wasn't read, or the accountant's step behind the write failed.
 abbrev pub FailsAt : (List ℕ → ℕ) → ℕ → RunState → LogView → ℕ → Error → DeviceView → DeviceView → RunState → Type 0
 FailsAt sum size a l at e old new b =
-    Fails l e (holding_read l at) ((l.start.place ≤ at) × (EndsInReach size l.position → ⊥)) old new (λ fault.
-    (WritesSome sum size l (sealed_around at l) (chosen_around l at) (ledger_around at l) 0 e fault old new
-    × ((IfHeld e ⊥ × LeavesLog a l new b l.waiting l.start fault (ledger_in l) (position_over size l) × (l.start.place ≤ at → fault ≡ None))
-    ⊎ LeavesLog a l new b (sealed_around at l) (start_around at l) fault (ledger_around at l) (position_around size at l)))
-    ⊎ ((holding_read l at ≡ None) × (writes : Writes sum size l (sealed_around at l) (chosen_around l at) (ledger_around at l) old new)
-    × LeavesLog a l new b (spans_without at (sealed_around at l)) (start_around at l) fault
-    (ledger_behind size (one_around at writes.buffers) (ledger_around at l)) (position_around size at l))
+    Fails l e (holding_read l at) ((l.status.start.place ≤ at) × (EndsInReach size l.status.position → ⊥)) old new (λ fault.
+    (WritesSome sum size l (sealed_around at l.status) (chosen_around l at) (ledger_around at l.status) 0 e fault old new
+    × ((IfHeld e ⊥ × LeavesLog a l new b (failing fault l.status) × (l.status.start.place ≤ at → fault ≡ None))
+    ⊎ LeavesLog a l new b (failing fault (seal_around size at l.status))))
+    ⊎ ((holding_read l at ≡ None) × (writes : Writes sum size l (sealed_around at l.status) (chosen_around l at) (ledger_around at l.status) old new)
+    × LeavesLog a l new b (failing fault (wrote_around size at (ledger_behind size (one_around at writes.buffers) (ledger_around at l.status)) l.status)))
     ⊎ ((holding_read l at ≡ None)
-    × (some : WritesSome sum size l (sealed_around at l) (chosen_around l at) (ledger_around at l) 1 e fault old new)
-    × (account : Account) × (account ≡ account_behind (one_around at some.buffers) l.account)
-    × (left : Machine) × StepFailed size l account.mark (ledger_around at l).machine left fault new.trace
-    × LeavesLog a l new b (spans_without at (sealed_around at l)) (start_around at l) fault (record { machine = left; account = account })
-    (position_around size at l)))
+    × (some : WritesSome sum size l (sealed_around at l.status) (chosen_around l at) (ledger_around at l.status) 1 e fault old new)
+    × (account : Account) × (account ≡ account_behind (one_around at some.buffers) l.status.account)
+    × (left : Machine) × StepFailed size l account.mark (ledger_around at l.status).machine left fault new.trace
+    × LeavesLog a l new b (failing fault (wrote_around size at (record { machine = left; account = account }) l.status))))
 
 -- Some messages of a page were read, and the next one was not.
 pub record ReadStops (sum : List ℕ → ℕ) (size : ℕ) (a : RunState) (l : LogView) (ms : List Message) (e : Error) (new : DeviceView) (b : RunState) : Type 0 where
@@ -84,7 +83,7 @@ pub record ReadStops (sum : List ℕ → ℕ) (size : ℕ) (a : RunState) (l : L
 pub record HasRead (sum : List ℕ → ℕ) (size : ℕ) (a : RunState) (l : LogView) (ms : List Message) (items : List (Vec ℕ Global)) (new : DeviceView)
     (b : RunState) : Type 0 where
   pub present : is_present ms ≡ true
-  pub sound : l.fault ≡ None
+  pub sound : l.status.fault ≡ None
   pub items_are : map (λ v. v.items) items ≡ map (λ m. m.bytes) ms
   pub log : LogView
   pub reads : ReadsAll sum size l ms a.device new log
@@ -92,7 +91,7 @@ pub record HasRead (sum : List ℕ → ℕ) (size : ℕ) (a : RunState) (l : Log
 
 -- Memory for the list of items was refused before one was read, and nothing was done.
 abbrev pub ReadsNone : RunState → LogView → Error → DeviceView → RunState → Type 0
-ReadsNone a l OutOfMemory new b = (l.fault ≡ None) × (new ≡ a.device) × (b ≡ a)
+ReadsNone a l OutOfMemory new b = (l.status.fault ≡ None) × (new ≡ a.device) × (b ≡ a)
 ReadsNone a l _ new b = ⊥
 
 abbrev pub ReadStep : (List ℕ → ℕ) → ℕ → RunState → LogView → List Message → Reply → DeviceView → RunState → Type 0

@@ -46,10 +46,10 @@ pub record IsOfPage (H : History) (end page : ℕ) (m : Message) : Type 0 where
 abbrev pub IsItem : {D C : Type 0} → (D → DeviceView) → (List ℕ → ℕ) → Log D C → LogView → Message → Log D C → LogView
     → Result (Vec ℕ Global) Error → Type 0
 IsItem view sum old l m new l' (Ok item) =
-    (item.items ≡ m.bytes) × (l.fault ≡ None) × (reads : ReadsAt sum (segment_size_of old) l (read_at m) (view (device_of old)) (view (device_of new)))
+    (item.items ≡ m.bytes) × (l.status.fault ≡ None) × (reads : ReadsAt sum (segment_size_of old) l (read_at m) (view (device_of old)) (view (device_of new)))
     × (l' ≡ read_around (segment_size_of old) l (read_at m) reads.writes.buffers)
 IsItem view sum old l m new l' (Err e) =
-    l.fault ≡ None → (a : RunState)
+    l.status.fault ≡ None → (a : RunState)
     → FailsAt sum (segment_size_of old) a l (read_at m) e (view (device_of old)) (view (device_of new)) (with_log a (view (device_of new)) (Some l'))
 
 -- A message of what a page is was read, where its place and its pointer were given, or that failed.

@@ -10,13 +10,11 @@ use Rattle.sled_store.specs.Marks.{IsFormerList}
 use Rattle.sled_store.specs.Moments.{IsLater}
 use Rattle.sled_store.specs.declared.config.RunningConfig.{RunningConfig}
 use Rattle.sled_log.specs.WriteSteps.{filled_by, headed}
-use Rattle.sled_core.specs.Account.{account_of}
 use Rattle.sled_core.specs.declared.logger.Log.{Log}
-use Rattle.sled_core.specs.Fits.{Awaits, config_of, fault_of, fillings_of, given_up_of, heads_of, machine_at, noted_in, open_places, pins_of, position_of, reserved_end}
-use Rattle.sled_core.specs.Fits.{segment_size_of, start_of, synced_end, waiting_of}
+use Rattle.sled_core.specs.Fits.{Awaits, config_of, fault_of, fillings_of, given_up_of, heads_of, noted_in, open_places, pins_of, reserved_end}
+use Rattle.sled_core.specs.Fits.{segment_size_of}
 use Rattle.sled_core.specs.Among.{AreAmong}
 use Rattle.sled_core.specs.Manifests.{manifest_page}
-use Rattle.sled_core.specs.Waiting.{spans}
 use Rattle.sled_core.specs.Keeps.{ConfigKept}
 use Rattle.sled_core.specs.Marking.{IsOfMessage}
 use Rattle.sled_core.specs.Unmarked.{without}
@@ -33,6 +31,7 @@ use Rattle.sled_log.specs.declared.session.opened.Ticket.{Ticket}
 use Rattle.sled_log.specs.declared.session.marking.Due.{Due}
 use Rattle.sled_log.specs.declared.session.command.Command.{Command}
 use Rattle.sled_log.specs.declared.session.command.Reply.{Reply}
+use Rattle.sled_core.specs.LogStatus.{status_of}
 use Rattle.sled_log.specs.Made.{IsMade, MayJoin}
 use Rattle.sled_log.specs.Refusals.{reason_of, refusal_for}
 use Rattle.sled_log.specs.RunStates.{DeviceView, DueMark, LogView, RunState, ShowsActive, has_page, in_batch, open_messages, top, MarkAt}
@@ -52,24 +51,7 @@ traces view device = (view device).trace
 -- what is seen of a log, with so many pages begun, with the messages of its tickets, with those that were given up, and with where
 -- buffers were begun
 abbrev pub seen_log : {D C : Type 0} → Log D C → ℕ → List (Option Message) → List Message → List MarkAt → LogView
-seen_log log begun tickets given_up heads =
-    record {
-      position = position_of log;
-      synced = synced_end log;
-      noted = noted_in log;
-      end = reserved_end log;
-      waiting = spans (waiting_of log);
-      start = start_of log;
-      begun = begun;
-      fault = fault_of log;
-      outstanding = open_places log;
-      tickets = tickets;
-      given_up = given_up;
-      heads = heads;
-      pins = pins_of log;
-      machine = machine_at log;
-      account = account_of log;
-    }
+seen_log log begun tickets given_up heads = record { status = status_of log; begun = begun; tickets = tickets; given_up = given_up; heads = heads }
 
 -- the same of one that is open in a session
 abbrev pub seen : {D C : Type 0} → Opened D C → List (Option Message) → List Message → List MarkAt → LogView
@@ -183,8 +165,8 @@ pub record HasHeads {D C : Type 0} (sum : List ℕ → ℕ) (log : Log D C) (hea
   pub marked : AreAmong (heads_of log) (map (headed sum) heads)
   pub filled : AreAmong (fillings_of log) (map filled_by heads)
 
--- The one message that isn't marked yet is that of the mark that is due. It is the newest of its page, and the mark takes the place of all that the page was; and
--- the log keeps no failure.
+-- The one message that isn't marked yet is that of the mark that is due. It is the newest of its page, and the mark takes the place of all that the page was;
+-- and the log keeps no failure.
 pub record IsUnmarked {D C : Type 0} (log : Log D C) (H : History) (d : Due) (m : Message) : Type 0 where
   pub there : Contains H.messages m
   pub is : IsOfMessage m d.page d.new

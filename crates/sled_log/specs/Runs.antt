@@ -67,7 +67,7 @@ told stopped r = r
 -- where a log is open that keeps no failure, and no mark joined that is above this place
 abbrev pub WhileClean : ℕ → Option LogView → Type 0 → Type 0
 WhileClean floor None P = Unit {0}
-WhileClean floor (Some l) P = l.fault ≡ None → l.account.mark ≤ℤ pos floor → P
+WhileClean floor (Some l) P = l.status.fault ≡ None → l.status.account.mark ≤ℤ pos floor → P
 
 -- a command counts as calling the log that is open
 abbrev pub calls_log : Command → Bool
@@ -83,8 +83,8 @@ Postpones a (reply.Failed OutOfMemory) new b = (new ≡ a.device) × (b ≡ a)
 Postpones a r new b = ⊥
 
 module _ (sum : List ℕ → ℕ) (size : ℕ) where
-  -- While a log is open that keeps no failure, and no mark joined above the last recovery's cut, so that no segment came free, what is read is the log's own: so it
-  -- is when that log is closed, and another is opened.
+  -- While a log is open that keeps no failure, and no mark joined above the last recovery's cut, so that no segment came free, what is read is the log's own:
+  -- so it is when that log is closed, and another is opened.
   abbrev pub KeepsOwn : RunState → Type 0
   KeepsOwn a = WhileClean a.floor a.log (ReadsOnlyOwn sum size (state_of a.device.trace))
 

@@ -1,7 +1,6 @@
 -- The marks of a session: each message is marked once it is completed, a Link as it is, and what begins its page in place of all that the page was; and each
 -- ticket has its pin until then.
-use Rattle.std.specs.Prelude.{◌≡◌, ◌+◌, ◌-◌, ◌/◌, ℕ, ℤ, pos, true, nat_lt, unsigned_abs, if◌then◌else◌, List, [], ◌∷◌, map, Option, None, Some}
-use Rattle.sled_codec.specs.declared.result.DiskPtr.{DiskPtr}
+use Rattle.std.specs.Prelude.{◌/◌, ℕ, pos, nat_lt, unsigned_abs, if◌then◌else◌, List, [], ◌∷◌, map, Option, None, Some}
 use Rattle.sled_codec.specs.declared.serialization.message.LogKind.{LogKind}
 use Rattle.sled_codec.specs.declared.serialization.message.LogKind.TheVariants as does
 use Rattle.sled_codec.specs.History.{History, Message}
@@ -10,9 +9,8 @@ use Rattle.sled_codec.specs.Snapshots.{Free, Page, Present, Uninitialized, page_
 use Rattle.sled_store.specs.Marks.{info_of, told_of}
 use Rattle.sled_store.specs.SegmentStates.{Machine, linked, replaced}
 use Rattle.sled_store.specs.declared.segment.slot.CacheInfo.{CacheInfo}
-use Rattle.sled_core.specs.Account.{Account}
 use Rattle.sled_core.specs.Buffers.{record_size}
-use Rattle.sled_log.specs.RunSlots.{position_over}
+use Rattle.sled_core.specs.LogStatus.{unpinned, with_slots}
 use Rattle.sled_log.specs.RunStates.{DueMark, LogView, RunState, page_now}
 
 -- How long the record of a Free is: a header alone. Of one from before a restart a recovery doesn't tell, and it counts as 32.
@@ -57,17 +55,13 @@ slots_by size kind d m = replaced size d.page d.new d.old m
 abbrev pub slots_marked : ℕ → DueMark → Machine → Machine
 slots_marked size d m = slots_by size d.kind d m
 
--- a log with one pin more
-abbrev pub with_pin : LogView → LogView
-with_pin l = record l { pins = l.pins + 1; account = record l.account { pinned = true } }
-
--- and with one less
+-- a log with one pin less
 abbrev pub without_pin : LogView → LogView
-without_pin l = record l { pins = l.pins - 1; account = record l.account { pinned = nat_lt 0 (l.pins - 1) } }
+without_pin l = record l { status = unpinned l.status }
 
 -- A log once a mark is made, whose pin goes back. Where its next record may begin has the slots behind it, and so those that the mark left.
 abbrev pub marking : ℕ → DueMark → LogView → LogView
-marking size d l = let m = slots_marked size d l.machine in without_pin (record l { position = position_over size l m; machine = m })
+marking size d l = without_pin (record l { status = with_slots size (slots_marked size d l.status.machine) l.status })
 
 -- the run goes on from there, with none due
 abbrev pub marking_in : ℕ → DueMark → Option LogView → Option LogView

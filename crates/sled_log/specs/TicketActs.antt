@@ -37,8 +37,8 @@ making_for sum (Some kind) place bytes = making place (blob_bytes sum (code_of k
 abbrev pub ReserveActs : (List ℕ → ℕ) → ℕ → LogView → LogKind → ℕ → List ℕ → DeviceView → Reply → DeviceView → Type 0
 ReserveActs sum size l kind page bytes old r new =
     MatchBool (in_blob size (length bytes))
-    (BlobActs (making_for sum (kind_for kind page true 8) (pos (target_in size l page (body_in size (length bytes))).place) bytes) l.fault old r new) (new
-    ≡ old)
+    (BlobActs (making_for sum (kind_for kind page true 8) (pos (target_in size l page (body_in size (length bytes))).place) bytes) l.status.fault old r new)
+    (new ≡ old)
 
 -- the blob that the reservation of a ticket made
 abbrev pub own_by : Option (Option Message) → Option ℤ
@@ -52,4 +52,4 @@ RemoveActs (Some place) fault old r new = BlobActs (removing (Some place)) fault
 
 -- Where a message is given up, its own blob is removed.
 abbrev pub AbortActs : ℕ → LogView → DeviceView → Reply → DeviceView → Type 0
-AbortActs t l old r new = RemoveActs (own_by (slice_get l.tickets t)) l.fault old r new
+AbortActs t l old r new = RemoveActs (own_by (slice_get l.tickets t)) l.status.fault old r new

@@ -15,17 +15,16 @@ use Rattle.sled_core.specs.Buffers.{most_open}
 use Rattle.sled_core.specs.Fits.{in_blob}
 use Rattle.sled_core.specs.Logged.{in_log}
 use Rattle.sled_core.specs.Manifests.{manifest_page}
-use Rattle.sled_core.specs.OpenBatches.{with_batch}
 use Rattle.sled_core.specs.OpenPlaces.{places_from}
 use Rattle.sled_core.specs.OwnBlobs.{RemovedAnswers}
-use Rattle.sled_core.specs.Positions.{Position, behind_record}
+use Rattle.sled_core.specs.Positions.{Position}
 use Rattle.sled_core.specs.Reserves.{MadeAnswers}
+use Rattle.sled_core.specs.LogStatus.{failing, is_behind, noted_too, pinned, reserving_at}
 use Rattle.sled_log.specs.declared.session.command.Reply.{Reply}
 use Rattle.sled_log.specs.declared.session.command.Reply.TheVariants as reply
-use Rattle.sled_log.specs.RunStates.{DeviceView, EndsInReach, LogView, RunState, body_in, is_behind, made_ready, message_at, one_blob, opens, page_now}
-use Rattle.sled_log.specs.RunStates.{heads_at, machine_with}
-use Rattle.sled_log.specs.RunStates.{places_without, rewriting_at, start_with, target_in, waiting_with, with_log}
-use Rattle.sled_log.specs.SessionMarks.{mark_for, marking, with_pin, without_pin}
+use Rattle.sled_log.specs.RunStates.{DeviceView, EndsInReach, LogView, RunState, body_in, made_ready, message_at, one_blob, page_now}
+use Rattle.sled_log.specs.RunStates.{places_without, rewriting_at, target_in, view_at, with_log}
+use Rattle.sled_log.specs.SessionMarks.{mark_for, marking, without_pin}
 
 -- the place and the pointer that are answered are those of a message
 abbrev pub IsAnswerFor : Message → ℤ → DiskPtr → Type 0
@@ -33,25 +32,16 @@ IsAnswerFor m place pointer = (place ≡ pos m.place) × (pointer ≡ m.pointer)
 
 -- the log with a reservation for a message that begins at this position, which has a pin
 abbrev pub reserving : ℕ → LogView → Position → Message → LogView
-reserving size l q m = record (with_pin l) {
-  position = behind_record size q m.size;
-  end = m.place + m.size;
-  waiting = waiting_with l q;
-  start = start_with l q;
-  outstanding = opens l ++ m.place ∷ [];
-  tickets = l.tickets ++ Some m ∷ [];
-  heads = heads_at l (start_with l q);
-  machine = machine_with l q;
-}
+reserving size l q m = record (view_at l (pinned (reserving_at size q m.place m.size l.status))) { tickets = l.tickets ++ Some m ∷ [] }
 
 -- the places of the open reservations of the buffer that a record would be of that begins at this position
 abbrev pub opens_beside : LogView → Position → List ℕ
-opens_beside l q = if is_behind l q then [] else places_from l.start.place (opens l)
+opens_beside l q = if is_behind l.status q then [] else places_from l.status.start.place l.status.opens
 
 -- A place was kept for this message, under the next number.
 pub record HasReserved (size : ℕ) (a : RunState) (l : LogView) (q : Position) (m : Message) (ticket : ℕ) (place : ℤ) (pointer : DiskPtr) (new : DeviceView)
     (b : RunState) : Type 0 where
-  pub fault : l.fault ≡ None
+  pub fault : l.status.fault ≡ None
   pub in_reach : EndsInReach size q
   pub few : length (opens_beside l q) < most_open
   pub number : ticket ≡ length l.tickets
@@ -60,7 +50,7 @@ pub record HasReserved (size : ℕ) (a : RunState) (l : LogView) (q : Position) 
 
 -- The buffer of the record has 127 open reservations, and this is the least place of them.
 pub record IsFullOfOpen (l : LogView) (q : Position) (at : ℤ) : Type 0 where
-  pub fault : l.fault ≡ None
+  pub fault : l.status.fault ≡ None
   pub full : length (opens_beside l q) ≡ most_open
   pub least : ℕ
   pub others : List ℕ
@@ -69,9 +59,9 @@ pub record IsFullOfOpen (l : LogView) (q : Position) (at : ℤ) : Type 0 where
 
 -- Why no place was kept for a record that begins at this position, with nothing done.
 abbrev pub RefusedStep : ℕ → RunState → LogView → Position → Error → RunState → Type 0
-RefusedStep size a l q (Io e) b = (l.fault ≡ Some e) × (b ≡ a)
-RefusedStep size a l q OutOfMemory b = (l.fault ≡ None) × (b ≡ a)
-RefusedStep size a l q PlacesUsedUp b = (l.fault ≡ None) × (EndsInReach size q → ⊥) × (b ≡ a)
+RefusedStep size a l q (Io e) b = (l.status.fault ≡ Some e) × (b ≡ a)
+RefusedStep size a l q OutOfMemory b = (l.status.fault ≡ None) × (b ≡ a)
+RefusedStep size a l q PlacesUsedUp b = (l.status.fault ≡ None) × (EndsInReach size q → ⊥) × (b ≡ a)
 RefusedStep size a l q (Held at) b = IsFullOfOpen l q at × (b ≡ a)
 RefusedStep size a l q _ b = ⊥
 
@@ -83,7 +73,7 @@ HasRecordPlace size l q _ = EndsInReach size q × (length (opens_beside l q) < m
 -- The blob of an item wasn't made: the device failed, and the log keeps that; or there was one of that name, or memory for it was refused, and it keeps
 -- neither. It is ready for the record then, which it has none of.
 pub record BlobRefused (size : ℕ) (a : RunState) (l : LogView) (q : Position) (e : Error) (new : DeviceView) (b : RunState) : Type 0 where
-  pub fault : l.fault ≡ None
+  pub fault : l.status.fault ≡ None
   pub room : HasRecordPlace size l q e
   pub kept : Option IoError
   pub cause : MadeAnswers {T = Unit {0}} (Err e) ((state_of a.device.trace).blobs.file (pos q.place)) kept a.device.failures new.failures
@@ -113,32 +103,32 @@ RewriteStep size a l page _ new b = ⊥
 
 -- the log with a ticket spent, with reservations open at these places, and this many pages begun
 abbrev pub spent : LogView → ℕ → List ℕ → ℕ → LogView
-spent l t places begun = record l { begun = begun; outstanding = places; tickets = set l.tickets t None }
+spent l t places begun = record l { status = record l.status { opens = places }; begun = begun; tickets = set l.tickets t None }
 
 -- the log with this failure kept
 abbrev pub keeping : IoError → LogView → LogView
-keeping e l = record l { fault = Some e }
+keeping e l = record l { status = failing (Some e) l.status }
 
 -- The message of an open reservation comes to the history. Where it is the first of its page, that is begun. It is marked at once, and its pin goes back; or
 -- memory for the mark is refused, and it is due, and the pin stays out.
 pub record HasCompleted (size : ℕ) (a : RunState) (l : LogView) (t : ℕ) (place : ℤ) (pointer : DiskPtr) (new : DeviceView) (b : RunState) : Type 0 where
   pub message : Message
   pub reserved : slice_get l.tickets t ≡ Some (Some message)
-  pub fault : l.fault ≡ None
+  pub fault : l.status.fault ≡ None
   pub answer : IsAnswerFor message place pointer
   pub history : History
   pub step : Step a.history (Completed message) history
   -- the log, but for the mark
   pub log : LogView
-  pub is : log ≡ spent l t (places_without message.place (opens l)) (if message.page == l.begun then l.begun + 1 else l.begun)
+  pub is : log ≡ spent l t (places_without message.place l.status.opens) (if message.page == l.begun then l.begun + 1 else l.begun)
   pub leads : (b ≡ record a { device = new; history = history; log = Some (marking size (mark_for size a.floor a.history message) log) })
       ⊎ (b ≡ record a { device = new; history = history; log = Some log; due = Some (mark_for size a.floor a.history message) })
 
 -- Without memory for it nothing is done. Where the log keeps a failure the ticket is spent, with its pin, and the reservation stays open.
 abbrev pub CompleteStep : ℕ → RunState → LogView → ℕ → Reply → DeviceView → RunState → Type 0
 CompleteStep size a l t (reply.Done place pointer) new b = HasCompleted size a l t place pointer new b
-CompleteStep size a l t (reply.Failed (Io e)) new b = (l.fault ≡ Some e) × (b ≡ with_log a new (Some (without_pin (spent l t (opens l) l.begun))))
-CompleteStep size a l t (reply.Failed OutOfMemory) new b = (l.fault ≡ None) × (b ≡ a)
+CompleteStep size a l t (reply.Failed (Io e)) new b = (l.status.fault ≡ Some e) × (b ≡ with_log a new (Some (without_pin (spent l t l.status.opens l.begun))))
+CompleteStep size a l t (reply.Failed OutOfMemory) new b = (l.status.fault ≡ None) × (b ≡ a)
 CompleteStep size a l t _ new b = ⊥
 
 -- the log once this message was given up
@@ -149,9 +139,9 @@ giving_up m l = record l { given_up = in_log m ∷ l.given_up }
 pub record HasAborted (a : RunState) (l : LogView) (t : ℕ) (place : ℤ) (pointer : DiskPtr) (new : DeviceView) (b : RunState) : Type 0 where
   pub message : Message
   pub reserved : slice_get l.tickets t ≡ Some (Some message)
-  pub fault : l.fault ≡ None
+  pub fault : l.status.fault ≡ None
   pub answer : IsAnswerFor message place pointer
-  pub leads : b ≡ with_log a new (Some (giving_up message (without_pin (spent l t (places_without message.place (opens l)) l.begun))))
+  pub leads : b ≡ with_log a new (Some (giving_up message (without_pin (spent l t (places_without message.place l.status.opens) l.begun))))
 
 -- the blob that the reservation of a session's message made, which lies at a place: its name is that place, while the item of a rewritten one stays in the
 -- blob of an earlier message
@@ -162,12 +152,13 @@ own_in place (Blob lid blob) = if int_eq blob place then Some blob else None
 abbrev pub own_of : Message → Option ℤ
 own_of m = own_in (pos m.place) m.pointer
 
--- Its ticket is spent, with its pin, and the reservation stays open: the log kept a failure, or the device failed to remove the message's own blob, and the log keeps that.
+-- Its ticket is spent, with its pin, and the reservation stays open: the log kept a failure, or the device failed to remove the message's own blob, and the log
+-- keeps that.
 pub record AbortFails (a : RunState) (l : LogView) (t : ℕ) (e : IoError) (new : DeviceView) (b : RunState) : Type 0 where
   pub message : Message
   pub reserved : slice_get l.tickets t ≡ Some (Some message)
-  pub cause : RemovedAnswers {T = Unit {0}} (Err (Io e)) (own_of message) l.fault (Some e) a.device.failures new.failures
-  pub leads : b ≡ with_log a new (Some (keeping e (without_pin (spent l t (opens l) l.begun))))
+  pub cause : RemovedAnswers {T = Unit {0}} (Err (Io e)) (own_of message) l.status.fault (Some e) a.device.failures new.failures
+  pub leads : b ≡ with_log a new (Some (keeping e (without_pin (spent l t l.status.opens l.begun))))
 
 abbrev pub AbortStep : RunState → LogView → ℕ → Reply → DeviceView → RunState → Type 0
 AbortStep a l t (reply.Done place pointer) new b = HasAborted a l t place pointer new b
@@ -187,27 +178,28 @@ pub record HasBegun (l : LogView) : Type 0 where
 
 -- its batch ends with the greatest place that was reserved
 abbrev pub batch_of : LogView → Message → Batch
-batch_of l m = record { low = m.place; peg = l.end - 1 }
+batch_of l m = record { low = m.place; peg = l.status.reserved - 1 }
 
 -- the log with one more batch noted, by place
 abbrev pub noting : Batch → LogView → LogView
-noting batch l = record l { noted = with_batch batch l.noted }
+noting batch l = record l { status = noted_too batch l.status }
 
 -- A batch that was begun comes to the history, and is noted.
 pub record HasEnded (a : RunState) (l : LogView) (place : ℤ) (pointer : DiskPtr) (new : DeviceView) (b : RunState) : Type 0 where
   pub begun : HasBegun l
-  pub fault : l.fault ≡ None
+  pub fault : l.status.fault ≡ None
   pub answer : IsAnswerFor begun.message place pointer
   pub history : History
   pub step : Step a.history (Batched (batch_of l begun.message)) history
   pub leads : b ≡ record a {
     device = new;
     history = history;
-    log = Some (noting (batch_of l begun.message) (without_pin (spent l begun.ticket (places_without begun.message.place (opens l)) l.begun)));
+    log = Some (noting (batch_of l begun.message) (without_pin (spent l begun.ticket (places_without begun.message.place l.status.opens) l.begun)));
   }
 
 -- Where the log keeps a failure its ticket is spent, with its pin, and the reservation stays open.
 abbrev pub EndStep : RunState → LogView → Reply → DeviceView → RunState → Type 0
 EndStep a l (reply.Done place pointer) new b = HasEnded a l place pointer new b
-EndStep a l (reply.Failed (Io e)) new b = (l.fault ≡ Some e) × ((begun : HasBegun l) × (b ≡ with_log a new (Some (without_pin (spent l begun.ticket (opens l) l.begun)))))
+EndStep a l (reply.Failed (Io e)) new b =
+    (l.status.fault ≡ Some e) × ((begun : HasBegun l) × (b ≡ with_log a new (Some (without_pin (spent l begun.ticket l.status.opens l.begun)))))
 EndStep a l _ new b = ⊥

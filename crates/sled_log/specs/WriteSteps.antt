@@ -1,5 +1,6 @@
 -- What the commands come to that write: a flush, a write up to a place, and that of one buffer; and why a log fails.
-use Rattle.std.specs.Prelude.{◌≡◌, ◌≢◌, ◌⊎◌, ◌+◌, ◌≤◌, ◌≤ℤ◌, ◌<ℤ◌, ◌<◌, ◌-◌, ◌%◌, ◌^◌, ◌∷◌, ℕ, ℤ, pos, max, IsTrue, List, [], drop, map, take, Option, None, Some, Err}
+use Rattle.std.specs.Prelude.{◌≡◌, ◌≢◌, ◌⊎◌, ◌+◌, ◌≤◌, ◌≤ℤ◌, ◌<ℤ◌, ◌<◌, ◌-◌, ◌%◌, ◌^◌, ◌∷◌, ℕ, ℤ, pos, max, IsTrue, List, [], drop, map, take, Option, None}
+use Rattle.std.specs.Prelude.{Some, Err}
 use Rattle.std.specs.List.{All}
 use Rattle.std.specs.declared.io.Error.{Error as IoError}
 use Rattle.sled_codec.specs.declared.result.Error.{Error}
@@ -20,22 +21,23 @@ use Rattle.sled_core.specs.Fronts.{synced_writes}
 use Rattle.sled_core.specs.Ledger.{ledger_behind, writings}
 use Rattle.sled_core.specs.Logged.{logged}
 use Rattle.sled_core.specs.OpenBatches.{behind_batch, not_whole, stable_below}
-use Rattle.sled_core.specs.Positions.{Position}
 use Rattle.sled_core.specs.Stable.{behind_place}
-use Rattle.sled_core.specs.Waiting.{BufferAt, BufferStart, HasLength, Span, free_below, front_below, one_pending, spans}
+use Rattle.sled_core.specs.Waiting.{BufferAt, HasLength, Span, free_below, front_below, one_pending, spans}
 use Rattle.sled_core.specs.WholeBuffers.{IsWholeBuffer}
 use Rattle.sled_core.specs.Running.{end_below}
+use Rattle.sled_core.specs.LogStatus.{LogStatus, current_span, failing, ledger_below, ledger_in, sealed_below, stable_in, start_below, wrote_below}
+use Rattle.sled_core.specs.LogStatus.{wrote_front, wrote_one}
+use Rattle.sled_core.specs.Spans.{first_waiting, held, held_among, spans_below, spans_from}
 use Rattle.sled_log.specs.declared.session.command.Reply.{Reply}
 use Rattle.sled_log.specs.declared.session.command.Reply.TheVariants as reply
-use Rattle.sled_log.specs.RunStates.{DeviceView, EndsInReach, LogView, MarkAt, RunState, current_span, first_waiting, heads_at, held, held_among, opens}
-use Rattle.sled_log.specs.RunStates.{sealed_below, spans_below, spans_from, stable_of, start_below, with_log, without_unheld}
-use Rattle.sled_log.specs.RunSlots.{ledger_below, ledger_in, position_below, position_over}
+use Rattle.sled_log.specs.RunStates.{DeviceView, EndsInReach, LogView, MarkAt, RunState, view_at}
+use Rattle.sled_log.specs.RunStates.{with_log}
 
 -- Failures.
 
 -- A log that keeps a failure answers it, and does nothing.
 abbrev pub KeepsFailing : RunState → LogView → Error → DeviceView → RunState → Type 0
-KeepsFailing a l (Io e) new b = (l.fault ≡ Some e) × (new ≡ a.device) × (b ≡ a)
+KeepsFailing a l (Io e) new b = (l.status.fault ≡ Some e) × (new ≡ a.device) × (b ≡ a)
 KeepsFailing a l _ new b = ⊥
 
 -- Why a log that keeps none fails, and the one that it keeps then: the device failed, which is counted; or a further segment is needed, and there is none in
@@ -49,7 +51,7 @@ IsWhy _ held used fault before after = ⊥
 
 -- It failed so, and this came of it.
 pub record Fails (l : LogView) (e : Error) (held : Option ℕ) (used : Type 0) (old new : DeviceView) (Came : Option IoError → Type 0) : Type 0 where
-  pub sound : l.fault ≡ None
+  pub sound : l.status.fault ≡ None
   pub fault : Option IoError
   pub why : IsWhy e held used fault old.failures new.failures
   pub came : Came fault
@@ -71,7 +73,7 @@ filled_by m = record { next = m.place; from = m.end }
 
 -- What fills the segments of a log, with the current one as it would be sealed: to where that ends then, from where what was reserved ends.
 abbrev pub fillings_seen : LogView → List FillingAt
-fillings_seen l = record { next = (current_span l l.position).end; from = l.end } ∷ map filled_by l.heads
+fillings_seen l = record { next = (current_span l.status l.status.position).end; from = l.status.reserved } ∷ map filled_by l.heads
 
 -- These buffers of a log are seen so: each as a whole, and which of its open reservations holds it up. What isn't held up is whole records,
 -- each with its sum and of a kind that a reader knows; of these one that every reader passes over is of one of the messages that were given up; none ends its
@@ -81,7 +83,7 @@ fillings_seen l = record { next = (current_span l l.position).end; from = l.end 
 pub record ShowsBuffers (sum : List ℕ → ℕ) (size : ℕ) (l : LogView) (ss : List Span) (bs : List BufferAt) : Type 0 where
   pub are : spans bs ≡ ss
   pub long : All HasLength bs
-  pub held : All (λ b. b.held ≡ held (opens l) (record { place = b.place; end = b.end; lid = b.lid })) bs
+  pub held : All (λ b. b.held ≡ held l.status.opens (record { place = b.place; end = b.end; lid = b.lid })) bs
   pub whole : All (λ b. b.held ≡ None → IsWholeBuffer sum size l.given_up (map (headed sum) l.heads) (fillings_seen l) b) bs
 
 -- Buffers that are seen so were written, those that are chosen of them: with a write and a sync for each, and behind it what the accountant's step comes to,
@@ -106,136 +108,119 @@ pub record WritesSome (sum : List ℕ → ℕ) (size : ℕ) (l : LogView) (ss : 
 -- The accountant's step failed, behind the write of a buffer: no pin is out, and the device failed in a call that was due from these slots for the mark that
 -- joined. Some moves of the step were made, or its calls in part, and these slots are left.
 pub record StepFailed (size : ℕ) (l : LogView) (mark : ℤ) (from left : Machine) (fault : Option IoError) (after : Trace) : Type 0 where
-  pub unpinned : l.pins ≡ 0
+  pub unpinned : l.status.pins ≡ 0
   pub failure : IoError
   pub kept : fault ≡ Some failure
   pub before : Trace
   pub moved : MovesSlots {T = Unit {0}} size mark (Err (Io failure)) from left before after
   pub due : (stabilized size mark from).calls ≢ []
 
--- the log with these buffers left, the current one from there on, this failure kept, these slots and marks, and the next record where it may begin with such
--- slots: all before the first of the buffers is on the device
-abbrev pub view_flushed : LogView → List Span → BufferStart → Option IoError → Ledger → (Machine → Position) → LogView
-view_flushed l waiting start fault ledger position =
-    record l {
-      position = position ledger.machine;
-      synced = first_waiting waiting start;
-      noted = not_whole (first_waiting waiting start) l.noted;
-      waiting = waiting;
-      start = start;
-      fault = fault;
-      heads = heads_at l start;
-      machine = ledger.machine;
-      account = ledger.account;
-    }
-
--- the run goes on with that log
-abbrev pub LeavesLog : RunState → LogView → DeviceView → RunState → List Span → BufferStart → Option IoError → Ledger → (Machine → Position) → Type 0
-LeavesLog a l new b waiting start fault ledger position = b ≡ with_log a new (Some (view_flushed l waiting start fault ledger position))
+-- the run goes on with a log that stands there
+abbrev pub LeavesLog : RunState → LogView → DeviceView → RunState → LogStatus → Type 0
+LeavesLog a l new b s = b ≡ with_log a new (Some (view_at l s))
 
 -- the buffers that begin below a place, those that are left behind them, and the least place of an open reservation that holds the first ones up
 abbrev pub written_below : ℕ → LogView → List Span
-written_below to l = spans_below to (sealed_below to l)
+written_below to l = spans_below to (sealed_below to l.status)
 
 abbrev pub left_from : ℕ → LogView → List Span
-left_from to l = spans_from to (sealed_below to l)
+left_from to l = spans_from to (sealed_below to l.status)
 
 abbrev pub holding : ℕ → LogView → Option ℕ
-holding to l = held_among (opens l) (written_below to l)
+holding to l = held_among l.status.opens (written_below to l)
 
 -- once those are written, all before this is on the device, and the stable end lies before this
 abbrev pub synced_from : ℕ → LogView → ℕ
-synced_from to l = first_waiting (left_from to l) (start_below to l)
+synced_from to l = first_waiting (left_from to l) (start_below to l.status)
 
 abbrev pub stable_from : ℕ → LogView → ℕ
-stable_from to l = stable_below (synced_from to l) (not_whole (synced_from to l) l.noted)
+stable_from to l = stable_below (synced_from to l) (not_whole (synced_from to l) l.status.noted)
 
 -- All that begins below a place is written and synced. Each completed message of what is stable then is acknowledged, and what is answered is by how much the
 -- stable end grew.
 pub record HasWrittenTo (sum : List ℕ → ℕ) (size : ℕ) (a : RunState) (l : LogView) (to n : ℕ) (new : DeviceView) (b : RunState) : Type 0 where
-  pub sound : l.fault ≡ None
-  pub in_reach : l.start.place < to → EndsInReach size l.position
+  pub sound : l.status.fault ≡ None
+  pub in_reach : l.status.start.place < to → EndsInReach size l.status.position
   pub free : holding to l ≡ None
-  pub writes : Writes sum size l (sealed_below to l) (free_below to) (ledger_below to l) a.device new
+  pub writes : Writes sum size l (sealed_below to l.status) (free_below to) (ledger_below to l.status) a.device new
   pub failures : new.failures ≡ a.device.failures
-  pub growth : stable_of l + n ≡ stable_from to l
+  pub growth : stable_in l.status + n ≡ stable_from to l
   pub reaches : to ≤ synced_from to l
   pub more : a.acknowledged ≤ stable_from to l
   pub leads : b ≡ record a {
     device = new;
     acknowledged = max a.acknowledged (end_below (stable_from to l) a.history);
-    log = Some (view_flushed l (left_from to l) (start_below to l) None (ledger_behind size (front_below to writes.buffers) (ledger_below to l))
-        (position_below size to l));
+    log =
+        Some (view_at l (failing None (wrote_below size to (ledger_behind size (front_below to writes.buffers) (ledger_below to l.status)) l.status)));
   }
 
 -- slots and marks behind the writes of the first of these buffers
 abbrev pub ledger_after : ℕ → ℕ → LogView → List BufferAt → ℕ → Ledger
-ledger_after size to l bs count = ledger_behind size (take count bs) (ledger_below to l)
+ledger_after size to l bs count = ledger_behind size (take count bs) (ledger_below to l.status)
 
 -- That failed: those that begin below the place are sealed, and so many at the front are written, but not all; or so many, perhaps all, and the accountant's
 -- step behind the last of them failed; or it wasn't held up, and none was sealed, nor written, though the current one begins below the place: the device was
 -- asked for nothing then, and didn't fail.
 abbrev pub FailsTo : (List ℕ → ℕ) → ℕ → RunState → LogView → ℕ → Error → DeviceView → RunState → Type 0
 FailsTo sum size a l to e new b =
-    Fails l e (holding to l) ((l.start.place < to) × (EndsInReach size l.position → ⊥)) a.device new (λ fault.
-    (count : ℕ) × (some : WritesSome sum size l (sealed_below to l) (free_below to) (ledger_below to l) count e fault a.device new)
-    × ((LeavesLog a l new b (drop count (sealed_below to l)) (start_below to l) fault (ledger_after size to l some.buffers count) (position_below size to l)
-    × (first_waiting (drop count (sealed_below to l)) (start_below to l) < to))
+    Fails l e (holding to l) ((l.status.start.place < to) × (EndsInReach size l.status.position → ⊥)) a.device new (λ fault.
+    (count : ℕ) × (some : WritesSome sum size l (sealed_below to l.status) (free_below to) (ledger_below to l.status) count e fault a.device new)
+    × ((LeavesLog a l new b (failing fault (wrote_front size to count (ledger_after size to l some.buffers count) l.status))
+    × (first_waiting (drop count (sealed_below to l.status)) (start_below to l.status) < to))
     ⊎ ((0 < count) × (account : Account) × (account ≡ (ledger_after size to l some.buffers count).account)
     × (left : Machine) × StepFailed size l account.mark (ledger_after size to l some.buffers (count - 1)).machine left fault new.trace
-    × LeavesLog a l new b (drop count (sealed_below to l)) (start_below to l) fault (record { machine = left; account = account }) (position_below size to l))
-    ⊎ ((count ≡ 0) × (l.start.place < to) × IfHeld e ⊥ × (b ≡ with_log a new (Some l)) × (fault ≡ None))))
+    × LeavesLog a l new b (failing fault (wrote_front size to count (record { machine = left; account = account }) l.status)))
+    ⊎ ((count ≡ 0) × (l.status.start.place < to) × IfHeld e ⊥ × (b ≡ with_log a new (Some l)) × (fault ≡ None))))
 
 -- All that was reserved is written. From the segment of the mark that joined on all completed messages are on the device, and of those in front of it what the
 -- table needs: their records are, as the log has them, without the items that blobs have.
 pub record HasFlushed (sum : List ℕ → ℕ) (size : ℕ) (a : RunState) (l : LogView) (n : ℕ) (new : DeviceView) (b : RunState) : Type 0 where
-  pub written : HasWrittenTo sum size a l l.end n new b
-  pub all : All (λ m. m.place + m.size ≤ stable_from l.end l) a.history.messages
+  pub written : HasWrittenTo sum size a l l.status.reserved n new b
+  pub all : All (λ m. m.place + m.size ≤ stable_from l.status.reserved l) a.history.messages
   -- the segment in which the stable end lies, and how much of it is written
   pub site : SegmentPosition
   pub from : ℕ
-  pub at : site.place + from ≡ stable_from l.end l
+  pub at : site.place + from ≡ stable_from l.status.reserved l
   -- the mark that joined, and the greatest one on the device, which are those of the log then
   pub mark : ℤ
   pub durable : ℤ
-  pub marks : (v : LogView) → b.log ≡ Some v → (v.account.mark ≡ mark) × (v.account.durable ≡ durable)
+  pub marks : (v : LogView) → b.log ≡ Some v → (v.status.account.mark ≡ mark) × (v.status.account.durable ≡ durable)
   pub kept : IsKept sum mark durable size site from (state_of new.trace) (logged a.history)
 
 abbrev pub FlushStep : (List ℕ → ℕ) → ℕ → RunState → LogView → Reply → DeviceView → RunState → Type 0
 FlushStep sum size a l (reply.Flushed n) new b = HasFlushed sum size a l n new b
-FlushStep sum size a l (reply.Failed e) new b = KeepsFailing a l e new b ⊎ FailsTo sum size a l l.end e new b
+FlushStep sum size a l (reply.Failed e) new b = KeepsFailing a l e new b ⊎ FailsTo sum size a l l.status.reserved e new b
 FlushStep sum size a l _ new b = ⊥
 
 -- a place is stable, or was reserved
 abbrev pub IsKnownPlace : LogView → ℤ → Type 0
-IsKnownPlace l place = (place <ℤ pos (stable_of l)) ⊎ (place <ℤ pos l.end)
+IsKnownPlace l place = (place <ℤ pos (stable_in l.status)) ⊎ (place <ℤ pos l.status.reserved)
 
 -- up to where has to be written for a place to be stable: behind it, and behind the peg of a batch that has it
 abbrev pub target_by : LogView → ℤ → ℕ
-target_by l place = behind_batch (behind_place place) l.noted
+target_by l place = behind_batch (behind_place place) l.status.noted
 
 abbrev pub StableStep : (List ℕ → ℕ) → ℕ → RunState → LogView → ℤ → Reply → DeviceView → RunState → Type 0
 StableStep sum size a l place (reply.Flushed n) new b =
     IsKnownPlace l place × HasWrittenTo sum size a l (target_by l place) n new b × (place <ℤ pos (stable_from (target_by l place) l))
 StableStep sum size a l place (reply.Failed (NotReserved at)) new b =
-    (at ≡ place) × (pos (stable_of l) ≤ℤ place) × (pos l.end ≤ℤ place) × (l.fault ≡ None) × (new ≡ a.device) × (b ≡ a)
+    (at ≡ place) × (pos (stable_in l.status) ≤ℤ place) × (pos l.status.reserved ≤ℤ place) × (l.status.fault ≡ None) × (new ≡ a.device) × (b ≡ a)
 StableStep sum size a l place (reply.Failed e) new b =
-    KeepsFailing a l e new b ⊎ ((pos (stable_of l) ≤ℤ place) × (place <ℤ pos l.end) × FailsTo sum size a l (target_by l place) e new b)
+    KeepsFailing a l e new b ⊎ ((pos (stable_in l.status) ≤ℤ place) × (place <ℤ pos l.status.reserved) × FailsTo sum size a l (target_by l place) e new b)
 StableStep sum size a l place _ new b = ⊥
 
 -- One sealed buffer is written, the i-th of those that nothing holds up. That failed: it isn't, or it is, and the accountant's step behind it failed.
 abbrev pub WriteStep : (List ℕ → ℕ) → ℕ → RunState → LogView → ℕ → Reply → DeviceView → RunState → Type 0
 WriteStep sum size a l i reply.Written new b =
-    (l.fault ≡ None) × (writes : Writes sum size l l.waiting (one_pending i) (ledger_in l) a.device new) × (new.failures ≡ a.device.failures)
-    × LeavesLog a l new b (without_unheld (opens l) i l.waiting) l.start None (ledger_behind size (one_pending i writes.buffers) (ledger_in l))
-    (position_over size l)
+    (l.status.fault ≡ None) × (writes : Writes sum size l l.status.waiting (one_pending i) (ledger_in l.status) a.device new)
+    × (new.failures ≡ a.device.failures)
+    × LeavesLog a l new b (failing None (wrote_one size i (ledger_behind size (one_pending i writes.buffers) (ledger_in l.status)) l.status))
 WriteStep sum size a l i (reply.Failed e) new b =
     KeepsFailing a l e new b
     ⊎ Fails l e None ⊥ a.device new (λ fault.
-    (WritesSome sum size l l.waiting (one_pending i) (ledger_in l) 0 e fault a.device new
-    × LeavesLog a l new b l.waiting l.start fault (ledger_in l) (position_over size l))
-    ⊎ ((some : WritesSome sum size l l.waiting (one_pending i) (ledger_in l) 1 e fault a.device new)
-    × (account : Account) × (account ≡ account_behind (one_pending i some.buffers) l.account)
-    × (left : Machine) × StepFailed size l account.mark l.machine left fault new.trace
-    × LeavesLog a l new b (without_unheld (opens l) i l.waiting) l.start fault (record { machine = left; account = account }) (position_over size l)))
+    (WritesSome sum size l l.status.waiting (one_pending i) (ledger_in l.status) 0 e fault a.device new × LeavesLog a l new b (failing fault l.status))
+    ⊎ ((some : WritesSome sum size l l.status.waiting (one_pending i) (ledger_in l.status) 1 e fault a.device new)
+    × (account : Account) × (account ≡ account_behind (one_pending i some.buffers) l.status.account)
+    × (left : Machine) × StepFailed size l account.mark l.status.machine left fault new.trace
+    × LeavesLog a l new b (failing fault (wrote_one size i (record { machine = left; account = account }) l.status))))
 WriteStep sum size a l i _ new b = ⊥

@@ -48,6 +48,7 @@ use Rattle.sled_core.proofs.Line.HeaderMarks.{marked_same, segment_same}
 use Rattle.sled_core.proofs.Line.LineEnds.{noted_same}
 use Rattle.sled_core.proofs.Line.LogWrites.{same_line}
 use Rattle.sled_core.proofs.Line.Prepares.{seen_further}
+use Rattle.sled_core.proofs.Line.ReadySeen.{status_readied}
 use Rattle.sled_core.proofs.Line.Reserved.{blob_refused, spares}
 use Rattle.sled_core.proofs.Line.AccountBehind.{account_same}
 
@@ -63,7 +64,12 @@ module _ {D C : Type 0} (trace : D → Trace) (sum : List ℕ → ℕ) (old mid 
   ready_place = ap (λ (q : Position). q.place) ready_position
 
   pub ready_seen : IsMadeReady sum old mid kept.page n
-  ready_seen = record { tickets = ready.tickets; seen = ready.seen; reserved = ready.reserved; position = ready_position ∙ sym ready.target; seals = ready.seals; machine = ready.machine; pooled = ready.pooled; marked = ready.marked }
+  ready_seen = record {
+    tickets = ready.tickets;
+    stands = status_readied sum old kept.page n ready.inline mid ready.tickets ready.seen ready.seals.0 ready.seals.1 ready.machine (ready_position ∙ sym ready.target) ready.reserved;
+    pooled = ready.pooled;
+    marked = ready.marked;
+  }
 
   -- It is ready still where its device alone is another, or the failure that it keeps.
   module _ (made : Log D C) (rest : ChangesDevice mid made) (keeps : Preserves trace sum mid made) (blob : Option ℤ) where
@@ -110,6 +116,7 @@ module _ {D C : Type 0} (trace : D → Trace) (sum : List ℕ → ℕ) (old mid 
 
     pub ready_made : IsPrepared trace sum old made (record { log_kind = kept.log_kind; kind = kept.kind; page = kept.page; blob = blob }) head n
     ready_made = record {
+      inline = ready.inline;
       keeps = kept_further trace sum old mid made ready.keeps keeps;
       tickets = still_tickets;
       seen = still_seen;

@@ -12,11 +12,13 @@ use Rattle.sled_store.specs.Script.{after_all}
 use Rattle.sled_store.specs.SegmentStates.{Machine}
 use Rattle.sled_core.specs.Causes.{IsHeld}
 use Rattle.sled_core.specs.declared.logger.Log.{Log}
-use Rattle.sled_core.specs.Fits.{buffers_of, current_begin, device_of, ledger_for, ledger_of, ledger_sealed, line_of, position_sealed, position_with, segment_size_of, start_of, synced_end, waiting_of}
+use Rattle.sled_core.specs.Fits.{buffers_of, current_begin, device_of, fault_of, ledger_for, ledger_of, ledger_sealed, line_of, position_sealed, position_with, segment_size_of, start_of, synced_end, waiting_of}
 use Rattle.sled_core.specs.Freeing.{Ledger}
-use Rattle.sled_core.specs.Fronts.{CameAround, FailedFront, IsOnTheWay, WroteFront, WroteNone, synced_writes, syncs}
+use Rattle.sled_core.specs.Fronts.{CameAround, FailedFront, IsOnTheWay, WroteNone, synced_writes, syncs}
+use Rattle.sled_core.specs.inside.Fronts.{WroteParts}
 use Rattle.sled_core.specs.Keeps.{LeavesSome, position_for, sealed_for, start_for, start_sealed}
 use Rattle.sled_core.specs.Ledger.{ledger_behind, writings}
+use Rattle.sled_core.specs.LogStatus.{failing, status_of}
 use Rattle.sled_core.specs.ReadBuffer.{SealsAround, WritesAround, held_at, settling}
 use Rattle.sled_core.specs.inside.OneWritten.{WroteOne}
 use Rattle.sled_core.specs.inside.Turned.{ready_below}
@@ -92,7 +94,7 @@ module _ {D C : Type 0} (trace : D → Trace) (sum : List ℕ → ℕ) (faults :
 
     -- Then one wasn't,
     pub wrote_front : (new : Log D C) → waiting_of new ≡ waiting_of mid → start_of new ≡ start_of mid
-        → ((m : Machine) → position_with new m ≡ position_with mid m) → WroteNone trace mid new → ledger_of new ≡ ledger_of mid → synced_end new < to → WroteFront trace sum to old new
+        → ((m : Machine) → position_with new m ≡ position_with mid m) → WroteNone trace mid new → ledger_of new ≡ ledger_of mid → synced_end new < to → WroteParts trace sum to old new
     wrote_front new waiting start with_slots none ledger short =
         let all : ledger_of new ≡ ledger_behind (segment_size_of old) (take so_far.count (sealed_for sum to old)) (ledger_for to old) =
         ledger ∙ so_far.ledger ∙ ledger_is so_far.count in
@@ -110,7 +112,7 @@ module _ {D C : Type 0} (trace : D → Trace) (sum : List ℕ → ℕ) (faults :
 
     -- or it was, and the step behind it failed.
     pub failed_front : (new : Log D C) → ready_below (line_of mid) to ≡ true → WroteOne trace 0 0 mid new
-        → ((m : Machine) → position_with new m ≡ position_with mid m) → WroteFront trace sum to old new
+        → ((m : Machine) → position_with new m ≡ position_with mid m) → WroteParts trace sum to old new
     failed_front new ready one with_slots =
         let is = one.line (first_view mid) refl in
         let failed = failed_since trace sum faults to old mid new so_far one.failed in
@@ -138,22 +140,22 @@ module _ {D C : Type 0} (trace : D → Trace) (sum : List ℕ → ℕ) (faults :
         }
 
 -- What is left is so many of them.
-pub front_leaves : {D C : Type 0} (trace : D → Trace) (sum : List ℕ → ℕ) (to : ℕ) (old new : Log D C) → WroteFront trace sum to old new → LeavesSome sum to old new
+pub front_leaves : {D C : Type 0} (trace : D → Trace) (sum : List ℕ → ℕ) (to : ℕ) (old new : Log D C) → WroteParts trace sum to old new → LeavesSome sum to old new
 front_leaves trace sum to old new front = inr (front.count, front.left, front.start)
 
 -- How far a read came.
 module _ {D C : Type 0} (trace : D → Trace) (sum : List ℕ → ℕ) (old mid new : Log D C) where
   -- Its place was on the device, or is, and then its record wasn't read.
   pub came_behind : {T T' : Type 0} (lsn : ℤ) (x : T) (r : Result T' Error) → WritesAround {T = T} sum (Ok x) lsn old mid → trace (device_of mid) ≡ after_all (settling sum old lsn) (trace (device_of old))
-      → held_at sum old lsn ≡ None → (lsn <ℤ pos (synced_end old) → trace (device_of mid) ≡ trace (device_of old)) → waiting_of new ≡ waiting_of mid → start_of new ≡ start_of mid → ledger_of new ≡ ledger_of mid → ((m : Machine) → position_with new m ≡ position_with mid m)
+      → held_at sum old lsn ≡ None → (lsn <ℤ pos (synced_end old) → trace (device_of mid) ≡ trace (device_of old)) → waiting_of new ≡ waiting_of mid → status_of new ≡ failing (fault_of new) (status_of mid)
       → trace (device_of new) ≡ trace (device_of mid) → OnErr r (CameAround trace sum lsn old new)
-  came_behind lsn x (Ok y) writes made free still waiting start ledger with_slots same = tt
-  came_behind lsn x (Err e) writes made free still waiting start ledger with_slots same = elim (or_beyond (pos (synced_end old)) lsn) [
+  came_behind lsn x (Ok y) writes made free still waiting status same = tt
+  came_behind lsn x (Err e) writes made free still waiting status same = elim (or_beyond (pos (synced_end old)) lsn) [
     | inl behind ↦ (
         let above : pos 0 ≤ℤ lsn = omega (arith, ints, behind) in
         let at : pos (unsigned_abs lsn) ≡ lsn = omega (arith, ints, above) in
-        inr (inr (inl ((waiting ∙ (writes.written behind).0, start ∙ (writes.written behind).1, ledger ∙ (writes.written behind).2, λ m. with_slots m ∙ (writes.written behind).3 m), same ∙ made ∙ ap (λ z. after_all (settling sum old z) (trace (device_of old))) (sym at), ap (held_at sum old) at ∙ free))))
-    | inr below ↦ inl ((waiting ∙ (writes.still below).0, start ∙ (writes.still below).1, ledger ∙ (writes.still below).2, λ m. with_slots m ∙ (writes.still below).3 m), same ∙ still below, λ above. (let up = synced_up old in absurd (omega (arith, ints, below, above, up))))
+        inr (inr (inl ((waiting ∙ (writes.written behind).0, status ∙ ap (failing (fault_of new)) (writes.written behind).1), same ∙ made ∙ ap (λ z. after_all (settling sum old z) (trace (device_of old))) (sym at), ap (held_at sum old) at ∙ free))))
+    | inr below ↦ inl ((waiting ∙ (writes.still below).0, status ∙ ap (failing (fault_of new)) (writes.still below).1), same ∙ still below, λ above. (let up = synced_up old in absurd (omega (arith, ints, below, above, up))))
   ]
 
 -- A read did nothing.
@@ -162,7 +164,7 @@ module _ {T D C : Type 0} (log : Log D C) (lsn : ℤ) (e : Error) (never : IsHel
   seals_none = record { still = λ _. refl; apart = λ _. refl; once = inl refl; held = λ held. absurd (never held); none = λ _. tt }
 
   pub around_none : (sum : List ℕ → ℕ) → WritesAround {T = T} sum (Err e) lsn log log
-  around_none sum = record { still = λ _. (refl, refl, refl, λ m. refl); written = λ _. tt; held = λ held. absurd (never held); some = inl (refl, refl, refl, λ m. refl); marked = none_begun sum log log refl (λ h there. there) (λ f there. there) }
+  around_none sum = record { still = λ _. (refl, refl); written = λ _. tt; held = λ held. absurd (never held); some = inl (refl, refl); marked = none_begun sum log log refl (λ h there. there) (λ f there. there) }
 
 pub still_around : {D C : Type 0} (trace : D → Trace) (sum : List ℕ → ℕ) (lsn : ℤ) (log : Log D C) → CameAround trace sum lsn log log
-still_around trace sum lsn log = inl ((refl, refl, refl, λ m. refl), refl, λ _. refl)
+still_around trace sum lsn log = inl ((refl, refl), refl, λ _. refl)

@@ -34,6 +34,7 @@ use Rattle.sled_core.specs.inside.Prepared.{IsPrepared, next_here, number_of, te
 use Rattle.sled_core.specs.Reserves.{StandsBehind}
 use Rattle.sled_core.specs.inside.Turned.{ChangesLine, ChangesSlots, HasPlace, HasRoomForBatch, HasRoomIn, IsTicketFor, begun_view, next_line, reserved_now}
 use Rattle.sled_core.specs.Waiting.{BufferAt, BufferStart, at_last, closed_now, unwritten}
+use Rattle.sled_core.proofs.Line.ReadySeen.{status_reserved}
 use Rattle.sled_core.proofs.Line.Among.{among_further, among_same}
 use Rattle.sled_core.proofs.Line.KeptCalls.{kept_further}
 use Rattle.sled_core.proofs.Line.Begins.{begins_current, begins_keeps, begins_marked, begins_same, begins_tickets}
@@ -95,8 +96,8 @@ module _ {D C : Type 0} (trace : D → Trace) (sum : List ℕ → ℕ) (old mid 
   pub here_further : IsUsedUpFor old kept.page n → ⊥
   here_further used = let moves = used.0 in let stays = here_stays in let both : true ≡ false = sym moves ∙ stays in cc
 
-  pub prepared_here : line_of mid ≡ line_of old → ChangesLine old mid → HasRoomIn (last_buffer_in mid.segments) (head.len + n) → (is_manifest kept.log_kind kept.page ≡ true → HasRoomForBatch mid) → IsPrepared trace sum old mid kept head n
-  prepared_here line rest room batch =
+  pub prepared_here : FitsInline (segment_size_of old) n → line_of mid ≡ line_of old → ChangesLine old mid → HasRoomIn (last_buffer_in mid.segments) (head.len + n) → (is_manifest kept.log_kind kept.page ≡ true → HasRoomForBatch mid) → IsPrepared trace sum old mid kept head n
+  prepared_here inline line rest room batch =
       let same : IsUnchanged old mid = left_alone old mid line rest in
       let current : current_of mid ≡ current_of old = unchanged_current old mid same in
       let sizes : segment_size_of mid ≡ segment_size_of old = unchanged_size old mid same in
@@ -109,6 +110,7 @@ module _ {D C : Type 0} (trace : D → Trace) (sum : List ℕ → ℕ) (old mid 
       let closed : List BufferAt = unwritten (at_last (closed_now sum (segment_size_of old)) (line_of old)) in
       let next : BufferStart = record { place = (current_of old).parts.site.place + segment_size_of old; lid = next_slot (machine_at old) * segment_size_of old } in
       record {
+        inline = inline;
         keeps = unchanged_keeps old mid same trace sum;
         tickets = unchanged_tickets old mid same;
         seen = seen_all old mid (unchanged_same old mid same);
@@ -172,6 +174,7 @@ module _ {D C : Type 0} (trace : D → Trace) (sum : List ℕ → ℕ) (old : Lo
       let next : BufferStart = record { place = v.parts.site.place + size; lid = next_slot (machine_at old) * size } in
       let space = room.bytes in
       record {
+        inline = inline;
         keeps = begins_keeps trace sum old mid line machine rest;
         tickets = begins_tickets trace sum old mid line machine rest;
         seen = seen_all old mid (begins_same trace sum old mid line machine rest);
@@ -301,7 +304,12 @@ module _ {D C : Type 0} {trace : D → Trace} {sum : List ℕ → ℕ} {old mid 
 
   -- It stands behind all that the log had.
   pub made_behind : StandsBehind sum old new kept.page len
-  made_behind = record { position = made_position; reserved = made_end; opens = made_opens; given_up = made_given; waiting = made_seals.0; start = made_seals.1; machine = ap machine_of laid.accountant ∙ ready.machine; pooled = ap (λ (x : Pool). x.count) laid.pool ∙ ready.pooled; marked = made_marked }
+  made_behind = record {
+    stands = status_reserved sum old kept.page len ready.inline new made_opens made_seen made_seals.0 made_seals.1 (ap machine_of laid.accountant ∙ ready.machine) made_position made_end;
+    given_up = made_given;
+    pooled = ap (λ (x : Pool). x.count) laid.pool ∙ ready.pooled;
+    marked = made_marked;
+  }
 
   -- The ticket is for its message, as the log has it.
   abbrev pub laid_message : Message

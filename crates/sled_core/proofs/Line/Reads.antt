@@ -26,21 +26,22 @@ use Rattle.sled_core.specs.Begun.{segment_view, SegmentView}
 use Rattle.sled_core.specs.Causes.{HeldAnswers, IsFault, IsFaultAt, IsHeld, OnDone}
 use Rattle.sled_core.specs.inside.Causes.{RecordAnswers}
 use Rattle.sled_core.specs.declared.logger.Log.{Log}
-use Rattle.sled_core.specs.Fits.{HasRecordOf, current_begin, device_of, fault_of, held_of, ledger_of, line_of, machine_at, noted_in, position_with}
-use Rattle.sled_core.specs.Fits.{reserved_end, segment_size_of, start_of, synced_end, waiting_of}
+use Rattle.sled_core.specs.Fits.{HasRecordOf, current_begin, device_of, fault_of, held_of, line_of, machine_at, noted_in}
+use Rattle.sled_core.specs.Fits.{reserved_end, segment_size_of, synced_end, waiting_of}
 use Rattle.sled_core.specs.invariants.Fits.{Holds}
 use Rattle.sled_core.specs.inside.Fits.{HoldsLine, HoldsWith}
 use Rattle.sled_core.specs.inside.FreeSlots.{HasSlot}
 use Rattle.sled_core.specs.LogFile.{StaysFrom}
 use Rattle.sled_core.specs.Logged.{in_log, logged}
 use Rattle.sled_core.specs.inside.Marked.{KeepsSegment}
+use Rattle.sled_core.specs.LogStatus.{LogStatus, failing, status_of}
 use Rattle.sled_core.specs.ReadBuffer.{IsSettled, IsWrittenPlace, LeavesUnsealed, LeavesWritten, ReadAnswers, RefusesPlace, SealsAround, Settles, WritesAround, held_at, settling}
 use Rattle.sled_core.specs.inside.ReadBuffer.{SettleAnswers}
 use Rattle.sled_core.specs.ReadPointer.{GivesBlob, place_read, IsDamageAt}
 use Rattle.sled_core.specs.Reading.{IsNoPlace}
 use Rattle.sled_core.specs.invariants.Running.{Fits}
 use Rattle.sled_core.specs.Stable.{IsNotReserved}
-use Rattle.sled_core.specs.Waiting.{BufferAt, BufferStart}
+use Rattle.sled_core.specs.Waiting.{BufferAt}
 use Rattle.sled_core.proofs.Holds.HeldFrom.{held_marked, held_under}
 use Rattle.sled_core.proofs.Line.ShownParts.{line_older, line_written}
 use Rattle.sled_core.proofs.Line.HeaderMarks.{marked_same}
@@ -52,7 +53,6 @@ use Rattle.sled_core.proofs.Line.Settles.{stable_written}
 use Rattle.sled_core.proofs.Logged.Messages.{inline_same, inline_there, table_logged}
 use Rattle.sled_core.proofs.Reserve.Ranges.{at_there}
 use Rattle.sled_core.proofs.Stable.EndLemmas.{or_beyond}
-use Rattle.sled_store.specs.SegmentStates.{Machine}
 
 none_is : (o : Option BufferAt) → is_none o ≡ true → o ≡ None
 none_is None is = refl
@@ -298,19 +298,19 @@ module _ {D C : Type 0} (lsn : ℤ) (old mid : Log D C) where
   pub around_err : {T T' : Type 0} (sum : List ℕ → ℕ) (e : Error) → WritesAround {T = T} sum (Err e) lsn old mid → WritesAround {T = T'} sum (Err e) lsn old mid
   around_err {T = T} {T' = T'} sum e is = record { still = is.still; written = λ _. tt; held = λ held. is.held (held_alike T T' e held); some = is.some; marked = is.marked }
 
-  pub around_read : {T T' : Type 0} (sum : List ℕ → ℕ) (r : Result T' Error) (new : Log D C) (x : T) → WritesAround {T = T} sum (Ok x) lsn old mid → waiting_of new ≡ waiting_of mid → start_of new ≡ start_of mid → ledger_of new ≡ ledger_of mid → ((m : Machine) → position_with new m ≡ position_with mid m) → (IsHeld r → ⊥) → KeepsSegment mid new → WritesAround sum r lsn old new
-  around_read sum r new x is waiting start ledger with_slots free segment = record {
+  pub around_read : {T T' : Type 0} (sum : List ℕ → ℕ) (r : Result T' Error) (new : Log D C) (x : T) → WritesAround {T = T} sum (Ok x) lsn old mid → waiting_of new ≡ waiting_of mid → status_of new ≡ failing (fault_of new) (status_of mid) → (IsHeld r → ⊥) → KeepsSegment mid new → WritesAround sum r lsn old new
+  around_read sum r new x is waiting status free segment = record {
     still = still;
     written = λ behind. all_ok r _ (left behind);
     held = λ held. absurd (free held);
     some = elim (or_beyond (pos (synced_end old)) lsn) [ inl behind ↦ all_err r _ (inr (inr (inl (left behind)))) | inr below ↦ all_err r _ (inl (still below)) ];
-    marked = marked_same sum old mid new is.marked segment (ap (λ (s : BufferStart). s.place) start);
+    marked = marked_same sum old mid new is.marked segment (ap (λ (s : LogStatus). s.start.place) status);
   } where
     left : pos (synced_end old) ≤ℤ lsn → LeavesWritten sum (unsigned_abs lsn) old new
-    left behind = (waiting ∙ (is.written behind).0, start ∙ (is.written behind).1, ledger ∙ (is.written behind).2, λ m. with_slots m ∙ (is.written behind).3 m)
+    left behind = (waiting ∙ (is.written behind).0, status ∙ ap (failing (fault_of new)) (is.written behind).1)
 
-    still : lsn <ℤ pos (synced_end old) → LeavesUnsealed sum (unsigned_abs lsn) old new
-    still below = (waiting ∙ (is.still below).0, start ∙ (is.still below).1, ledger ∙ (is.still below).2, λ m. with_slots m ∙ (is.still below).3 m)
+    still : lsn <ℤ pos (synced_end old) → LeavesUnsealed old new
+    still below = (waiting ∙ (is.still below).0, status ∙ ap (failing (fault_of new)) (is.still below).1)
 
 -- a place that isn't negative
 pub pos_abs : (z : ℤ) → pos 0 ≤ℤ z → pos (unsigned_abs z) ≡ z

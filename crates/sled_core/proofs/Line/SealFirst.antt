@@ -16,14 +16,18 @@ use Rattle.sled_core.specs.declared.logger.Log.{Log}
 use Rattle.sled_core.specs.Causes.{HeldAnswers, IsHeld, OnDone}
 use Rattle.sled_core.specs.inside.Fits.{AddsBuffers}
 use Rattle.sled_core.specs.Fits.{IsUnchanged, IsUsedUp, IsUsedUpBelow, KeepsAll, NoneSealed, buffers_of, current_begin, current_of, device_of, fault_of, holding_below, ledger_for, ledger_of, ledger_sealed, machine_at, pins_of, position_of, position_sealed, position_with, reserved_end, sealing_end, segment_size_of, start_of, synced_end, waiting_of, writing_below, writing_some}
-use Rattle.sled_core.specs.Fronts.{CameTo, FailedFront, IsOnTheWay, WroteFront, synced_writes}
+use Rattle.sled_core.specs.Fronts.{CameTo, FailedFront, IsOnTheWay, synced_writes}
+use Rattle.sled_core.specs.inside.Fronts.{WroteParts}
 use Rattle.sled_core.specs.Freeing.{Ledger}
 use Rattle.sled_core.specs.Keeps.{FailedStep, IsSpared, KeepsLog, KeepsWriting, LeavesSome, WritesBelow, sealed_for, start_sealed}
 use Rattle.sled_core.specs.Ledger.{ledger_behind, writings}
 use Rattle.sled_core.specs.inside.LeavesAbove.{LeavesAbove}
 use Rattle.sled_core.specs.Marked.{BeginsMarked}
 use Rattle.sled_core.specs.Positions.{Position, is_short}
-use Rattle.sled_core.specs.Waiting.{BufferAt, free_below, held_below, holds_any}
+use Rattle.sled_core.specs.LogStatus.{status_of}
+use Rattle.sled_core.specs.OpenPlaces.{open_places_along}
+use Rattle.sled_core.specs.Waiting.{BufferAt, free_below, held_below, holds_any, spans}
+use Rattle.sled_core.proofs.Line.Advanced.{same_synced}
 use Rattle.sled_core.proofs.Line.KeptCalls.{failed_over, log_still, log_writing, writing_further}
 use Rattle.sled_core.proofs.Line.Spared.{spared_sealed}
 use Rattle.sled_core.proofs.Line.Below.{begin_all, free_front, held_front, line_past}
@@ -90,7 +94,7 @@ module _ {D C : Type 0} (sum : List ℕ → ℕ) (to : ℕ) (old mid : Log D C) 
   -- so many of them at the front are written of the one as of the other
   pub front_first : {trace : D → Trace} (adds : AddsBuffers sum old mid) (new : Log D C) (below : current_begin old < to) (sealed : to ≤ current_begin mid) (waiting : waiting_of mid ≡ buffers_of sum old) (start : start_of mid ≡ start_sealed old)
       → device_of mid ≡ device_of old → ((m : Machine) → position_with mid m ≡ position_sealed old m) → ledger_of mid ≡ ledger_sealed old → segment_size_of mid ≡ segment_size_of old
-      → fault_of old ≡ None → pins_of mid ≡ pins_of old → WroteFront trace sum to mid new → WroteFront trace sum to old new
+      → fault_of old ≡ None → pins_of mid ≡ pins_of old → WroteParts trace sum to mid new → WroteParts trace sum to old new
   front_first {trace} adds new below sealed waiting start device with_slots ledger size sound pins front =
       let same = same_for sum to old mid new below sealed waiting start with_slots ledger size in
       let from = same_ledger sum to old mid new below sealed waiting start with_slots ledger size in
@@ -215,13 +219,30 @@ writes_none sum to log e never = record {
 }
 
 pub still_came : {D C : Type 0} (trace : D → Trace) (sum : List ℕ → ℕ) (to : ℕ) (log : Log D C) (e : IoError) → fault_of log ≡ Some e → CameTo trace sum to log log
-still_came trace sum to log e kept = inl (record { fault = refl; waiting = refl; start = refl; position = λ m. refl; ledger = refl; still = refl; due = λ none. absurd (let bad : None ≡ Some e = sym none ∙ kept in cc) })
+still_came trace sum to log e kept = inl (record { stands = (refl, refl); still = refl; due = λ none. absurd (let bad : None ≡ Some e = sym none ∙ kept in cc) })
 
 -- so none was written
 pub unchanged_came : {D C : Type 0} (trace : D → Trace) (sum : List ℕ → ℕ) (to : ℕ) (old new : Log D C) → current_begin old < to → IsUnchanged old new → CameTo trace sum to old new
 unchanged_came {D} {C} trace sum to old new below same =
     let buffers = same_buffers old new same.line in
-    inl (record { fault = same.fault; waiting = buffers.0; start = buffers.1; position = same_with old new same.line (ap (λ (x : RunningConfig D C). x.config.segment_size) same.config); ledger = ledger_unchanged old new same; still = ap (λ (x : RunningConfig D C). trace x.device) same.config; due = λ _. below })
+    let with_slots = same_with old new same.line (ap (λ (x : RunningConfig D C). x.config.segment_size) same.config) in
+    let ledger = ledger_unchanged old new same in
+    let place : position_of new ≡ position_of old = with_slots (machine_at new) ∙ ap (position_with old) same.machine in
+    let synced = same_synced old new same.line in
+    let status : status_of new ≡ status_of old = λ i. record {
+      position = place i;
+      machine = same.machine i;
+      reserved = same.reserved i;
+      synced = synced i;
+      noted = same.noted i;
+      waiting = spans (buffers.0 i);
+      start = buffers.1 i;
+      opens = open_places_along (same.line i);
+      fault = same.fault i;
+      pins = same.pins i;
+      account = (ledger i).account;
+    } in
+    inl (record { stands = (buffers.0, status); still = ap (λ (x : RunningConfig D C). trace x.device) same.config; due = λ _. below })
 
 -- With its current buffer sealed the log has the slots that are left behind where the next record begins.
 pub sealed_ledger : {D C : Type 0} (old mid : Log D C) → ((m : Machine) → position_with mid m ≡ position_sealed old m) → position_of mid ≡ position_of old → account_of mid ≡ account_of old → ledger_of mid ≡ ledger_sealed old
@@ -248,7 +269,7 @@ module _ {D C : Type 0} (trace : D → Trace) (sum : List ℕ → ℕ) (to : ℕ
         → (length (waiting_of mid) ≤ 1 → OnErr result (FailedStep mid new ⊎ (synced_end new ≡ synced_end mid)))
         → OnErr result (LeavesSome sum to mid new) → BeginsMarked sum old new → WritesBelow sum result to old new
     pub above : (new : Log D C) → LeavesAbove sum to mid new → LeavesAbove sum to old new
-    pub fronts : (new : Log D C) → WroteFront trace sum to mid new → WroteFront trace sum to old new
+    pub fronts : (new : Log D C) → WroteParts trace sum to mid new → WroteParts trace sum to old new
 
   pub sealed_already : (log : Log D C) → fault_of log ≡ None → to ≤ reserved_end log → to ≤ current_begin log → SealedFor log log
   sealed_already log fault reserved past = record {

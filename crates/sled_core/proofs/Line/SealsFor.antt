@@ -14,17 +14,19 @@ use Rattle.sled_store.proofs.Segments.Elements.{in_nothing, only_in}
 use Rattle.sled_core.specs.Begun.{SegmentView, segment_view}
 use Rattle.sled_core.specs.declared.logger.Log.{Log}
 use Rattle.sled_core.specs.inside.Fits.{AddsBuffers}
-use Rattle.sled_core.specs.Fits.{IsUsedUp, KeepsAll, KeepsTickets, buffers_of, current_begin, current_of, device_of, fault_of, held_len, ledger_of, ledger_sealed, position_sealed, position_with, reserved_end, sealing_end, segment_size_of, start_of, synced_end, waiting_of}
+use Rattle.sled_core.specs.Fits.{IsUsedUp, KeepsAll, KeepsTickets, buffers_of, current_begin, current_of, device_of, fault_of, held_len, ledger_of, ledger_sealed, position_sealed, position_with, reserved_end, sealing_end, segment_size_of, start_of, synced_end, waiting_of, machine_at, position_of}
 use Rattle.sled_core.specs.Freeing.{Ledger}
 use Rattle.sled_core.specs.Fronts.{CameAround, IsOnTheWay, WroteNone, WroteThenFailed, synced_writes, syncs}
-use Rattle.sled_core.specs.Keeps.{Preserves, SamePosition, start_sealed}
+use Rattle.sled_core.specs.Keeps.{Preserves, SamePosition, start_sealed, KeepsWriting}
 use Rattle.sled_core.specs.Ledger.{ledger_behind, writings}
+use Rattle.sled_core.specs.LogStatus.{LogStatus, ledger_around, position_around, sealed_around, start_around, status_of}
 use Rattle.sled_core.specs.Marked.{BeginsMarked}
 use Rattle.sled_core.specs.inside.Marked.{KeepsSegment}
 use Rattle.sled_core.specs.Account.{account_behind, account_of}
 use Rattle.sled_core.specs.Causes.{HeldAnswers, IsHeld}
-use Rattle.sled_core.specs.ReadBuffer.{IsUsedUpAt, LeavesFailing, LeavesSealed, LeavesWritten, WritesAround, held_at, ledger_at, sealed_at, settling}
-use Rattle.sled_core.specs.Waiting.{BufferAt, Span, free_around, has_place, one_around, without_around, BufferStart}
+use Rattle.sled_core.specs.ReadBuffer.{IsUsedUpAt, LeavesFailing, LeavesSealed, LeavesWritten, WritesAround, held_at, ledger_at, sealed_at, settling, LeavesAround, ledger_written, position_at, start_at}
+use Rattle.sled_core.specs.Spans.{spans_without}
+use Rattle.sled_core.specs.Waiting.{BufferAt, Span, free_around, has_place, one_around, without_around, BufferStart, spans}
 use Rattle.sled_core.proofs.Line.KeptCalls.{kept_still, position_still, tickets_still}
 use Rattle.sled_core.proofs.Line.Around.{found, found_front, free_found, free_of, held_found, held_of}
 use Rattle.sled_core.proofs.Line.Below.{begin_all}
@@ -34,6 +36,14 @@ use Rattle.sled_core.proofs.Line.Outcomes.{held_err, on_err, on_ok}
 use Rattle.sled_core.proofs.Line.PinnedWrites.{ledger_account}
 use Rattle.sled_core.proofs.Line.SealFirst.{ends_behind, sealed_ledger}
 use Rattle.sled_core.proofs.Line.Shows.{buffers_add}
+use Rattle.sled_core.proofs.Line.StatusSeen.{around_left_seen, around_seen, ledger_around_seen, sealed_around_seen, start_around_seen}
+use Rattle.sled_core.proofs.Line.Wrote.{status_left}
+
+-- The current buffer is sealed where it has a place.
+abbrev pub SealsIt : {D C : Type 0} → (List ℕ → ℕ) → ℕ → Log D C → Log D C → Type 0
+SealsIt sum place old new =
+    (waiting_of new ≡ sealed_at sum place old) × (start_of new ≡ start_at place old) × (ledger_of new ≡ ledger_at place old)
+    × ((m : Machine) → position_with new m ≡ position_at place old m)
 
 -- What a call has before it writes the buffer that has the place: the log that it was, or the one with its current buffer sealed.
 pub record SealsFor {D C : Type 0} (trace : D → Trace) (sum : List ℕ → ℕ) (place : ℕ) (old mid : Log D C) : Type 0 where
@@ -48,7 +58,7 @@ pub record SealsFor {D C : Type 0} (trace : D → Trace) (sum : List ℕ → ℕ
   pub unused : IsUsedUpAt old (pos place) → ⊥
   pub apart : place < current_begin old → current_begin mid ≡ current_begin old
   pub once : (current_begin mid ≡ current_begin old) ⊎ (current_begin mid ≡ sealing_end old)
-  pub sealed : LeavesSealed sum place old mid
+  pub sealed : SealsIt sum place old mid
   pub account : account_of mid ≡ account_of old
   pub marked : BeginsMarked sum old mid
   pub none : waiting_of old ≡ [] → (b : BufferAt) → Contains (waiting_of mid) b → has_place place b ≡ true
@@ -72,7 +82,7 @@ seals_still trace sum place log lower = record {
   marked = none_begun sum log log refl (λ h there. there) (λ f there. there);
   none = λ none b has. absurd (in_nothing b (subst (λ (l : List BufferAt). Contains l b) none has));
 } where
-  still : nat_le (current_begin log) place ≡ false → LeavesSealed sum place log log
+  still : nat_le (current_begin log) place ≡ false → SealsIt sum place log log
   still test = (
     sym (ap (λ (o : Bool). if o then buffers_of sum log else waiting_of log) test),
     sym (ap (λ (o : Bool). if o then start_sealed log else start_of log) test),
@@ -113,7 +123,7 @@ seals_current {D} {C} trace sum place old mid above reserved adds waiting begins
       none = λ none b has. by_more (ap (λ (s : Span). s.place) current.seen) (ap (λ (s : Span). s.end) current.seen) held.1 (only_in current.more b (subst (λ (l : List BufferAt). Contains l b) (waiting ∙ current.is ∙ ap (λ (l : List BufferAt). l ++ current.more ∷ []) none) has));
     }
   where
-    by_test : nat_le (current_begin old) place ≡ true → LeavesSealed sum place old mid
+    by_test : nat_le (current_begin old) place ≡ true → SealsIt sum place old mid
     by_test test = (
       waiting ∙ sym (ap (λ (o : Bool). if o then buffers_of sum old else waiting_of old) test),
       start ∙ sym (ap (λ (o : Bool). if o then start_sealed old else start_of old) test),
@@ -148,34 +158,62 @@ module _ {D C : Type 0} (trace : D → Trace) (sum : List ℕ → ℕ) (place : 
   held_at_same = λ i. if int_lt (pos place) (pos (seals.synced i)) then None else (held_found place (buffers_of sum mid) ∙ ap held_of seals.has ∙ sym (held_found place (buffers_of sum old))) i
 
   -- and the buffer that has the place is left out, where it is written.
-  module _ (new : Log D C) (start : start_of new ≡ start_of mid) (with_slots : (m : Machine) → position_with new m ≡ position_with mid m) where
+  module _ (new : Log D C) (start : start_of new ≡ start_of mid) (with_slots : (m : Machine) → position_with new m ≡ position_with mid m) (keeps : KeepsWriting trace sum old new)
+      (below : place < reserved_end old) where
+    abbrev s : LogStatus
+    s = status_of old
+
+    abbrev size : ℕ
+    size = segment_size_of old
+
+    some : current_begin old ≤ place → 0 < held_len old
+    some above = (holds_reserved old place above below).0
+
+    starts : start_of new ≡ start_around place s
+    starts = start ∙ seals.sealed.1 ∙ start_around_seen old place
+
+    lies : position_of new ≡ position_around size place s (machine_at new)
+    lies = with_slots (machine_at new) ∙ seals.sealed.3 (machine_at new) ∙ around_seen old place (machine_at new)
+
+    left_seen : spans (without_around place (sealed_at sum place old)) ≡ spans_without place (sealed_around place s)
+    left_seen = around_left_seen place (sealed_at sum place old) ∙ ap (spans_without place) (sealed_around_seen old sum place some)
+
+    leaves_it : (l : Ledger) → waiting_of new ≡ without_around place (waiting_of mid) → ledger_of new ≡ l → LeavesAround sum place l old new
+    leaves_it l left ledger =
+        let is : waiting_of new ≡ without_around place (sealed_at sum place old) = left ∙ ap (without_around place) seals.sealed.0 in
+        (is, status_left old new (spans_without place (sealed_around place s)) (start_around place s) l (position_around size place s) (ap spans is ∙ left_seen) starts ledger lies keeps.tickets keeps.position keeps.preserves.noted)
+
+    written_seen : ledger_behind size (one_around place (sealed_at sum place old)) (ledger_at place old) ≡ ledger_written sum place old
+    written_seen = ap (ledger_behind size (one_around place (sealed_at sum place old))) (ledger_around_seen old place)
+
     pub leaves_sealed : (waiting_of new ≡ waiting_of mid) × (ledger_of new ≡ ledger_of mid) → LeavesSealed sum place old new
-    leaves_sealed same = (same.0 ∙ seals.sealed.0, start ∙ seals.sealed.1, same.1 ∙ seals.sealed.2, λ m. with_slots m ∙ seals.sealed.3 m)
+    leaves_sealed same =
+        let is : waiting_of new ≡ sealed_at sum place old = same.0 ∙ seals.sealed.0 in (
+          is,
+          status_left old new (sealed_around place s) (start_around place s) (ledger_around place s) (position_around size place s) (ap spans is ∙ sealed_around_seen old sum place some) starts
+              (same.1 ∙ seals.sealed.2 ∙ ledger_around_seen old place) lies keeps.tickets keeps.position keeps.preserves.noted,
+        )
 
     pub leaves_written : (waiting_of new ≡ without_around place (waiting_of mid)) × (ledger_of new ≡ ledger_behind (segment_size_of mid) (one_around place (waiting_of mid)) (ledger_of mid)) → LeavesWritten sum place old new
-    leaves_written is = (
-      is.0 ∙ ap (without_around place) seals.sealed.0,
-      start ∙ seals.sealed.1,
-      is.1 ∙ (λ i. ledger_behind (seals.position.size i) (one_around place (seals.sealed.0 i)) (seals.sealed.2 i)),
-      λ m. with_slots m ∙ seals.sealed.3 m,
-    )
+    leaves_written is =
+        leaves_it (ledger_written sum place old) is.0
+        (is.1 ∙ (λ i. ledger_behind (seals.position.size i) (one_around place (seals.sealed.0 i)) (seals.sealed.2 i)) ∙ written_seen)
 
     -- or that, and the step behind it failed,
     pub leaves_failing : WroteThenFailed trace (one_around place (waiting_of mid)) (without_around place (waiting_of mid)) mid new
         → LeavesFailing sum place old new
     leaves_failing wrote = (
-      wrote.waiting ∙ ap (without_around place) seals.sealed.0,
-      start ∙ seals.sealed.1,
-      wrote.account
-          ∙ (λ i. account_behind (one_around place (seals.sealed.0 i)) (seals.sealed.2 i).account)
-          ∙ sym (ledger_account (segment_size_of old) (one_around place (sealed_at sum place old)) (ledger_at place old)),
-      (λ m. with_slots m ∙ seals.sealed.3 m),
       record {
         unpinned = sym seals.position.pins ∙ wrote.failed.unpinned;
         sound = sym seals.fault ∙ wrote.failed.sound;
         fault = wrote.failed.fault;
         kept = wrote.failed.kept;
       },
+      leaves_it (ledger_of new) wrote.waiting refl,
+      wrote.account
+          ∙ (λ i. account_behind (one_around place (seals.sealed.0 i)) (seals.sealed.2 i).account)
+          ∙ sym (ledger_account size (one_around place (sealed_at sum place old)) (ledger_at place old))
+          ∙ ap (λ (l : Ledger). l.account) written_seen,
     )
 
     -- or it could not be

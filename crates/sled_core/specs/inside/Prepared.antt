@@ -9,7 +9,8 @@ use Rattle.sled_core.specs.declared.iobuf.record.Head.{Head}
 use Rattle.sled_core.specs.declared.logger.Log.{Log}
 use Rattle.sled_core.specs.inside.Begun.{last_buffer_in}
 use Rattle.sled_core.specs.Buffers.{most_open}
-use Rattle.sled_core.specs.Fits.{KeepsTickets, current_of, machine_at, machine_behind, pooled_behind, pooled_of, reserved_end, segment_size_of, start_behind, start_of, target_of, waiting_behind}
+use Rattle.sled_core.specs.Fits.{FitsInline, KeepsTickets, current_of, machine_at, machine_behind, pooled_behind, pooled_of, reserved_end, segment_size_of}
+use Rattle.sled_core.specs.Fits.{start_behind, start_of, target_of, waiting_behind}
 use Rattle.sled_core.specs.Fits.{waiting_of}
 use Rattle.sled_core.specs.Keeps.{KeepsSeen, Preserves}
 use Rattle.sled_core.specs.Manifests.{is_manifest}
@@ -38,6 +39,7 @@ text_of head = take head.len head.bytes
 -- A log is ready for a record with a body of n bytes: this is its header, which the current segment and its buffer have room for, and the body behind it.
 -- It fits all that it did.
 pub record IsPrepared {D C : Type 0} (trace : D → Trace) (sum : List ℕ → ℕ) (old new : Log D C) (kept : Purpose) (head : Head) (n : ℕ) : Type 0 where
+  pub inline : FitsInline (segment_size_of old) n
   pub keeps : Preserves trace sum old new
   pub tickets : KeepsTickets old new
   pub seen : KeepsSeen old new

@@ -11,7 +11,7 @@ ghost use Rattle.sled_core.specs.Causes.{OnDone};
 ghost use Rattle.sled_core.specs.Fits.{IsUsedUpBelow, config_of, device_of, fault_of, flushing, holding_below, reserved_end, segment_size_of, stable_end};
 ghost use Rattle.sled_core.specs.Fronts.{CameTo, ClosedAt};
 ghost use Rattle.sled_core.specs.Keeps.{KeepsWriting, ConfigKept, WritesBelow};
-ghost use Rattle.sled_core.specs.LogStatus.{status_below, status_of};
+ghost use Rattle.sled_core.specs.LogStatus.{HasStatus, left_above, status_below};
 ghost use Rattle.sled_core.specs.Recoverable.{LeavesRecoverable, RecoverableIfOwn};
 ghost use Rattle.sled_core.specs.Pooled.{PoolsSome};
 ghost use Rattle.sled_core.specs.invariants.Running.{Fits};
@@ -37,7 +37,8 @@ impl<D: Device, C: Checksum> Log<D, C> {
     pub fn make_stable(&mut self, lsn: Lsn) -> Result<usize>
         ensures answer { IfOk result (λ n. stable_end self.new ≡ stable_end self.old + n) }
         ensures target { OnOk result (lsn <ℤ pos (stable_end self.new)) }
-        ensures status { OnOk result (status_of self.new ≡ status_below C.sum_of (target_for self.old lsn) self.old) }
+        ensures status { OnOk result (HasStatus (left_above C.sum_of (target_for self.old lsn) self.old)
+            (status_below C.sum_of (target_for self.old lsn) self.old) self.new) }
         ensures made { OnDone result (D.trace (device_of self.new) ≡ after_all (stabilizing C.sum_of self.old lsn) (D.trace (device_of self.old))) }
         ensures at_most { Performs (stabilizing C.sum_of self.old lsn) (D.trace (device_of self.old)) (D.trace (device_of self.new)) }
         ensures keeps { KeepsWriting D.trace C.sum_of self.old self.new }

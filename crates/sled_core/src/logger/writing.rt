@@ -2,7 +2,7 @@
 //!
 //! A sealed buffer is written as a whole, by one write and one sync, in any order. The stable end lies behind those at the
 //! front that are written (`specs/Waiting.antt`).
-ghost use Rattle.std.specs.Prelude.{if◌then◌else◌, List, ℕ, ◌≡◌, ◌⊎◌, ◌+◌, ◌<◌, ◌≤◌, ◌^◌, ◌∷◌, [], pos, None, Some, false, length, slice_get, set, Contains, IfOk, IfErr, OnOk, OnErr, max};
+ghost use Rattle.std.specs.Prelude.{List, ℕ, ◌≡◌, ◌⊎◌, ◌+◌, ◌<◌, ◌≤◌, ◌^◌, ◌∷◌, [], pos, None, Some, false, length, slice_get, set, Contains, IfOk, IfErr, OnOk, OnErr, max};
 ghost use Rattle.std.specs.declared.io.Error.{Error as IoError};
 ghost use Rattle.std.specs.IoError.{error_kind};
 ghost use Rattle.std.specs.declared.io.ErrorKind.TheVariants.{OutOfMemory};
@@ -17,12 +17,13 @@ ghost use Rattle.sled_core.specs.Among.{AreAmong};
 ghost use Rattle.sled_core.specs.Begun.{SegmentView};
 ghost use Rattle.sled_core.specs.Buffers.{first_open_in, open_in};
 ghost use Rattle.sled_core.specs.Causes.{Answers, FaultOrMemory, HeldAnswers, OnDone};
-ghost use Rattle.sled_core.specs.Fits.{IsUnchanged, IsUsedUp, IsUsedUpBelow, IsWritten, NoneSealed, config_of, current_begin, device_of, fault_of, fillings_of, flushing, heads_of, held_len, holding_below, ledger_of, line_of, machine_at, pending_of, position_with, reserved_end, segment_size_of, stable_end, start_of, synced_end, waiting_of, writing_below, writing_pending};
-ghost use Rattle.sled_core.specs.Fronts.{CameTo, IsOnTheWay, WroteFront, WroteThenFailed, synced_writes, syncs};
+ghost use Rattle.sled_core.specs.Fits.{IsUnchanged, IsUsedUp, IsUsedUpBelow, IsWritten, NoneSealed, buffers_of, config_of, current_begin, device_of, fault_of, fillings_of, flushing, heads_of, held_len, holding_below, ledger_of, line_of, machine_at, pending_of, position_with, reserved_end, segment_size_of, stable_end, start_of, synced_end, waiting_of, writing_below, writing_pending};
+ghost use Rattle.sled_core.specs.Fronts.{CameTo, IsOnTheWay, WroteThenFailed, synced_writes, syncs};
 ghost use Rattle.sled_core.specs.Keeps.{FailedStep, HoldsFast, KeepsLog, KeepsWriting, WritesBelow};
 ghost use Rattle.sled_core.specs.Ledger.{ledger_step, stepped_ledger, written_ledger};
-ghost use Rattle.sled_core.specs.LogStatus.{status_behind, status_below, status_of, status_rolled};
+ghost use Rattle.sled_core.specs.LogStatus.{HasStatus, left_above, status_behind, status_below, status_rolled};
 ghost use Rattle.sled_core.specs.Marked.{BeginsMarked};
+ghost use Rattle.sled_core.specs.inside.Fronts.{WroteParts};
 ghost use Rattle.sled_core.specs.inside.LeavesAbove.{LeavesAbove};
 ghost use Rattle.sled_core.specs.inside.Marked.{JoinsBelow, KeepsSegment};
 ghost use Rattle.sled_core.specs.inside.OneWritten.{KeepsOne, WritesNone, WroteOne};
@@ -60,7 +61,7 @@ impl<D: Device, C: Checksum> Log<D, C> {
         requires { i < pending_of self.old }
         ensures calls { OnOk result (D.trace (device_of self.new) ≡ after_all (writing_pending self.old i) (D.trace (device_of self.old))) }
         ensures at_most { Performs (writing_pending self.old i) (D.trace (device_of self.old)) (D.trace (device_of self.new)) }
-        ensures status { OnOk result (status_of self.new ≡ status_behind i self.old) }
+        ensures status { OnOk result (HasStatus (without_pending i (waiting_of self.old)) (status_behind i self.old) self.new) }
         ensures keeps { KeepsWriting D.trace C.sum_of self.old self.new }
         ensures start { (start_of self.new ≡ start_of self.old) × ((m : Machine) → position_with self.new m ≡ position_with self.old m) }
         ensures heads { AreAmong (heads_of self.new) (heads_of self.old) }
@@ -107,7 +108,7 @@ impl<D: Device, C: Checksum> Log<D, C> {
     /// is to be begun and would not end below 2^63 in the log and in the file; and `OutOfMemory`. The log is as it was.
     pub fn roll_iobuf(&mut self) -> Result<usize>
         ensures answer { IfOk result (λ n. n ≡ held_len self.old) }
-        ensures status { OnOk result (status_of self.new ≡ status_rolled C.sum_of self.old) }
+        ensures status { OnOk result (HasStatus (buffers_of C.sum_of self.old) (status_rolled self.old) self.new) }
         ensures marked { OnOk result (BeginsMarked C.sum_of self.old self.new) }
         ensures keeps { KeepsLog D.trace C.sum_of self.old self.new }
         ensures untouched { config_of self.new ≡ config_of self.old }
@@ -142,7 +143,8 @@ impl<D: Device, C: Checksum> Log<D, C> {
     /// where it was after each of them, but where the device failed as segments came free: then all may be written.
     pub fn flush(&mut self) -> Result<usize>
         ensures answer { IfOk result (λ n. stable_end self.new ≡ stable_end self.old + n) }
-        ensures status { OnOk result (status_of self.new ≡ status_below C.sum_of (reserved_end self.old) self.old) }
+        ensures status { OnOk result (HasStatus (left_above C.sum_of (reserved_end self.old) self.old)
+            (status_below C.sum_of (reserved_end self.old) self.old) self.new) }
         ensures synced { OnOk result (SyncsAll self.old self.new) }
         ensures records { (H : History) → HoldsFast D.trace C.sum_of self.old H → OnOk result (IsWritten D.trace C.sum_of self.new H) }
         ensures calls { OnDone result (D.trace (device_of self.new) ≡ after_all (flushing C.sum_of self.old) (D.trace (device_of self.old))) }
@@ -212,7 +214,7 @@ impl<D: Device, C: Checksum> Log<D, C> {
         ensures none { ((b : BufferAt) → Contains (waiting_of self.old) b → b.place < to) → OnOk result (NoneSealed self.new) }
         ensures one { length (waiting_of self.old) ≤ 1 → OnErr result (FailedStep self.old self.new ⊎ (synced_end self.new ≡ synced_end self.old)) }
         ensures above { OnOk result (LeavesAbove C.sum_of to self.old self.new) }
-        ensures front { OnErr result (WroteFront D.trace C.sum_of to self.old self.new) }
+        ensures front { OnErr result (WroteParts D.trace C.sum_of to self.old self.new) }
         ensures idle { writing_below C.sum_of self.old to ≡ [] → D.faults (device_of self.new) ≡ D.faults (device_of self.old) }
         ensures pooled { PoolsWith 0 self.old self.new }
     {

@@ -17,10 +17,10 @@ use Rattle.sled_log.specs.RunStates.{LogView, MarkAt, heads_at}
 use Rattle.sled_log.specs.WriteSteps.{filled_by, headed}
 
 -- Nothing was begun where the current buffer begins there still.
-pub heads_still : (l : LogView) → heads_at l l.start ≡ l.heads
+pub heads_still : (l : LogView) → heads_at l l.status.start ≡ l.heads
 heads_still l =
-    let no : nat_lt l.start.place l.start.place ≡ false = grind (arith, nat_tests) in
-    ap (λ (o : Bool). if o then record { place = l.start.place; mark = pos (stable_below l.synced l.noted) -ℤ pos 1; end = l.end } ∷ l.heads else l.heads) no
+    let no : nat_lt l.status.start.place l.status.start.place ≡ false = grind (arith, nat_tests) in
+    ap (λ (o : Bool). if o then record { place = l.status.start.place; mark = pos (stable_below l.status.synced l.status.noted) -ℤ pos 1; end = l.status.reserved } ∷ l.heads else l.heads) no
 
 -- what is kept in mind, with these buffers begun
 abbrev pub begun_with : Unstored → List MarkAt → Unstored

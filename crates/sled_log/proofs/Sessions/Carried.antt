@@ -39,7 +39,7 @@ asked_going false n old new o free asked = asked
 -- A reservation of an item that goes to no blob leaves the device alone.
 alone : (sum : List ℕ → ℕ) (size : ℕ) (l : LogView) (kind : LogKind) (page : ℕ) (bytes : List ℕ) (old : DeviceView) (r : Reply) (new : DeviceView) → in_blob size (length bytes) ≡ false → ReserveActs sum size l kind page bytes old r new → new ≡ old
 alone sum size l kind page bytes old r new short acts =
-    let acting : Type 0 = BlobActs (making_for sum (kind_for kind page true 8) (pos (target_in size l page (body_in size (length bytes))).place) bytes) l.fault old r new in
+    let acting : Type 0 = BlobActs (making_for sum (kind_for kind page true 8) (pos (target_in size l page (body_in size (length bytes))).place) bytes) l.status.fault old r new in
     subst (λ (b : Bool). MatchBool b acting (new ≡ old)) short acts
 
 module _ {D C : Type 0} (view : D → DeviceView) (sum : List ℕ → ℕ) (old : Opened D C) (k : Unstored) (page : ℕ) where

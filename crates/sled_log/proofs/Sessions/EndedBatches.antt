@@ -31,7 +31,7 @@ use Rattle.sled_log.specs.Endings.{TakesTicket}
 use Rattle.sled_log.specs.Refusals.{when}
 use Rattle.sled_log.specs.RunPhases.{DoesHere, HasBatch, IsOpenAt, IsSafe, IsTicketFor, Unstored, seen, seen_log, shown_due, traces}
 use Rattle.sled_log.specs.SessionMarks.{without_pin}
-use Rattle.sled_log.specs.RunStates.{DeviceView, LogView, in_batch, opens, places_without, top}
+use Rattle.sled_log.specs.RunStates.{DeviceView, LogView, in_batch, places_without, top}
 use Rattle.sled_log.specs.TicketSteps.{HasBegun, IsAnswerFor, batch_of, noting, spent}
 use Rattle.sled_log.proofs.Sessions.EndedTickets.{after, awaits_it, back_beside, back_pinned, failed_leads, failed_open, given_back, keeps_beside, keeps_ended, left, left_open, none_left, outstanding}
 use Rattle.sled_log.proofs.Sessions.MadeBatches.{joins_still, made_still, table_still}
@@ -126,23 +126,25 @@ module _ {D C : Type 0} (view : D → DeviceView) (sum : List ℕ → ℕ) (old 
         (others : (t : Reservation) (x : Message) → Awaits old.log t x → place_of t ≢ place_of ticket.reservation → Awaits log t x)
         (safe : (j : ℕ) (x : Message) → (x.place ≡ m.place → ⊥) → IsTicketFor (traces view) sum old k.history j x → IsSafe (traces view) sum log x)
         (opens_left : TakesOut m.place (open_places old.log) (open_places log)) (among : AreAmong (given_up_of log) (given_up_of old.log)) (heads : HasNoOther old.log log) where
-      ended_view : seen_log log (length mid.pages.items) (set k.tickets n None) k.given_up k.heads ≡ noting (batch_of l m) (spent l n (places_without m.place (opens l)) (length old.pages.items))
+      ended_view : seen_log log (length mid.pages.items) (set k.tickets n None) k.given_up k.heads ≡ noting (batch_of l m) (spent l n (places_without m.place l.status.opens) (length old.pages.items))
       ended_view i = record {
-        position = position.position i;
-        synced = notes.synced i;
-        noted = (notes.noted ∙ noted_one (noted_in old.log)) i;
-        end = position.reserved i;
-        waiting = buffers.waiting i;
-        start = buffers.start i;
+        status = record {
+          position = position.position i;
+          machine = machine i;
+          reserved = position.reserved i;
+          synced = notes.synced i;
+          noted = (notes.noted ∙ noted_one (noted_in old.log)) i;
+          waiting = buffers.waiting i;
+          start = buffers.start i;
+          opens = outstanding view sum old k at n m there mid ticket takes log position fault others safe opens_left i;
+          fault = notes.fault i;
+          pins = notes.pins i;
+          account = notes.account i;
+        };
         begun = length (takes.pages i).items;
-        fault = notes.fault i;
-        outstanding = outstanding view sum old k at n m there mid ticket takes log position fault others safe opens_left i;
         tickets = set k.tickets n None;
         given_up = k.given_up;
         heads = k.heads;
-        pins = notes.pins i;
-        machine = machine i;
-        account = notes.account i;
       }
 
       step_from : (H' : History) → EndsBatch k.history ticket.reservation peg H' → Step k.history (Batched (batch_of l m)) H'

@@ -49,7 +49,7 @@ use Rattle.sled_log.specs.Made.{IsMade, MayJoin}
 use Rattle.sled_log.specs.Marking.{IsMarked, KeepsBeside, Settles, StaysUnmarked, mark_of}
 use Rattle.sled_log.specs.Refusals.{when}
 use Rattle.sled_log.specs.RunPhases.{AreRising, AreUnmarked, BeginsBatch, DoesHere, HasBatch, HasHeads, HasTickets, IsOpenAt, IsSafe, IsTicketFor, IsUnmarked, Unstored, device_in, seen, seen_log, shown_due, stands, traces}
-use Rattle.sled_log.specs.RunStates.{DeviceView, DueMark, RunState, has_message, has_ticket, open_messages, opens, page_now, places_without, top, with_log}
+use Rattle.sled_log.specs.RunStates.{DeviceView, DueMark, RunState, has_message, has_ticket, open_messages, page_now, places_without, top, with_log}
 use Rattle.sled_log.specs.Runs.{StaysWithin, StepBy}
 use Rattle.sled_log.specs.SessionMarks.{mark_for, marking, replacing, told_message, told_state, without_pin}
 use Rattle.sled_log.specs.TicketActs.{RemoveActs, own_by}
@@ -368,7 +368,7 @@ module _ {D C : Type 0} (view : D → DeviceView) (sum : List ℕ → ℕ) (old 
                 (subst (λ (x : Log D C). Fits (traces view) sum x k.history k.acknowledged k.floor at.unmarked) (sym is) at.fits)
 
             pub failed_leads : stands view (Open after) (left k.history)
-                ≡ with_log (stands view (Open old) k) (view (config_of log).device) (Some (without_pin (spent (seen old k.tickets k.given_up k.heads) n (opens (seen old k.tickets k.given_up k.heads)) (length old.pages.items))))
+                ≡ with_log (stands view (Open old) k) (view (config_of log).device) (Some (without_pin (spent (seen old k.tickets k.given_up k.heads) n ((seen old k.tickets k.given_up k.heads).status.opens) (length old.pages.items))))
             failed_leads i = record {
               device = view (config_of log).device;
               history = k.history;
@@ -407,21 +407,23 @@ module _ {D C : Type 0} (view : D → DeviceView) (sum : List ℕ → ℕ) (old 
                       acknowledged = k.acknowledged;
                       floor = k.floor;
                       log = Some (without_pin (record {
-                        position = did.position.position i;
-                        synced = did.seen.synced i;
-                        noted = did.seen.noted i;
-                        end = did.position.reserved i;
-                        waiting = did.buffers.waiting i;
-                        start = did.buffers.start i;
+                        status = record {
+                          position = did.position.position i;
+                          machine = machine i;
+                          reserved = did.position.reserved i;
+                          synced = did.seen.synced i;
+                          noted = did.seen.noted i;
+                          waiting = did.buffers.waiting i;
+                          start = did.buffers.start i;
+                          opens = did.err.0.opens i;
+                          fault = fault i;
+                          pins = did.seen.pins i;
+                          account = did.seen.account i;
+                        };
                         begun = as_many pages pages_are i;
-                        fault = fault i;
-                        outstanding = did.err.0.opens i;
                         tickets = set k.tickets n None;
                         given_up = k.given_up;
                         heads = k.heads;
-                        pins = did.seen.pins i;
-                        machine = machine i;
-                        account = did.seen.account i;
                       }));
                       due = shown_due (takes.due i);
                     };
@@ -453,23 +455,25 @@ module _ {D C : Type 0} (view : D → DeviceView) (sum : List ℕ → ℕ) (old 
           (opens_left : TakesOut m.place (open_places old.log) (open_places log)) where
         ended_view : (count : ℕ) (given : List Message) → length pages.items ≡ count
             → seen_log log (length pages.items) (set k.tickets n None) given k.heads
-            ≡ record (spent (seen old k.tickets k.given_up k.heads) n (places_without m.place (opens (seen old k.tickets k.given_up k.heads))) count) { given_up = given }
+            ≡ record (spent (seen old k.tickets k.given_up k.heads) n (places_without m.place ((seen old k.tickets k.given_up k.heads).status.opens)) count) { given_up = given }
         ended_view count given is i = record {
-          position = position.position i;
-          synced = same.synced i;
-          noted = same.noted i;
-          end = position.reserved i;
-          waiting = buffers.waiting i;
-          start = buffers.start i;
+          status = record {
+            position = position.position i;
+            machine = machine i;
+            reserved = position.reserved i;
+            synced = same.synced i;
+            noted = same.noted i;
+            waiting = buffers.waiting i;
+            start = buffers.start i;
+            opens = outstanding log position fault others safe opens_left i;
+            fault = kept i;
+            pins = same.pins i;
+            account = same.account i;
+          };
           begun = is i;
-          fault = kept i;
-          outstanding = outstanding log position fault others safe opens_left i;
           tickets = set k.tickets n None;
           given_up = given;
           heads = k.heads;
-          pins = same.pins i;
-          machine = machine i;
-          account = same.account i;
         }
 
         -- Its message is given up.
@@ -584,7 +588,7 @@ module _ {D C : Type 0} (view : D → DeviceView) (sum : List ℕ → ℕ) (old 
 
           -- the log then, as it is seen, but for the mark
           completed_seen : seen_log log (length pages.items) (set k.tickets n None) k.given_up k.heads
-              ≡ spent (seen old k.tickets k.given_up k.heads) n (places_without m.place (opens (seen old k.tickets k.given_up k.heads))) count_now
+              ≡ spent (seen old k.tickets k.given_up k.heads) n (places_without m.place ((seen old k.tickets k.given_up k.heads).status.opens)) count_now
           completed_seen = ended_view count_now k.given_up begun_count
 
           device_now : (new : Log D C) → KeepsBeside log new → view (config_of new).device ≡ view (config_of old.log).device
@@ -597,12 +601,12 @@ module _ {D C : Type 0} (view : D → DeviceView) (sum : List ℕ → ℕ) (old 
               → ((stands view (Open (now new pages due)) (left H') ≡ record (stands view (Open old) k) {
                 device = view (config_of new).device;
                 history = H';
-                log = Some (marking (segment_size_of old.log) (mark_for (segment_size_of old.log) k.floor k.history m) (spent (seen old k.tickets k.given_up k.heads) n (places_without m.place (opens (seen old k.tickets k.given_up k.heads))) count_now));
+                log = Some (marking (segment_size_of old.log) (mark_for (segment_size_of old.log) k.floor k.history m) (spent (seen old k.tickets k.given_up k.heads) n (places_without m.place ((seen old k.tickets k.given_up k.heads).status.opens)) count_now));
               })
               ⊎ (stands view (Open (now new pages due)) (left H') ≡ record (stands view (Open old) k) {
                 device = view (config_of new).device;
                 history = H';
-                log = Some (spent (seen old k.tickets k.given_up k.heads) n (places_without m.place (opens (seen old k.tickets k.given_up k.heads))) count_now);
+                log = Some (spent (seen old k.tickets k.given_up k.heads) n (places_without m.place ((seen old k.tickets k.given_up k.heads).status.opens)) count_now);
                 due = Some (mark_for (segment_size_of old.log) k.floor k.history m);
               }))
               → IsOpenAt (traces view) sum (now new pages due) (left H')
@@ -619,7 +623,7 @@ module _ {D C : Type 0} (view : D → DeviceView) (sum : List ℕ → ℕ) (old 
                 answer = answer;
                 history = H';
                 step = step;
-                log = spent (seen old k.tickets k.given_up k.heads) n (places_without m.place (opens (seen old k.tickets k.given_up k.heads))) count_now;
+                log = spent (seen old k.tickets k.given_up k.heads) n (places_without m.place ((seen old k.tickets k.given_up k.heads).status.opens)) count_now;
                 is = refl;
                 leads = leads;
               },

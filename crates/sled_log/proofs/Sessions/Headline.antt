@@ -22,6 +22,7 @@ use Rattle.sled_core.specs.Positions.{Position}
 use Rattle.sled_core.specs.Recoverable.{ReadsOnlyOwn}
 use Rattle.sled_core.specs.Running.{end_below}
 use Rattle.sled_core.specs.Waiting.{BufferAt, front_below, one_around}
+use Rattle.sled_core.specs.LogStatus.{failing, ledger_around, ledger_below, stable_in, wrote_around, wrote_below}
 use Rattle.sled_core.proofs.PublicLaws.{message_acknowledged}
 use Rattle.sled_log.specs.declared.session.Session.{Session}
 use Rattle.sled_log.specs.declared.session.Phase.{Phase}
@@ -35,20 +36,19 @@ use Rattle.sled_log.specs.Headline.{Acknowledges, Comes, Moves, Recovers, Reserv
 use Rattle.sled_log.specs.OpenSteps.{HasOpened, IsStartCause, OpenStep, log_opened}
 use Rattle.sled_log.specs.ReadSteps.{FailsAt, ReadStep, ReadsAll, read_around, read_at}
 use Rattle.sled_log.specs.Refusals.{reason_of}
-use Rattle.sled_log.specs.RunStates.{DeviceView, DueMark, HasAll, LogView, RunState, body_in, closed, length_of, made_ready, message_at, opens, page_now, places_without, rewriting_at, sealed_around, spans_without, start_around, start_below, target_in, tickets_in, tickets_of, with_log, stable_of}
+use Rattle.sled_log.specs.RunStates.{DeviceView, DueMark, HasAll, LogView, RunState, body_in, closed, length_of, made_ready, message_at, page_now, places_without, rewriting_at, target_in, tickets_in, tickets_of, view_at, with_log}
 use Rattle.sled_log.specs.Runs.{CrashStep, HaltStep, IsOwn, IsStep, Postpones, Runs, StepBy, StepFrom, StopStep, calls_log, told}
-use Rattle.sled_log.specs.RunSlots.{ledger_around, ledger_below, position_around, position_below}
 use Rattle.sled_log.specs.SessionMarks.{mark_for, marking, marking_in, with_mark, without_pin}
 use Rattle.sled_log.specs.RunPhases.{IsAt, SomeStands, StandsAt, StandsAtPhase, Unstored, seen, stands, traces}
-use Rattle.sled_log.specs.WriteSteps.{FailsTo, FlushStep, HasWrittenTo, KeepsFailing, StableStep, WriteStep, view_flushed, left_from, stable_from, target_by}
+use Rattle.sled_log.specs.WriteSteps.{FailsTo, FlushStep, HasWrittenTo, KeepsFailing, StableStep, WriteStep, stable_from, target_by}
 use Rattle.sled_log.specs.TicketSteps.{AbortStep, CompleteStep, EndStep, HasReserved, RefusedStep, ReserveStep, RewriteStep, batch_of, blank_manifest, giving_up, keeping, noting, spent}
 use Rattle.sled_log.proofs.Sessions.Reading.{sized}
 use Rattle.sled_log.proofs.Sessions.RunLemmas.{own_read, start_cause_of}
 
 -- What is known of the messages of a run where a log is open: they end at or below what was reserved, and each has a size.
 pub record EndsIn (H : History) (l : LogView) : Type 0 where
-  pub completed : (x : Message) → Contains H.messages x → x.place + x.size ≤ l.end
-  pub reserved : (n : ℕ) (x : Message) → slice_get l.tickets n ≡ Some (Some x) → x.place + x.size ≤ l.end
+  pub completed : (x : Message) → Contains H.messages x → x.place + x.size ≤ l.status.reserved
+  pub reserved : (n : ℕ) (x : Message) → slice_get l.tickets n ≡ Some (Some x) → x.place + x.size ≤ l.status.reserved
   pub sized : (x : Message) → Contains H.messages x → 0 < x.size
 
 abbrev pub Known : RunState → Type 0
@@ -233,14 +233,14 @@ module _ (sum : List ℕ → ℕ) (size : ℕ) (device : DeviceView) (H : Histor
           | inr late ↦ comes t has.message (Completed has.message) has.history has.log (Some mark) new b has.reserved has.step spends late
         ] in
         ((has.message, came.0), came.1)
-    complete t (reply.Failed (error.Io e)) new b step = keeps (Some l) (Some (without_pin (spent l t (opens l) l.begun))) new b step.1 (inr (inr (t, refl)))
+    complete t (reply.Failed (error.Io e)) new b step = keeps (Some l) (Some (without_pin (spent l t l.status.opens l.begun))) new b step.1 (inr (inr (t, refl)))
     complete t (reply.Failed error.OutOfMemory) new b step = same (Some l) new b step.1
     complete t _ new b step = absurd step
 
     abort : (t : ℕ) (r : Reply) (new : DeviceView) (b : RunState) → AbortStep a l t r new b → Moves sum size a (command.Abort t) r b × Led a new b
     abort t (reply.Done place pointer) new b has =
-        keeps (Some l) (Some (giving_up has.message (without_pin (spent l t (places_without has.message.place (opens l)) l.begun)))) new b has.leads (inr (inr (t, refl)))
-    abort t (reply.Failed (error.Io e)) new b fails = keeps (Some l) (Some (keeping e (without_pin (spent l t (opens l) l.begun)))) new b fails.leads (inr (inr (t, refl)))
+        keeps (Some l) (Some (giving_up has.message (without_pin (spent l t (places_without has.message.place l.status.opens) l.begun)))) new b has.leads (inr (inr (t, refl)))
+    abort t (reply.Failed (error.Io e)) new b fails = keeps (Some l) (Some (keeping e (without_pin (spent l t l.status.opens l.begun)))) new b fails.leads (inr (inr (t, refl)))
     abort t _ new b step = absurd step
 
     end : EndsIn H l → (r : Reply) (new : DeviceView) (b : RunState) → EndStep a l r new b → Moves sum size a command.EndBatch r b × Led a new b
@@ -248,7 +248,7 @@ module _ (sum : List ℕ → ℕ) (size : ℕ) (device : DeviceView) (H : Histor
         let t : ℕ = has.begun.ticket in
         let m : Message = has.begun.message in
         let came =
-        comes t m (Batched (batch_of l m)) has.history (noting (batch_of l m) (without_pin (spent l t (places_without m.place (opens l)) l.begun))) due new b has.begun.reserved
+        comes t m (Batched (batch_of l m)) has.history (noting (batch_of l m) (without_pin (spent l t (places_without m.place l.status.opens) l.begun))) due new b has.begun.reserved
         has.step refl has.leads in
         let all : HasAll a (batch_of l m) = record {
           completed = λ x there. (let le = ends.completed x there in omega (arith, le));
@@ -256,7 +256,7 @@ module _ (sum : List ℕ → ℕ) (size : ℕ) (device : DeviceView) (H : Histor
         } in
         ((t, m, batch_of l m, has.begun.manifest, sym has.answer.0, refl, all, came.0), came.1)
     end ends (reply.Failed (error.Io e)) new b step =
-        keeps (Some l) (Some (without_pin (spent l step.1.0.ticket (opens l) l.begun))) new b step.1.1 (inr (inr (step.1.0.ticket, refl)))
+        keeps (Some l) (Some (without_pin (spent l step.1.0.ticket l.status.opens l.begun))) new b step.1.1 (inr (inr (step.1.0.ticket, refl)))
     end ends _ new b step = absurd step
 
     -- Writing.
@@ -267,7 +267,7 @@ module _ (sum : List ℕ → ℕ) (size : ℕ) (device : DeviceView) (H : Histor
     written Meant to n new b low has =
         let end : ℕ = end_below (stable_from to l) H in
         let here : Acknowledges a Meant
-        (record a { device = new; acknowledged = max A end; log = Some (view_flushed l (left_from to l) (start_below to l) None (ledger_behind size (front_below to has.writes.buffers) (ledger_below to l)) (position_below size to l)) }) = (
+        (record a { device = new; acknowledged = max A end; log = Some (view_at l (failing None (wrote_below size to (ledger_behind size (front_below to has.writes.buffers) (ledger_below to l.status)) l.status))) }) = (
           omega arith,
           λ m there meant. (let le = message_acknowledged (stable_from to l) H m there (low m there meant) in omega (arith, le)),
           refl,
@@ -284,15 +284,15 @@ module _ (sum : List ℕ → ℕ) (size : ℕ) (device : DeviceView) (H : Histor
 
     flush : EndsIn H l → (r : Reply) (new : DeviceView) (b : RunState) → FlushStep sum size a l r new b → Moves sum size a command.Flush r b × Led a new b
     flush ends (reply.Flushed n) new b has =
-        written (λ m. Unit {0}) l.end n new b (λ m there meant.
+        written (λ m. Unit {0}) l.status.reserved n new b (λ m there meant.
         (let some = ends.sized m there in
-        let le = All-contains (λ (x : Message). x.place + x.size ≤ stable_from l.end l) H.messages m has.all there in omega (arith, some, le))) has.written
+        let le = All-contains (λ (x : Message). x.place + x.size ≤ stable_from l.status.reserved l) H.messages m has.all there in omega (arith, some, le))) has.written
     flush ends (reply.Failed e) new b (inl kept) = keeping_on e new b kept
-    flush ends (reply.Failed e) new b (inr fails) = fails_to l.end e new b fails
+    flush ends (reply.Failed e) new b (inr fails) = fails_to l.status.reserved e new b fails
     flush ends _ new b step = absurd step
 
     stable_fails : (place : ℤ) (e : Error) (new : DeviceView) (b : RunState)
-        → KeepsFailing a l e new b ⊎ ((pos (stable_of l) ≤ℤ place) × (place <ℤ pos l.end) × FailsTo sum size a l (target_by l place) e new b)
+        → KeepsFailing a l e new b ⊎ ((pos (stable_in l.status) ≤ℤ place) × (place <ℤ pos l.status.reserved) × FailsTo sum size a l (target_by l place) e new b)
         → Stays a b × Led a new b
     stable_fails place e new b (inl kept) = keeping_on e new b kept
     stable_fails place e new b (inr fails) = fails_to (target_by l place) e new b fails.2
@@ -317,7 +317,7 @@ module _ (sum : List ℕ → ℕ) (size : ℕ) (device : DeviceView) (H : Histor
     -- Reading.
 
     around : (o : LogView) (at : ℕ) (bs : List BufferAt) → (read_around size o at bs).tickets ≡ o.tickets
-    around o at bs = by (nat_lt at o.synced) (view_flushed o (spans_without at (sealed_around at o)) (start_around at o) o.fault (ledger_behind size (one_around at bs) (ledger_around at o)) (position_around size at o)) refl where
+    around o at bs = by (nat_lt at o.status.synced) (view_at o (wrote_around size at (ledger_behind size (one_around at bs) (ledger_around at o.status)) o.status)) refl where
       by : (x : Bool) (v : LogView) → v.tickets ≡ o.tickets → (if x then o else v).tickets ≡ o.tickets
       by true v is = refl
       by false v is = is

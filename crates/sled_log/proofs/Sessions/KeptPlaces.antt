@@ -11,7 +11,6 @@ use Rattle.sled_codec.specs.History.{Batch, ChangesPage, History, Message}
 use Rattle.sled_codec.specs.PageTables.{IsTable, entry_of, page_with}
 use Rattle.sled_codec.specs.Snapshots.{Free, Page, Present, Uninitialized, page_of}
 use Rattle.sled_store.specs.Device.{Trace}
-use Rattle.sled_store.specs.SegmentStates.{Machine}
 use Rattle.sled_store.proofs.Histories.TableParts.{from_page}
 use Rattle.sled_log.proofs.Sessions.BegunHeads.{HasOnlyBegun, heads_kept}
 use Rattle.sled_log.proofs.Sessions.PinsTaken.{origin_kept, pinned_log, some_out, unmarked_none}
@@ -19,16 +18,16 @@ use Rattle.sled_core.specs.declared.logger.Log.{Log}
 use Rattle.sled_core.specs.declared.reservation.Guard.{Guard}
 use Rattle.sled_core.specs.declared.reservation.Reservation.{Reservation}
 use Rattle.sled_core.specs.Buffers.{most_open}
-use Rattle.sled_core.specs.Fits.{Awaits, FitsInline, IsUsedUpFor, fault_of, is_moved, machine_at, next_place, open_for, open_places, pins_of, reserved_end, segment_size_of, size_for, target_of, start_of}
+use Rattle.sled_core.specs.Fits.{Awaits, FitsInline, IsUsedUpFor, fault_of, next_place, open_for, open_places, pins_of, reserved_end, segment_size_of, size_for, target_of, start_of}
 use Rattle.sled_core.specs.Keeps.{KeepsSeen, Preserves}
+use Rattle.sled_core.specs.LogStatus.{LogStatus, failing, pinned as pinned_too, reserving_at, status_of}
 use Rattle.sled_core.specs.Manifests.{manifest_page}
 use Rattle.sled_core.specs.Marked.{BeginsMarked}
-use Rattle.sled_core.specs.Positions.{Position, behind_record}
+use Rattle.sled_core.specs.Positions.{Position}
 use Rattle.sled_core.specs.Reading.{IsInline}
 use Rattle.sled_core.specs.Reserves.{StandsBehind}
 use Rattle.sled_core.specs.Running.{IsStored}
 use Rattle.sled_core.specs.Tickets.{own_blob, place_of, pointer_of}
-use Rattle.sled_core.specs.Waiting.{spans}
 use Rattle.sled_core.proofs.PublicLaws.{awaited, awaited_small, fits_reach, noted_pegs, target_above as put_above}
 use Rattle.sled_core.proofs.Reserve.ReserveLemmas.{there_append, there_last}
 use Rattle.sled_log.specs.declared.session.opened.Opened.{Opened}
@@ -42,7 +41,7 @@ use Rattle.sled_log.specs.RunStates.{DeviceView, has_page, is_present, open_mess
 use Rattle.sled_log.specs.TicketSteps.{HasReserved, own_of}
 use Rattle.sled_log.proofs.Sessions.SafeItems.{safe_on}
 use Rattle.sled_log.proofs.Sessions.TicketsSeen.{page_has}
-use Rattle.sled_log.proofs.Sessions.ReservedPlaces.{beside_count, in_reach, machine_seen, reserved_below, start_with_seen, waiting_seen}
+use Rattle.sled_log.proofs.Sessions.ReservedPlaces.{beside_count, in_reach, reserved_below}
 use Rattle.sled_log.proofs.Sessions.MoreTickets.{batch_push, busy_set, open_all, open_push, page_push, push_cases, rising_push}
 
 -- Pages.
@@ -64,10 +63,6 @@ replace_below H pages page place table less below =
     let found = from_page H.messages top page has.message has.there in
     record { message = has.message; there = found.0; of = found.1; replaces = has.replaces; below = All-contains (λ m. m.place < place) H.messages has.message below found.0 }
 
--- the slots behind a reservation: where its record needs a further segment, that has its own
-abbrev pub slots_behind : {D C : Type 0} → Log D C → ℕ → ℕ → Machine
-slots_behind log page n = if is_moved log page n then (target_of log page n).machine else machine_at log
-
 -- A log kept a place for a message whose record has a body of n bytes, with a pin that was taken for it, and kept no failure.
 pub record KeptPlace {D C : Type 0} (trace : D → Trace) (sum : List ℕ → ℕ) (old new : Log D C) (n : ℕ) (m : Message) (reservation : Reservation) : Type 0 where
   pub place : m.place ≡ (target_of old m.page n).place
@@ -76,7 +71,6 @@ pub record KeptPlace {D C : Type 0} (trace : D → Trace) (sum : List ℕ → �
   pub own : own_blob reservation ≡ own_of m
   pub stored : IsStored trace sum new m
   pub behind : StandsBehind sum (pinned_log old) new m.page n
-  pub machine : machine_at new ≡ slots_behind old m.page n
   pub others : (ticket : Reservation) (x : Message) → Awaits old ticket x → Awaits new ticket x
   pub fault : fault_of old ≡ None
   pub sound : fault_of new ≡ None
@@ -133,12 +127,12 @@ module _ {D C : Type 0} (view : D → DeviceView) (sum : List ℕ → ℕ) (old 
   -- what was reserved ends behind that
   grown : reserved_end old.log ≤ reserved_end new.log
   grown =
-      let end = kept.behind.reserved in
+      let end = ap (λ (x : LogStatus). x.reserved) kept.behind.stands.1 in
       let low = reserved_below old.log begun_pages k.tickets k.given_up k.heads sum its.page n inline in
       omega (arith, end, low)
 
   ends_with : reserved_end new.log ≡ its.place + its.size
-  ends_with = kept.behind.reserved ∙ sym (λ i. kept.place i + kept.size i)
+  ends_with = ap (λ (x : LogStatus). x.reserved) kept.behind.stands.1 ∙ sym (λ i. kept.place i + kept.size i)
 
   -- The tickets, where its message may come to the history, or it begins a batch, and where that is noted.
   module _ (joins : its.page ≢ manifest_page → MayJoin k.history its) (begins : its.page ≡ manifest_page → BeginsBatch new.log its)
@@ -165,7 +159,7 @@ module _ {D C : Type 0} (view : D → DeviceView) (sum : List ℕ → ℕ) (old 
 
     new_ticket : IsTicketFor (traces view) sum new k.history (length k.tickets) its
     new_ticket =
-        let end = kept.behind.reserved in
+        let end = ap (λ (x : LogStatus). x.reserved) kept.behind.stands.1 in
         let place = kept.place in
         let long = ends_with in
         record {
@@ -229,7 +223,7 @@ module _ {D C : Type 0} (view : D → DeviceView) (sum : List ℕ → ℕ) (old 
         omega (arith, one, were, long)
 
     opens_with : open_places new.log ≡ open_places old.log ++ its.place ∷ []
-    opens_with = kept.behind.opens ∙ ap (λ p. open_places old.log ++ p ∷ []) (sym kept.place)
+    opens_with = ap (λ (x : LogStatus). x.opens) kept.behind.stands.1 ∙ ap (λ p. open_places old.log ++ p ∷ []) (sym kept.place)
 
     has_tickets : HasTickets (traces view) sum new k.history more.tickets
     has_tickets = record {
@@ -266,12 +260,15 @@ module _ {D C : Type 0} (view : D → DeviceView) (sum : List ℕ → ℕ) (old 
     reserved_step =
         let q : Position = target_of old.log its.page n in
         let both = awaited new.log reservation its kept.ticket in
-        let position = kept.behind.position ∙ ap (behind_record (segment_size_of old.log) q) (sym kept.size) in
-        let waiting = ap spans kept.behind.waiting ∙ waiting_seen old.log begun_pages k.tickets k.given_up k.heads sum its.page n inline in
-        let start = kept.behind.start ∙ start_with_seen old.log begun_pages k.tickets k.given_up k.heads sum its.page n inline in
+        let stands : status_of new.log ≡ failing (fault_of new.log) (reserving_at (segment_size_of old.log) q q.place (size_for old.log its.page n) (status_of (pinned_log old.log))) = kept.behind.stands.1 in
         let fault = kept.sound ∙ sym kept.fault in
-        let machine = kept.machine ∙ machine_seen old.log begun_pages k.tickets k.given_up k.heads sum its.page n inline in
         let pinned = some_out (pins_of old.log) in
+        let status : status_of new.log ≡ pinned_too (reserving_at (segment_size_of old.log) q its.place its.size (status_of old.log)) =
+        stands
+        ∙ (λ i. record (reserving_at (segment_size_of old.log) q (sym kept.place i) (sym kept.size i) (status_of (pinned_log old.log))) {
+          fault = fault i;
+          account = record { mark = old.log.marks.joined; durable = old.log.marks.durable; pinned = pinned i };
+        }) in
         record {
           fault = kept.fault;
           in_reach = in_reach old.log begun_pages k.tickets k.given_up k.heads sum its.page n inline kept.free;
@@ -284,21 +281,11 @@ module _ {D C : Type 0} (view : D → DeviceView) (sum : List ℕ → ℕ) (old 
             acknowledged = k.acknowledged;
             floor = k.floor;
             log = Some (record {
-              position = position i;
-              synced = kept.seen.synced i;
-              noted = kept.seen.noted i;
-              end = ends_with i;
-              waiting = waiting i;
-              start = start i;
+              status = status i;
               begun = length (same.pages i).items;
-              fault = fault i;
-              outstanding = opens_with i;
               tickets = k.tickets ++ Some its ∷ [];
               given_up = k.given_up;
-              heads = heads_at (seen old k.tickets k.given_up k.heads) (start i);
-              pins = kept.seen.pins i;
-              machine = machine i;
-              account = (kept.seen.account ∙ (λ j. record { mark = old.log.marks.joined; durable = old.log.marks.durable; pinned = pinned j })) i;
+              heads = heads_at (seen old k.tickets k.given_up k.heads) (status i).start;
             });
             due = shown_due (same.due i);
           };

@@ -28,6 +28,7 @@ use Rattle.sled_core.specs.Positions.{position_in}
 use Rattle.sled_core.specs.Unmarked.{is_among, without}
 use Rattle.sled_core.specs.Waiting.{last_of, spans, start_in, unwritten}
 use Rattle.sled_core.specs.invariants.Running.{Fits}
+use Rattle.sled_core.specs.LogStatus.{position_over}
 use Rattle.sled_core.proofs.Line.Among.{among_same}
 use Rattle.sled_core.proofs.Line.KeptCalls.{goes_on_quietly}
 use Rattle.sled_log.specs.declared.session.marking.Due.{Due}
@@ -36,13 +37,12 @@ use Rattle.sled_log.specs.declared.session.Phase.TheVariants.{Open}
 use Rattle.sled_log.specs.Made.{IsMade}
 use Rattle.sled_log.specs.Marking.{KeepsBeside, MakesDue, Settles, mark_of, with_due}
 use Rattle.sled_log.specs.RunPhases.{AreUnmarked, HasBatch, HasTickets, IsOpenAt, IsUnmarked, Unstored, seen_log, shown_due, stands, traces}
-use Rattle.sled_log.specs.RunSlots.{position_over}
 use Rattle.sled_log.specs.RunStates.{DeviceView, DueMark, LogView, MarkAt, open_messages, top}
 use Rattle.sled_log.specs.SessionMarks.{marking, slots_by, slots_marked}
 use Rattle.sled_log.proofs.Sessions.BegunHeads.{heads_left, other_same}
 use Rattle.sled_log.proofs.Sessions.SafeItems.{safe_on}
 use Rattle.sled_log.proofs.Sessions.SharedBlobs.{none_shares}
-use Rattle.sled_log.proofs.Sessions.SlotsSeen.{over_seen}
+use Rattle.sled_core.proofs.Line.StatusSeen.{over_seen}
 
 -- What a mark makes of the slots, by its kind.
 
@@ -151,34 +151,38 @@ module _ {D C : Type 0} (old new : Log D C) (beside : KeepsBeside old new) where
 
     abbrev beside_view : Machine → ℕ → LogView
     beside_view m pins = record l {
-      position = position_over (segment_size_of old) l m;
-      pins = pins;
-      machine = m;
-      account = record l.account { pinned = nat_lt 0 pins };
+      status = record l.status {
+        position = position_over (segment_size_of old) l.status m;
+        pins = pins;
+        machine = m;
+        account = record l.status.account { pinned = nat_lt 0 pins };
+      };
     }
 
-    position_now : position_of new ≡ position_over (segment_size_of old) l (machine_at new)
+    position_now : position_of new ≡ position_over (segment_size_of old) l.status (machine_at new)
     position_now =
         (λ i. position_in (size_same i) (last_of (segment_view (beside.segments i).first) (map segment_view (beside.segments i).behind.items)) (machine_at new))
-        ∙ over_seen old begun tickets given_up heads (machine_at new)
+        ∙ over_seen old (machine_at new)
 
     seen_beside : seen_log new begun tickets given_up heads ≡ beside_view (machine_at new) (pins_of new)
     seen_beside i = record {
-      position = position_now i;
-      synced = synced_same i;
-      noted = noted_same i;
-      end = beside.reserved i;
-      waiting = spans (unwritten (line_same i));
-      start = start_in (last_of (segment_view (beside.segments i).first) (map segment_view (beside.segments i).behind.items));
+      status = record {
+        position = position_now i;
+        machine = machine_at new;
+        reserved = beside.reserved i;
+        synced = synced_same i;
+        noted = noted_same i;
+        waiting = spans (unwritten (line_same i));
+        start = start_in (last_of (segment_view (beside.segments i).first) (map segment_view (beside.segments i).behind.items));
+        opens = open_places_along (line_same i);
+        fault = fault_same i;
+        pins = pins_of new;
+        account = record { mark = (beside.marks i).joined; durable = (beside.marks i).durable; pinned = nat_lt 0 (pins_of new) };
+      };
       begun = begun;
-      fault = fault_same i;
-      outstanding = open_places_along (line_same i);
       tickets = tickets;
       given_up = given_up;
       heads = heads;
-      pins = pins_of new;
-      machine = machine_at new;
-      account = record { mark = (beside.marks i).joined; durable = (beside.marks i).durable; pinned = nat_lt 0 (pins_of new) };
     }
 
     -- A mark was made,
@@ -190,7 +194,7 @@ module _ {D C : Type 0} (old new : Log D C) (beside : KeepsBeside old new) where
     pub seen_same : machine_at new ≡ machine_at old → pins_of new ≡ pins_of old → seen_log new begun tickets given_up heads ≡ l
     seen_same made pins =
         seen_beside ∙ (λ i. beside_view (made i) (pins i))
-        ∙ (λ i. record l { position = sym (over_seen old begun tickets given_up heads (machine_at old)) i })
+        ∙ (λ i. record l { status = record l.status { position = sym (over_seen old (machine_at old)) i } })
 
 -- A session whose log is so.
 

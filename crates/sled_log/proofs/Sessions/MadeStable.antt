@@ -16,17 +16,19 @@ use Rattle.sled_core.specs.Fronts.{CameTo}
 use Rattle.sled_core.specs.Ledger.{writings}
 use Rattle.sled_core.specs.Stable.{IsNotReserved, StableAnswers, held_for, stabilizing, target_for}
 use Rattle.sled_core.specs.Waiting.{BufferAt, free_below, spans, unless_held}
+use Rattle.sled_core.specs.LogStatus.{current_span, ledger_below}
+use Rattle.sled_core.specs.Spans.{held_among, spans_below}
 use Rattle.sled_core.proofs.Line.Places.{behind_stable}
 use Rattle.sled_core.proofs.Line.Settles.{stable_up}
 use Rattle.sled_core.proofs.PublicLaws.{first_waits}
 use Rattle.sled_log.specs.declared.session.command.Reply.TheVariants as reply
 use Rattle.sled_log.specs.RunPhases.{seen_log, traces}
-use Rattle.sled_log.specs.RunSlots.{ledger_below}
-use Rattle.sled_log.specs.RunStates.{DeviceView, DueMark, LogView, MarkAt, RunState, current_span, heads_at, held_among, opens, spans_below}
+use Rattle.sled_log.specs.RunStates.{DeviceView, DueMark, LogView, MarkAt, RunState, heads_at}
 use Rattle.sled_log.specs.WriteSteps.{FailsTo, IsKnownPlace, StableStep, holding, written_below}
 use Rattle.sled_log.proofs.Sessions.BegunHeads.{heads_still}
-use Rattle.sled_log.proofs.Sessions.NotedSeen.{target_reserved}
-use Rattle.sled_log.proofs.Sessions.Writing.{AreWhole, StaysPut, fails_to, flush_in, flush_out, holding_seen, if_held, its_buffers, its_writings, keeps_failing, some_reserved, some_stable, why_of, writes_seen}
+use Rattle.sled_core.proofs.Line.StableTargets.{target_reserved}
+use Rattle.sled_core.proofs.Line.StatusSeen.{some_reserved, some_stable}
+use Rattle.sled_log.proofs.Sessions.Writing.{AreWhole, StaysPut, fails_to, flush_in, flush_out, holding_seen, if_held, its_buffers, its_writings, keeps_failing, why_of, writes_seen}
 
 -- A place that is made stable.
 
@@ -55,7 +57,7 @@ module _ {D C : Type 0} (log : Log D C) (sum : List ℕ → ℕ) (begun : ℕ) (
   none_held : (to : ℕ) → to ≤ synced_end log → written_below to (seen_log log begun tickets given_up heads) ≡ []
   none_held to le =
       let l : LogView = seen_log log begun tickets given_up heads in
-      ap (λ (o : Bool). spans_below to (if o then l.waiting ++ current_span l l.position ∷ [] else l.waiting)) (unsealed to le)
+      ap (λ (o : Bool). spans_below to (if o then l.status.waiting ++ current_span l.status l.status.position ∷ [] else l.status.waiting)) (unsealed to le)
       ∙ none_seen to (synced_end log) (current_begin log) (waiting_of log) le (first_waits log)
 
   module _ (place : ℤ) where
@@ -73,21 +75,21 @@ module _ {D C : Type 0} (log : Log D C) (sum : List ℕ → ℕ) (begun : ℕ) (
     target_synced = behind_stable sum log place
 
     pub some_known : IsKnownPlace view_of place → current_begin log < target → 0 < held_len log
-    some_known (inl stable) = some_stable log sum begun tickets given_up heads target (target_synced stable)
-    some_known (inr reserved) = some_reserved log sum begun tickets given_up heads target (target_reserved log place reserved)
+    some_known (inl stable) = some_stable log target (target_synced stable)
+    some_known (inr reserved) = some_reserved log target (target_reserved log place reserved)
 
     -- what makes it stable
     pub stabilizing_seen : stabilizing sum log place ≡ its_writings log sum begun tickets given_up heads target
     stabilizing_seen = by (int_lt place (pos (stable_end log))) refl where
       by : (o : Bool) → int_lt place (pos (stable_end log)) ≡ o → (if o then [] else writing_below sum log target) ≡ its_writings log sum begun tickets given_up heads target
-      by true is = sym (ap (λ (bs : List BufferAt). writings (segment_size_of log) bs (ledger_below target view_of)) (none_below target (target_synced (below_test (stable_end log) is))))
+      by true is = sym (ap (λ (bs : List BufferAt). writings (segment_size_of log) bs (ledger_below target view_of.status)) (none_below target (target_synced (below_test (stable_end log) is))))
       by false is = writes_seen log sum begun tickets given_up heads target
 
     -- and what holds that up
     pub held_seen : (known : IsKnownPlace view_of place) → held_for sum log place ≡ holding target view_of
     held_seen known = by (int_lt place (pos (stable_end log))) refl where
       by : (o : Bool) → int_lt place (pos (stable_end log)) ≡ o → (if o then None else holding_below sum log target) ≡ holding target view_of
-      by true is = sym (ap (held_among (opens view_of)) (none_held target (target_synced (below_test (stable_end log) is))))
+      by true is = sym (ap (held_among (view_of.status.opens)) (none_held target (target_synced (below_test (stable_end log) is))))
       by false is = holding_seen log sum begun tickets given_up heads target (some_known known)
 
 -- A call that makes a place stable, and failed: it wasn't reserved, or the log kept a failure, and nothing was done; or it was reserved.

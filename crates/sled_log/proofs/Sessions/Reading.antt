@@ -24,7 +24,7 @@ use Rattle.sled_store.specs.Device.{Event, Trace}
 use Rattle.sled_store.specs.Script.{Performs, after_all}
 use Rattle.sled_store.specs.SegmentStates.{Machine}
 use Rattle.sled_store.proofs.Segments.TableEntries.{from_table}
-use Rattle.sled_log.proofs.Sessions.BegunHeads.{heads_kept, begun_with, only_begun}
+use Rattle.sled_log.proofs.Sessions.BegunHeads.{begun_with, heads_kept, heads_still, only_begun}
 use Rattle.sled_core.specs.Account.{account_behind, account_of}
 use Rattle.sled_core.specs.Causes.{IsFault, IsFaultAt, IsHeld, OnDone}
 use Rattle.sled_core.specs.Reading.{GivesMessage, IsInline}
@@ -32,45 +32,39 @@ use Rattle.sled_core.specs.ReadPointer.{GivesBlobOrWaits, IsKeptBlob, place_read
 use Rattle.sled_core.specs.declared.logger.read_message.LogRead.{LogRead}
 use Rattle.sled_core.specs.declared.logger.Log.{Log}
 use Rattle.sled_core.specs.Begun.{segment_view}
-use Rattle.sled_core.specs.Fits.{HasRecordOf, buffers_of, current_begin, current_of, device_of, fault_of, held_len, ledger_of, ledger_sealed, machine_at, next_place, position_with, reserved_end, segment_size_of, start_of, synced_end, waiting_of}
+use Rattle.sled_core.specs.Fits.{HasRecordOf, buffers_of, current_begin, current_of, device_of, fault_of, held_len, machine_at, next_place, reserved_end, segment_size_of, start_of, synced_end, waiting_of}
 use Rattle.sled_core.specs.Freeing.{Ledger}
-use Rattle.sled_core.specs.Keeps.{KeepsWriting, SamePlace, start_sealed}
+use Rattle.sled_core.specs.Keeps.{KeepsWriting, SamePlace}
 use Rattle.sled_core.specs.Ledger.{ledger_behind, writings}
 use Rattle.sled_core.specs.OpenPlaces.{first_between}
 use Rattle.sled_core.specs.Fronts.{CameAround, synced_writes}
 use Rattle.sled_core.specs.Positions.{Position}
-use Rattle.sled_core.specs.ReadBuffer.{IsUsedUpAt, LeavesSealed, ReadAnswers, Settles, WritesAround, held_at, ledger_at, position_at, sealed_at, settling, start_at}
-use Rattle.sled_core.specs.Waiting.{BufferAt, BufferStart, HasLength, Span, free_around, has_place, held_around, one_around, span_of, spans, unless_held, without_around}
+use Rattle.sled_core.specs.ReadBuffer.{IsUsedUpAt, LeavesSealed, ReadAnswers, Settles, WritesAround, held_at, ledger_at, sealed_at, settling, ledger_written}
+use Rattle.sled_core.specs.Waiting.{BufferAt, BufferStart, HasLength, Span, free_around, has_place, held_around, one_around, span_of, spans, unless_held}
 use Rattle.sled_core.proofs.Holds.BufferEnds.{written_behind}
 use Rattle.sled_core.proofs.Line.KeptCalls.{writing_further, writing_still}
 use Rattle.sled_core.proofs.Line.Entered.{filled_last}
 use Rattle.sled_core.proofs.Holds.Facts.{current_facts}
 use Rattle.sled_core.specs.WholeBuffers.{IsWholeBuffer}
+use Rattle.sled_core.specs.LogStatus.{LogStatus, failing, ledger_around, ledger_in, ledger_sealed_in, position_around, seal_around, sealed_around, start_around, status_of, wrote_around}
+use Rattle.sled_core.specs.Spans.{held}
 use Rattle.sled_core.proofs.Line.Shows.{buffers_add}
-use Rattle.sled_core.proofs.PublicLaws.{fits_reach, ledger_account, place_back, record_of_entry, reserved_small, shows_current, shows_empty, shows_long}
+use Rattle.sled_core.proofs.PublicLaws.{fits_reach, ledger_account, place_back, record_of_entry, reserved_small, shows_empty, shows_long}
 use Rattle.sled_log.proofs.Sessions.MadeHistories.{of_page_same}
 use Rattle.sled_log.proofs.Sessions.MadePages.{page_present}
 use Rattle.sled_log.specs.Made.{HasBlobIn, IsMade}
 use Rattle.sled_log.specs.declared.session.Phase.TheVariants.{Open}
 use Rattle.sled_log.specs.declared.session.opened.Opened.{Opened}
-use Rattle.sled_log.proofs.Sessions.SlotsSeen.{around_seen, ledger_around_seen, over_seen, step_failed}
-use Rattle.sled_log.proofs.Sessions.Writing.{AreWhole, IsHeldBy, StaysPut, all_held, due_none, flush_in, flush_out, if_held, kept_with, left_alone, leaves as leaves_log, next_start_seen, over, put_writing, sealed_too, span_seen, still_with, whole_seen}
+use Rattle.sled_core.proofs.Line.StatusSeen.{IsHeldBy, all_held, ledger_around_seen, sealed_around_seen, sealed_too}
+use Rattle.sled_log.proofs.Sessions.FailedSteps.{step_failed}
+use Rattle.sled_log.proofs.Sessions.Writing.{AreWhole, StaysPut, due_none, flush_in, flush_out, if_held, kept_with, over, put_writing, still_with, whole_seen, stands_left}
 use Rattle.sled_log.specs.Readings.{IsOfPage, IsRead, ReadsEntries, ReadsItem, page_told}
 use Rattle.sled_log.specs.RunPhases.{IsOpenAt, Unstored, seen, seen_log, stands, traces, HasHeads}
-use Rattle.sled_log.specs.RunStates.{DeviceView, EndsInReach, LogView, RunState, current_span, held, is_present, next_start, opens, page_now, sealed_around, spans_without, start_around, top, with_log, MarkAt, heads_at}
-use Rattle.sled_log.specs.RunSlots.{ledger_around, position_around, position_over}
+use Rattle.sled_log.specs.RunStates.{DeviceView, EndsInReach, LogView, MarkAt, RunState, heads_at, is_present, page_now, top, view_at, with_log}
 use Rattle.sled_log.specs.ReadSteps.{FailsAt, ReadStep, ReadsAll, ReadsAt, chosen_around, held_around_place, holding_read, read_around, read_at}
-use Rattle.sled_log.specs.WriteSteps.{IfHeld, IsWhy, ShowsBuffers, WritesSome, view_flushed, headed, fillings_seen}
+use Rattle.sled_log.specs.WriteSteps.{IfHeld, IsWhy, ShowsBuffers, WritesSome, headed, fillings_seen}
 
 -- Buffers that have a place.
-
--- those without the one that has it, as they are seen
-without_seen : (at : ℕ) (bs : List BufferAt) → spans (without_around at bs) ≡ spans_without at (spans bs)
-without_seen at [] = refl
-without_seen at (b ∷ bs) = by (without_seen at bs) (has_place at b) where
-  by : spans (without_around at bs) ≡ spans_without at (spans bs) → (o : Bool) → spans (if o then bs else b ∷ without_around at bs) ≡ (if o then spans bs else span_of b ∷ spans_without at (spans bs))
-  by rest true = refl
-  by rest false = ap (λ (ss : List Span). span_of b ∷ ss) rest
 
 -- what holds that one up
 held_seen : (places : List ℕ) (at : ℕ) (bs : List BufferAt) → All (IsHeldBy places) bs → held_around at bs ≡ held_around_place places at (spans bs)
@@ -117,38 +111,25 @@ module _ {D C : Type 0} (log : Log D C) (sum : List ℕ → ℕ) (at begun : ℕ
 
   -- The sealed buffers and where the current one begins, once that of the place is sealed.
 
-  are_seen : spans (sealed_at sum at log) ≡ sealed_around at l
-  are_seen = by (nat_le (current_begin log) at) refl where
-    by : (o : Bool) → nat_le (current_begin log) at ≡ o
-        → spans (if o then buffers_of sum log else waiting_of log) ≡ (if o then spans (waiting_of log) ++ current_span l l.position ∷ [] else spans (waiting_of log))
-    by true is = shows_current sum log (some_held (grind (arith, nat_tests, is))) ∙ ap (λ (s : Span). spans (waiting_of log) ++ s ∷ []) (span_seen log sum begun k.tickets k.given_up k.heads)
-    by false is = refl
+  are_seen : spans (sealed_at sum at log) ≡ sealed_around at l.status
+  are_seen = sealed_around_seen log sum at some_held
 
   of_all : (P : BufferAt → Type 0) → All P (buffers_of sum log) → All P (sealed_at sum at log)
   of_all P all = by (nat_le (current_begin log) at) where
     by : (o : Bool) → All P (if o then buffers_of sum log else waiting_of log)
     by true = all
-    by false = sealed_too log sum begun k.tickets k.given_up k.heads P all
+    by false = sealed_too log sum P all
 
-  are_held : All (IsHeldBy (opens l)) (sealed_at sum at log)
-  are_held = of_all (IsHeldBy (opens l)) (all_held log sum begun k.tickets k.given_up k.heads)
+  are_held : All (IsHeldBy l.status.opens) (sealed_at sum at log)
+  are_held = of_all (IsHeldBy l.status.opens) (all_held log sum)
 
-  shows : AreWhole sum log k.given_up k.heads → ShowsBuffers sum (segment_size_of log) l (sealed_around at l) (sealed_at sum at log)
+  shows : AreWhole sum log k.given_up k.heads → ShowsBuffers sum (segment_size_of log) l (sealed_around at l.status) (sealed_at sum at log)
   shows whole = record {
     are = are_seen;
     long = of_all HasLength (shows_long sum log);
     held = are_held;
     whole = of_all (λ b. b.held ≡ None → IsWholeBuffer sum (segment_size_of log) k.given_up (map (headed sum) k.heads) (fillings_seen l) b) (whole_seen log sum begun k.tickets k.given_up k.heads whole);
   }
-
-  start_seen : start_at at log ≡ start_around at l
-  start_seen = by (nat_le (current_begin log) at) where
-    by : (o : Bool) → (if o then start_sealed log else start_of log) ≡ (if o then next_start l l.position else start_of log)
-    by true = next_start_seen log sum begun k.tickets k.given_up k.heads
-    by false = refl
-
-  without_around_seen : spans (without_around at (sealed_at sum at log)) ≡ spans_without at (sealed_around at l)
-  without_around_seen = without_seen at (sealed_at sum at log) ∙ ap (spans_without at) are_seen
 
   -- the one behind them doesn't have the place
   module _ {T : Type 0} (f : List BufferAt → T) (front : (bs : List BufferAt) (b : BufferAt) → at < b.place → f (bs ++ b ∷ []) ≡ f bs) where
@@ -164,21 +145,21 @@ module _ {D C : Type 0} (log : Log D C) (sum : List ℕ → ℕ) (at begun : ℕ
         | inr none ↦ ap f (shows_empty sum log (omega (arith, none)))
       ]
 
-  calls_seen : settling sum log (pos at) ≡ writings (segment_size_of log) (chosen_around l at (sealed_at sum at log)) (ledger_around at l)
-  calls_seen = by (nat_lt at l.synced) where
+  calls_seen : settling sum log (pos at) ≡ writings (segment_size_of log) (chosen_around l at (sealed_at sum at log)) (ledger_around at l.status)
+  calls_seen = by (nat_lt at l.status.synced) where
     by : (o : Bool) → (if o then [] else writings (segment_size_of log) (free_around at (buffers_of sum log)) (ledger_at at log))
-        ≡ writings (segment_size_of log) (if o then [] else free_around at (sealed_at sum at log)) (ledger_around at l)
+        ≡ writings (segment_size_of log) (if o then [] else free_around at (sealed_at sum at log)) (ledger_around at l.status)
     by true = refl
     by false = ap (λ (bs : List BufferAt). writings (segment_size_of log) bs (ledger_at at log)) (of_sealed (free_around at) (free_front at))
 
   holding_seen : held_at sum log (pos at) ≡ holding_read l at
-  holding_seen = ap (λ (o : Option ℕ). if nat_lt at l.synced then None else o)
-      (of_sealed (held_around at) (around_front at) ∙ held_seen (opens l) at (sealed_at sum at log) are_held ∙ ap (held_around_place (opens l) at) are_seen)
+  holding_seen = ap (λ (o : Option ℕ). if nat_lt at l.status.synced then None else o)
+      (of_sealed (held_around at) (around_front at) ∙ held_seen l.status.opens at (sealed_at sum at log) are_held ∙ ap (held_around_place l.status.opens at) are_seen)
 
   -- what is sealed brings no mark to the device
-  marks_seen : (ledger_at at log).account ≡ account_of log
+  marks_seen : (ledger_around at l.status).account ≡ account_of log
   marks_seen = by (nat_le (current_begin log) at) where
-    by : (o : Bool) → (if o then ledger_sealed log else ledger_of log).account ≡ account_of log
+    by : (o : Bool) → (if o then ledger_sealed_in l.status else ledger_in l.status).account ≡ account_of log
     by true = refl
     by false = refl
 
@@ -244,20 +225,14 @@ module _ {D C : Type 0} (view : D → DeviceView) (sum : List ℕ → ℕ) (old 
   put : StaysPut (traces view) sum old new
   put = put_writing (traces view) sum old new keeps
 
-  -- these buffers are left, with these slots and marks
-  leaves : (waiting : List Span) (start : BufferStart) (fault : Option IoError) (ledger : Ledger) (position : Machine → Position) → spans (waiting_of new) ≡ waiting → start_of new ≡ start → fault_of new ≡ fault
-      → ledger_of new ≡ ledger → ((m : Machine) → position_with new m ≡ position m) → after ≡ view_flushed before waiting start fault ledger position
-  leaves waiting start fault ledger position left first kept slots begins =
+  -- where it stands then
+  leaves : (s : LogStatus) → status_of new ≡ s → after ≡ view_at before s
+  leaves s is =
       ap (log_or before)
-      (leaves_log old sum begun k.tickets k.given_up k.heads (traces view) new old_view new_view k.history k.acknowledged k.floor None put
-      k.acknowledged waiting start fault ledger position left first kept slots (begins (machine_at new)))
-
-  -- where the next record may begin, once the buffer of the place is sealed
-  begins_seen : ((m : Machine) → position_with new m ≡ position_at at old m) → (m : Machine) → position_with new m ≡ position_around (segment_size_of old) at before m
-  begins_seen is m = is m ∙ around_seen old begun k.tickets k.given_up k.heads at m
+      (stands_left old sum begun k.tickets k.given_up k.heads (traces view) new old_view new_view k.history k.acknowledged k.floor None put k.acknowledged s is)
 
   -- the calls that bring its place to the device
-  settling_seen : settling sum old (place_read (pos m.place) m.pointer) ≡ writings (segment_size_of old) (chosen_around before at (sealed_at sum at old)) (ledger_around at before)
+  settling_seen : settling sum old (place_read (pos m.place) m.pointer) ≡ writings (segment_size_of old) (chosen_around before at (sealed_at sum at old)) (ledger_around at before.status)
   settling_seen = ap (settling sum old) of.read ∙ calls_seen old sum at begun k of.read_below
 
   -- It failed, where the log kept no failure.
@@ -265,7 +240,7 @@ module _ {D C : Type 0} (view : D → DeviceView) (sum : List ℕ → ℕ) (old 
   why_at : (blobs : ℤ → Option (List ℕ)) (e : Error)
       → ReadAnswers {T = LogRead} sum blobs m.pointer (Err e) (pos at) (synced_end old) (reserved_end old) (held_at sum old (pos at)) (IsUsedUpAt old (pos at)) (fault_of old) (fault_of new) old_view.failures new_view.failures
       → IsWhole m.pointer m (fault_of old) e → fault_of old ≡ None
-      → IsWhy e (holding_read before at) ((current_begin old ≤ at) × (EndsInReach (segment_size_of old) before.position → ⊥)) (fault_of new) old_view.failures new_view.failures
+      → IsWhy e (holding_read before at) ((current_begin old ≤ at) × (EndsInReach (segment_size_of old) before.status.position → ⊥)) (fault_of new) old_view.failures new_view.failures
   why_at blobs (error.Io x) answers whole none = elim (not_missed blobs m.pointer m x _ (fault_of old) (fault_of new) old_view.failures new_view.failures whole answers) [
     | inl kept ↦ absurd (let bad : None ≡ Some x = sym none ∙ kept.0 in cc)
     | inr failed ↦ (failed.1, failed.3, failed.2)
@@ -300,10 +275,10 @@ module _ {D C : Type 0} (view : D → DeviceView) (sum : List ℕ → ℕ) (old 
   failed_at blobs e seals made came answers whole none done a =
       let seen_so = shows old sum at begun k of.read_below (records none) in
       let size : ℕ = segment_size_of old in
-      let ss : List Span = sealed_around at before in
-      let start : BufferStart = start_around at before in
-      let position : Machine → Position = position_around size at before in
-      let from : Ledger = ledger_around at before in
+      let ss : List Span = sealed_around at before.status in
+      let start : BufferStart = start_around at before.status in
+      let position : Machine → Position = position_around size at before.status in
+      let from : Ledger = ledger_around at before.status in
       let some : (count : ℕ) → synced_writes new_view.trace ≡ count + synced_writes old_view.trace
       → (fault_of new ≡ None → new_view.trace ≡ after_all (writings size (take count (chosen_around before at (sealed_at sum at old))) from) old_view.trace)
       → WritesSome sum size before ss (chosen_around before at) from count e (fault_of new) old_view new_view =
@@ -316,12 +291,9 @@ module _ {D C : Type 0} (view : D → DeviceView) (sum : List ℕ → ℕ) (old 
         held = if_held LogRead e _ _ (λ all. all ∙ ap (λ (es : List Event). after_all es old_view.trace) settling_seen) done;
       } in
       let over_it : LogView → RunState = λ x. with_log a new_view (Some x) in
-      let started : start_of new ≡ start_at at old → start_of new ≡ start = λ is. is ∙ start_seen old sum at begun k of.read_below in
-      let left : waiting_of new ≡ without_around at (sealed_at sum at old) → spans (waiting_of new) ≡ spans_without at ss =
-      λ is. ap spans is ∙ without_around_seen old sum at begun k of.read_below in
       let unheld : held_at sum old (pos at) ≡ None → holding_read before at ≡ None = λ free. sym (holding_seen old sum at begun k of.read_below) ∙ free in
-      let leaves_sealed : LeavesSealed sum at old new → with_log a new_view (Some after) ≡ with_log a new_view (Some (view_flushed before ss start (fault_of new) from position)) =
-      λ sealed. ap over_it (leaves ss start (fault_of new) from position (ap spans sealed.0 ∙ seen_so.are) (started sealed.1) refl sealed.2 (begins_seen sealed.3)) in
+      let leaves_sealed : LeavesSealed sum at old new → with_log a new_view (Some after) ≡ with_log a new_view (Some (view_at before (failing (fault_of new) (seal_around size at before.status)))) =
+      λ sealed. ap over_it (leaves _ sealed.1) in
       record {
         sound = none;
         fault = fault_of new;
@@ -332,8 +304,7 @@ module _ {D C : Type 0} (view : D → DeviceView) (sum : List ℕ → ℕ) (old 
             elim (was_sealed e seals) [
               | inl free ↦ inl (
                 free,
-                ap over_it (leaves (spans (waiting_of old)) (start_of old) (fault_of new) (ledger_of old) (position_over size before) (ap spans same.0.0) same.0.1 refl same.0.2
-                    (λ slots. same.0.3 slots ∙ over_seen old begun k.tickets k.given_up k.heads slots)),
+                ap over_it (leaves _ same.0.1),
                 λ above. same.2 (omega (arith, ints, above)) ∙ none,
               )
               | inr sealed ↦ inr (leaves_sealed sealed)
@@ -347,18 +318,16 @@ module _ {D C : Type 0} (view : D → DeviceView) (sum : List ℕ → ℕ) (old 
               shown = seen_so;
               made = written.1 ∙ ap (λ (es : List Event). after_all es old_view.trace) (calls_seen old sum at begun k of.read_below);
             },
-            ap over_it (leaves (spans_without at ss) start (fault_of new) (ledger_behind size (one_around at (sealed_at sum at old)) from) position
-                (left written.0.0) (started written.0.1) refl written.0.2 (begins_seen written.0.3)),
+            ap over_it (leaves _ written.0.1),
           ))
-          | inr (inr (inr failing)) ↦ inr (inr (
-            unheld failing.1,
-            some 1 (let more = failing.2 in omega (arith, more)) (λ sound. absurd (let bad : None ≡ Some failing.0.4.fault = sym sound ∙ failing.0.4.kept in cc)),
+          | inr (inr (inr step)) ↦ inr (inr (
+            unheld step.1,
+            some 1 (let more = step.2 in omega (arith, more)) (λ sound. absurd (let bad : None ≡ Some step.0.0.fault = sym sound ∙ step.0.0.kept in cc)),
             account_of new,
-            failing.0.2 ∙ ledger_account size (one_around at (sealed_at sum at old)) (ledger_at at old) ∙ ap (account_behind (one_around at (sealed_at sum at old))) (marks_seen old sum at begun k of.read_below),
+            step.0.2 ∙ ledger_account size (one_around at (sealed_at sum at old)) from ∙ ap (account_behind (one_around at (sealed_at sum at old))) (marks_seen old sum at begun k of.read_below),
             machine_at new,
-            step_failed old begun k.tickets k.given_up k.heads (traces view) new (ledger_at at old).machine from.machine new_view.trace (ap (λ (x : Ledger). x.machine) (ledger_around_seen old begun k.tickets k.given_up k.heads at)) keeps.position.size refl failing.0.4 failing.3,
-            ap over_it (leaves (spans_without at ss) start (fault_of new) (record { machine = machine_at new; account = account_of new }) position
-                (left failing.0.0) (started failing.0.1) refl refl (begins_seen failing.0.3)),
+            step_failed old begun k.tickets k.given_up k.heads (traces view) new (ledger_at at old).machine from.machine new_view.trace (ap (λ (x : Ledger). x.machine) (ledger_around_seen old at)) keeps.position.size refl step.0.0 step.3,
+            ap over_it (leaves _ step.0.1.1),
           ))
         ];
       }
@@ -389,19 +358,16 @@ module _ {D C : Type 0} (view : D → DeviceView) (sum : List ℕ → ℕ) (old 
   around : {T : Type 0} (r : T) → WritesAround sum (Ok r) (pos at) old new → fault_of new ≡ fault_of old → after ≡ read_around (segment_size_of old) before at (sealed_at sum at old)
   around r writes kept = by (nat_lt at (synced_end old)) refl where
     by : (o : Bool) → nat_lt at (synced_end old) ≡ o
-        → after ≡ (if o then before else view_flushed before (spans_without at (sealed_around at before)) (start_around at before) (fault_of old)
-        (ledger_behind (segment_size_of old) (one_around at (sealed_at sum at old)) (ledger_around at before)) (position_around (segment_size_of old) at before))
+        → after ≡ (if o then before else view_at before (wrote_around (segment_size_of old) at (ledger_written sum at old) (status_of old)))
     by true below =
         let low = writes.still (grind (arith, ints, nat_tests, below)) in
-        ap (log_or before)
-        (left_alone old sum begun k.tickets k.given_up k.heads (traces view) new old_view new_view k.history k.acknowledged k.floor None put low.0 low.1 kept low.2 low.3)
+        leaves (status_of old) (low.1 ∙ ap (λ (f : Option IoError). failing f (status_of old)) kept)
+        ∙ ap (λ (hs : List MarkAt). record before { heads = hs }) (heads_still before)
     by false beyond =
         let high = writes.written (grind (arith, ints, nat_tests, beyond)) in
-        leaves (spans_without at (sealed_around at before)) (start_around at before) (fault_of old)
-        (ledger_behind (segment_size_of old) (one_around at (sealed_at sum at old)) (ledger_around at before)) (position_around (segment_size_of old) at before)
-        (ap spans high.0 ∙ without_around_seen old sum at begun k of.read_below) (high.1 ∙ start_seen old sum at begun k of.read_below) kept high.2 (begins_seen high.3)
+        leaves _ (high.1 ∙ ap (λ (f : Option IoError). failing f (wrote_around (segment_size_of old) at (ledger_written sum at old) (status_of old))) kept)
 
-  pub was_read : (blobs : ℤ → Option (List ℕ)) (r : LogRead) (z : ℤ) (p : DiskPtr) → pos m.place ≡ z → m.pointer ≡ p → Told blobs (Ok r) z p → (before.fault ≡ None) × (reads : ReadsAt sum (segment_size_of old) before at old_view new_view) × (after ≡ read_around (segment_size_of old) before at reads.writes.buffers)
+  pub was_read : (blobs : ℤ → Option (List ℕ)) (r : LogRead) (z : ℤ) (p : DiskPtr) → pos m.place ≡ z → m.pointer ≡ p → Told blobs (Ok r) z p → (before.status.fault ≡ None) × (reads : ReadsAt sum (segment_size_of old) before at old_view new_view) × (after ≡ read_around (segment_size_of old) before at reads.writes.buffers)
   was_read blobs r z p here points told =
       let own = told_own blobs (Ok r) z p here points told in
       let answers = own.1.1 in (
@@ -429,8 +395,8 @@ reads_more sum size [] m l end old mid new is more = (
     free = subst (λ (x : LogView). holding_read x (read_at m) ≡ None) is.2 more.free;
     writes = record {
       buffers = more.writes.buffers;
-      shown = subst (λ (x : LogView). ShowsBuffers sum size x (sealed_around (read_at m) x) more.writes.buffers) is.2 more.writes.shown;
-      made = more.writes.made ∙ (λ i. after_all (writings size (chosen_around (is.2 i) (read_at m) more.writes.buffers) (ledger_around (read_at m) (is.2 i))) (is.0 i));
+      shown = subst (λ (x : LogView). ShowsBuffers sum size x (sealed_around (read_at m) x.status) more.writes.buffers) is.2 more.writes.shown;
+      made = more.writes.made ∙ (λ i. after_all (writings size (chosen_around (is.2 i) (read_at m) more.writes.buffers) (ledger_around (read_at m) (is.2 i).status)) (is.0 i));
     };
     failures = more.failures ∙ is.1;
   },
@@ -455,7 +421,7 @@ pub record AreRead (sum : List ℕ → ℕ) (size : ℕ) (l : LogView) (ms : Lis
   pub entries : map entry_of left ≡ rest
   pub reads : ReadsAll sum size l done old now l'
   pub items_are : map (λ v. v.items) items ≡ map (λ m. m.bytes) done
-  pub sound : l'.fault ≡ None
+  pub sound : l'.status.fault ≡ None
 
 -- So many of a page's entries are read.
 pub record HasReadSome {D C : Type 0} (view : D → DeviceView) (sum : List ℕ → ℕ) (old : Log D C) (page : ℕ) (entries : List Entry) (now : Log D C) (items : List (Vec ℕ Global)) (rest : List Entry) : Type 0 where
@@ -471,10 +437,9 @@ first_there [] present = cc
 first_there (m ∷ ms) present = (m, ms, refl)
 
 -- a read keeps what failure is kept
-fault_around : (size : ℕ) (l : LogView) (at : ℕ) (bs : List BufferAt) → (read_around size l at bs).fault ≡ l.fault
-fault_around size l at bs = by (nat_lt at l.synced) where
-  by : (o : Bool) → (if o then l else view_flushed l (spans_without at (sealed_around at l)) (start_around at l) l.fault (ledger_behind size (one_around at bs) (ledger_around at l))
-      (position_around size at l)).fault ≡ l.fault
+fault_around : (size : ℕ) (l : LogView) (at : ℕ) (bs : List BufferAt) → (read_around size l at bs).status.fault ≡ l.status.fault
+fault_around size l at bs = by (nat_lt at l.status.synced) where
+  by : (o : Bool) → (if o then l else view_at l (wrote_around size at (ledger_behind size (one_around at bs) (ledger_around at l.status)) l.status)).status.fault ≡ l.status.fault
   by true = refl
   by false = refl
 
@@ -563,7 +528,7 @@ module _ {D C : Type 0} (view : D → DeviceView) (sum : List ℕ → ℕ) (old 
               reads = subst (λ (x : LogView). ReadsAll sum (segment_size_of old) l (came.done ++ one.message ∷ []) (view (device_of old)) (view (device_of new)) x) (sym so_read.1)
                   (reads_more sum (segment_size_of old) came.done one.message l now (view (device_of old)) (view (device_of mid)) (view (device_of new)) came.reads so_read.0);
               items_are = map-append (λ (v : Vec ℕ Global). v.items) items (item ∷ []) ∙ (λ i. came.items_are i ++ got.0 i ∷ []) ∙ sym (map-append (λ (m : Message). m.bytes) came.done (one.message ∷ []));
-              sound = ap (λ (x : LogView). x.fault) so_read.1 ∙ fault_around (segment_size_of old) now (read_at one.message) so_read.0.writes.buffers ∙ came.sound;
+              sound = ap (λ (x : LogView). x.status.fault) so_read.1 ∙ fault_around (segment_size_of old) now (read_at one.message) so_read.0.writes.buffers ∙ came.sound;
             },
           );
     }

@@ -28,11 +28,12 @@ use Rattle.sled_core.specs.declared.reservation.Guard.{Guard}
 use Rattle.sled_core.specs.declared.reservation.Reservation.{Reservation}
 use Rattle.sled_core.specs.Buffers.{pointer_as}
 use Rattle.sled_core.specs.Causes.{FaultOrMemory}
-use Rattle.sled_core.specs.Fits.{Awaits, AwaitsIn, FitsInline, IsUnchanged, blob_at, body_length, config_of, device_of, fault_of, given_up_of, in_blob, in_blob_of, machine_at, message_for, noted_in, open_places, pins_of, reserved_end, segment_size_of, target_of, start_of}
+use Rattle.sled_core.specs.Fits.{Awaits, AwaitsIn, FitsInline, IsUnchanged, blob_at, body_length, config_of, device_of, fault_of, given_up_of, in_blob, in_blob_of, message_for, noted_in, open_places, pins_of, reserved_end, segment_size_of, target_of, start_of}
 use Rattle.sled_core.specs.Among.{AreAmong}
 use Rattle.sled_core.specs.GivenUp.{given_up_along}
 use Rattle.sled_core.specs.Keeps.{ConfigKept, GoesOn, IsUnchangedOver, KeepsLog, KeepsSeen, Preserves}
 use Rattle.sled_core.specs.Logged.{in_log}
+use Rattle.sled_core.specs.LogStatus.{LogStatus}
 use Rattle.sled_core.specs.Manifests.{kind_for, manifest_page}
 use Rattle.sled_core.specs.Marked.{BeginsMarked}
 use Rattle.sled_core.specs.OpenPlaces.{open_places_along}
@@ -57,8 +58,8 @@ use Rattle.sled_log.specs.RunStates.{DeviceView, LogView, RunState, has_page, op
 use Rattle.sled_log.specs.Runs.{StaysRecoverable}
 use Rattle.sled_log.specs.TicketActs.{BlobActs, ReserveActs, making_for}
 use Rattle.sled_log.specs.TicketSteps.{HasRecordPlace, RefusedStep, ReserveStep, own_in}
-use Rattle.sled_log.proofs.Sessions.KeptPlaces.{HasHeld, KeptPlace, held_manifest, held_message, over_log, slots_behind, with_ticket}
-use Rattle.sled_log.proofs.Sessions.ReservedPlaces.{beside_count, beside_least, body_fits, in_reach, machine_seen, out_of_reach, start_with_seen, waiting_seen}
+use Rattle.sled_log.proofs.Sessions.KeptPlaces.{HasHeld, KeptPlace, held_manifest, held_message, over_log, with_ticket}
+use Rattle.sled_log.proofs.Sessions.ReservedPlaces.{beside_count, beside_least, body_fits, in_reach, out_of_reach}
 use Rattle.sled_log.proofs.Sessions.PinsTaken.{IsMadeWithPin, back_account, back_fits, back_on, back_pins, origin_kept, out_for, pinned_log, unmarked_kept, unmarked_none, unpinned_log}
 use Rattle.sled_log.proofs.Sessions.SafeItems.{safe_on}
 use Rattle.sled_log.proofs.Sessions.Within.{going_on, untouched}
@@ -107,7 +108,7 @@ blob_same es fault old new error.OutOfMemory same = (ap (λ (d : DeviceView). d.
 blob_same es fault old new _ same = same
 
 pub acts_same : (sum : List ℕ → ℕ) (size : ℕ) (l : LogView) (kind : LogKind) (page : ℕ) (bytes : List ℕ) (old new : DeviceView) (e : Error) → new ≡ old → ReserveActs sum size l kind page bytes old (reply.Failed e) new
-acts_same sum size l kind page bytes old new e same = either (in_blob size (length bytes)) _ _ (λ goes. blob_same _ l.fault old new e same) (λ stays. same)
+acts_same sum size l kind page bytes old new e same = either (in_blob size (length bytes)) _ _ (λ goes. blob_same _ l.status.fault old new e same) (λ stays. same)
 
 -- what holds of the calls that make a blob for a kind that is there
 making_by : (P : List Event → Type 0) (sum : List ℕ → ℕ) (kind : Option MessageKind) (place : ℤ) (bytes : List ℕ) → IsSome kind
@@ -180,16 +181,14 @@ own_here true place lid = sym (ap (λ (o : Bool). if o then Some (pos place) els
 pub kept_place : {D C : Type 0} (trace : D → Trace) (faults : D → ℕ) (sum : List ℕ → ℕ) (old new : Log D C) (kind : LogKind) (page : ℕ) (bytes : List ℕ) (reservation : Reservation)
     → Preserves trace sum old (pinned_log old)
     → ReservesAs trace faults sum (Ok reservation) kind page bytes (in_blob_of old (length bytes)) (body_length old (length bytes)) (pinned_log old) new
-    → machine_at new ≡ slots_behind old page (body_length old (length bytes))
     → KeptPlace trace sum old new (body_length old (length bytes)) (message_for old kind page bytes) reservation
-kept_place trace faults sum old new kind page bytes reservation pin came machine = record {
+kept_place trace faults sum old new kind page bytes reservation pin came = record {
   place = refl;
   size = refl;
   ticket = came.ticket;
   own = came.own ∙ own_here (in_blob_of old (length bytes)) (target_of old page (body_length old (length bytes))).place (lid_at (target_of old page (body_length old (length bytes))));
   stored = came.stored;
   behind = came.behind;
-  machine = machine;
   others = came.others;
   fault = came.answers.0.0;
   sound = came.answers.0.1;
@@ -210,7 +209,6 @@ own_blob log H kind page bytes = by (in_blob_of log (length bytes)) where
 module _ {D C : Type 0} (view : D → DeviceView) (sum : List ℕ → ℕ) (old new : Opened D C) (log : Log D C) (kind : LogKind) (page : ℕ) (bytes : List ℕ) (reservation : Reservation) (guard : Guard) (result : Reply) (k : Unstored)
     (pin : Preserves (traces view) sum old.log (pinned_log old.log))
     (came : ReservesAs (traces view) (counts view) sum (Ok reservation) kind page bytes (in_blob_of old.log (length bytes)) (body_length old.log (length bytes)) (pinned_log old.log) log)
-    (machine : machine_at log ≡ slots_behind old.log page (body_length old.log (length bytes)))
     (holds : HoldsTicket (over_log old log) new kind page reservation guard result) (none : old.due ≡ None) (at : IsOpenAt (traces view) sum old k) where
   abbrev its : Message
   its = message_for old.log kind page bytes
@@ -219,7 +217,7 @@ module _ {D C : Type 0} (view : D → DeviceView) (sum : List ℕ → ℕ) (old 
   long = body_length old.log (length bytes)
 
   kept : KeptPlace (traces view) sum old.log log long its reservation
-  kept = kept_place (traces view) (counts view) sum old.log log kind page bytes reservation pin came machine
+  kept = kept_place (traces view) (counts view) sum old.log log kind page bytes reservation pin came
 
   inline : FitsInline (segment_size_of old.log) long
   inline = body_fits old.log (length bytes)
@@ -357,7 +355,7 @@ ready_holds trace sum old log page n ready made =
       awaits = ready.tickets.awaits;
       opens = ready.tickets.opens;
       given_up = ready.tickets.given_up;
-      grown = let end = ready.reserved in omega (arith, end);
+      grown = let end = ap (λ (x : LogStatus). x.reserved) ready.stands.1 in omega (arith, end);
       config = on.config;
       pins = back_pins trace sum old log made;
       noted = made.seen.noted;
@@ -377,21 +375,23 @@ unchanged_stands view sum old log k unchanged made =
       acknowledged = k.acknowledged;
       floor = k.floor;
       log = Some (record {
-        position = position_in (unchanged.config i).config.segment_size (current_in (unchanged.line i)) (unchanged.machine i);
-        synced = made.seen.synced i;
-        noted = made.seen.noted i;
-        end = unchanged.reserved i;
-        waiting = spans (unwritten (unchanged.line i));
-        start = start_in (current_in (unchanged.line i));
+        status = record {
+          position = position_in (unchanged.config i).config.segment_size (current_in (unchanged.line i)) (unchanged.machine i);
+          machine = unchanged.machine i;
+          reserved = unchanged.reserved i;
+          synced = made.seen.synced i;
+          noted = made.seen.noted i;
+          waiting = spans (unwritten (unchanged.line i));
+          start = start_in (current_in (unchanged.line i));
+          opens = open_places_along (unchanged.line i);
+          fault = unchanged.fault i;
+          pins = pins i;
+          account = account i;
+        };
         begun = length old.pages.items;
-        fault = unchanged.fault i;
-        outstanding = open_places_along (unchanged.line i);
         tickets = k.tickets;
         given_up = k.given_up;
         heads = k.heads;
-        pins = pins i;
-        machine = unchanged.machine i;
-        account = account i;
       });
       due = shown_due old.due;
     }
@@ -454,13 +454,10 @@ module _ {D C : Type 0} (view : D → DeviceView) (sum : List ℕ → ℕ) (old 
   }
 
   -- with the log made ready
-  ready_tried : (e : Error) → blob ≡ true → IsMadeReady sum (pinned_log old.log) log page n → machine_at log ≡ slots_behind old.log page n → fault_of old.log ≡ None
-      → BlobActs (making_for sum (kind_for kind page true 8) (pos q.place) bytes) l.fault a.device (reply.Failed e) now
+  ready_tried : (e : Error) → blob ≡ true → IsMadeReady sum (pinned_log old.log) log page n → fault_of old.log ≡ None
+      → BlobActs (making_for sum (kind_for kind page true 8) (pos q.place) bytes) l.status.fault a.device (reply.Failed e) now
       → HasRecordPlace size l q e → MadeAnswers {T = Unit {0}} (Err e) ((state_of a.device.trace).blobs.file (pos q.place)) (fault_of log) a.device.failures now.failures → HasTried view sum old kind page bytes after (reply.Failed e) k
-  ready_tried e is ready slots none acts room cause =
-      let waiting = ap spans ready.seals.0 ∙ waiting_seen old.log begun k.tickets k.given_up k.heads sum page n fits in
-      let start = ready.seals.1 ∙ start_with_seen old.log begun k.tickets k.given_up k.heads sum page n fits in
-      let machine = slots ∙ machine_seen old.log begun k.tickets k.given_up k.heads sum page n fits in
+  ready_tried e is ready none acts room cause =
       let pins = back_pins (traces view) sum old.log log made in
       let account = back_account (traces view) sum old.log log made in
       record {
@@ -480,21 +477,11 @@ module _ {D C : Type 0} (view : D → DeviceView) (sum : List ℕ → ℕ) (old 
               acknowledged = k.acknowledged;
               floor = k.floor;
               log = Some (record {
-                position = ready.position i;
-                synced = ready.seen.synced i;
-                noted = ready.seen.noted i;
-                end = ready.reserved i;
-                waiting = waiting i;
-                start = start i;
+                status = record (ready.stands.1 i) { pins = pins i; account = account i };
                 begun = begun;
-                fault = fault_of log;
-                outstanding = ready.tickets.opens i;
                 tickets = k.tickets;
                 given_up = k.given_up;
-                heads = heads_at l (start i);
-                pins = pins i;
-                machine = machine i;
-                account = account i;
+                heads = heads_at l (ready.stands.1 i).start;
               });
               due = shown_due old.due;
             };
@@ -506,35 +493,35 @@ module _ {D C : Type 0} (view : D → DeviceView) (sum : List ℕ → ℕ) (old 
       }
 
   -- a device that failed, or a blob of that name
-  blob_tried : (x : IoError) → Came (error.Io x) → blob ≡ true → IsMadeReady sum (pinned_log old.log) log page n → machine_at log ≡ slots_behind old.log page n → fault_of old.log ≡ None
+  blob_tried : (x : IoError) → Came (error.Io x) → blob ≡ true → IsMadeReady sum (pinned_log old.log) log page n → fault_of old.log ≡ None
       → HasTried view sum old kind page bytes after (reply.Failed (error.Io x)) k
-  blob_tried x came is ready slots none = elim came.answers [
+  blob_tried x came is ready none = elim came.answers [
     | inl kept ↦ (let clash : None ≡ Some x = sym none ∙ kept.0 in cc)
     | inr refused ↦ (
         let same = beside_count old.log begun k.tickets k.given_up k.heads sum page n fits in
         let less = refused.room.2 in
-        ready_tried (error.Io x) is ready slots none (failed_acts view sum (pinned_log old.log) log kind page bytes begun k.tickets k.given_up k.heads x is none refused.room.0 came)
+        ready_tried (error.Io x) is ready none (failed_acts view sum (pinned_log old.log) log kind page bytes begun k.tickets k.given_up k.heads x is none refused.room.0 came)
         (in_reach old.log begun k.tickets k.given_up k.heads sum page n fits refused.room.1, omega (arith, same, less)) refused.refused)
   ]
 
-  pub failed_tried : (e : Error) → (kind_for kind page blob n ≡ None → ⊥) → Came e → (IsMadeReady sum (pinned_log old.log) log page n → machine_at log ≡ slots_behind old.log page n)
+  pub failed_tried : (e : Error) → (kind_for kind page blob n ≡ None → ⊥) → Came e
       → HasTried view sum old kind page bytes after (reply.Failed e) k
-  failed_tried (error.Io x) written came slots = elim came.left [
+  failed_tried (error.Io x) written came = elim came.left [
     | inl same ↦ unchanged_tried (error.Io x) same.1 (λ b is. (same.0, is))
-    | inr ready ↦ blob_tried x came ready.0 ready.2 (slots ready.2) ready.1
+    | inr ready ↦ blob_tried x came ready.0 ready.2 ready.1
   ]
-  failed_tried error.OutOfMemory written came slots = elim came.left [
+  failed_tried error.OutOfMemory written came = elim came.left [
     | inl same ↦ unchanged_tried error.OutOfMemory same (λ b is. (came.answers.0.0, is))
     | inr ready ↦ (
-        ready_tried error.OutOfMemory ready.0 ready.1 (slots ready.1) came.answers.0.0 (short_acts view sum (pinned_log old.log) log kind page bytes begun k.tickets k.given_up k.heads ready.0 came) tt
+        ready_tried error.OutOfMemory ready.0 ready.1 came.answers.0.0 (short_acts view sum (pinned_log old.log) log kind page bytes begun k.tickets k.given_up k.heads ready.0 came) tt
         (came.answers.0.1, came.answers.0.2))
   ]
-  failed_tried error.PlacesUsedUp written came slots =
+  failed_tried error.PlacesUsedUp written came =
       unchanged_tried error.PlacesUsedUp came.left (λ b is. (came.answers.0.0, out_of_reach old.log begun k.tickets k.given_up k.heads sum page n fits came.answers.2, is))
-  failed_tried (error.Held p) written came slots =
+  failed_tried (error.Held p) written came =
       unchanged_tried (error.Held p) came.left (λ b is. (beside_least old.log begun k.tickets k.given_up k.heads sum page n fits p came.answers.0.0 came.answers.3 came.answers.4, is))
-  failed_tried (error.Unsupported text) written came slots = absurd (written came.answers.1)
-  failed_tried _ written came slots = absurd came.answers
+  failed_tried (error.Unsupported text) written came = absurd (written came.answers.1)
+  failed_tried _ written came = absurd came.answers
 
 -- A pin is taken first.
 
@@ -633,7 +620,7 @@ run_over view k log begun due = record {
 }
 
 -- no room was made for a place, for want of memory, or since the log keeps a failure
-pub roomless_step : (segment : ℕ) (run : RunState) (log : LogView) (at : Position) (e : Error) (b : RunState) → FaultOrMemory {T = Unit {0}} (Err e) ⊥ log.fault → b ≡ run → RefusedStep segment run log at e b
+pub roomless_step : (segment : ℕ) (run : RunState) (log : LogView) (at : Position) (e : Error) (b : RunState) → FaultOrMemory {T = Unit {0}} (Err e) ⊥ log.status.fault → b ≡ run → RefusedStep segment run log at e b
 roomless_step segment run log at (error.Io x) b whole is = (whole, is)
 roomless_step segment run log at error.OutOfMemory b whole is = (whole.1, is)
 roomless_step segment run log at error.PlacesUsedUp b whole is = absurd whole.0

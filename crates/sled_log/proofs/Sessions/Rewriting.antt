@@ -19,7 +19,7 @@ use Rattle.sled_core.specs.declared.logger.Log.{Log}
 use Rattle.sled_core.specs.declared.reservation.Guard.{Guard}
 use Rattle.sled_core.specs.declared.reservation.Reservation.{Reservation}
 use Rattle.sled_core.specs.Causes.{FaultOrMemory, RewriteAnswers}
-use Rattle.sled_core.specs.Fits.{Awaits, FitsInline, IsLeastOpen, IsUnchanged, IsUsedUpFor, KeepsAll, fault_of, machine_at, message_rewriting, next_place, open_for, segment_size_of, target_of, start_of}
+use Rattle.sled_core.specs.Fits.{Awaits, FitsInline, IsLeastOpen, IsUnchanged, IsUsedUpFor, KeepsAll, fault_of, message_rewriting, next_place, open_for, segment_size_of, target_of, start_of}
 use Rattle.sled_core.specs.Keeps.{KeepsSeen, Preserves}
 use Rattle.sled_core.specs.Manifests.{manifest_page}
 use Rattle.sled_core.specs.Reserves.{StandsBehind}
@@ -39,7 +39,7 @@ use Rattle.sled_log.specs.RunPhases.{DoesHere, IsOpenAt, Unstored, device_in, se
 use Rattle.sled_log.specs.RunStates.{DeviceView, LogView, RunState, blob_in, is_present, one_blob, page_now, target_in, top, heads_at}
 use Rattle.sled_log.specs.TicketSteps.{RefusedStep, RewriteStep, own_of}
 use Rattle.sled_log.proofs.Sessions.Carried.{passes}
-use Rattle.sled_log.proofs.Sessions.KeptPlaces.{KeptPlace, held_message, over_log, slots_behind, with_ticket}
+use Rattle.sled_log.proofs.Sessions.KeptPlaces.{KeptPlace, held_message, over_log, with_ticket}
 use Rattle.sled_log.proofs.Sessions.MadeHistories.{of_page_same}
 use Rattle.sled_log.proofs.Sessions.ReservedPlaces.{beside_least, out_of_reach}
 use Rattle.sled_log.proofs.Sessions.Reserving.{beside_log, by_room, room_at, room_stands, roomless_step, run_over, still_at, unchanged_heads, unchanged_holds, unchanged_stands, went_back}
@@ -248,7 +248,7 @@ module _ {D C : Type 0} (view : D → DeviceView) (sum : List ℕ → ℕ) (old 
     module _ (pinned : Log D C) (taken : pinned ≡ pinned_log mid.log) (blob : ℤ) (one : one_blob (page_now k.history page) ≡ Some blob) (reservation : Reservation)
         (awaited : (item : List ℕ) → Awaits log reservation (message_rewriting pinned page blob item)) (own : own_blob reservation ≡ None)
         (answered : RewriteAnswers (Ok reservation) (fault_of pinned) (IsUsedUpFor pinned page 8) (open_for pinned page 8) (IsLeastOpen pinned)) (stands_behind : StandsBehind sum pinned log page 8)
-        (others_pinned : (ticket : Reservation) (m : Message) → Awaits pinned ticket m → Awaits log ticket m) (slots : machine_at log ≡ slots_behind pinned page 8) where
+        (others_pinned : (ticket : Reservation) (m : Message) → Awaits pinned ticket m → Awaits log ticket m) where
       awaits : (item : List ℕ) → Awaits log reservation (message_rewriting mid.log page blob item)
       awaits = subst (λ (x : Log D C). (item : List ℕ) → Awaits log reservation (message_rewriting x page blob item)) taken awaited
 
@@ -260,9 +260,6 @@ module _ {D C : Type 0} (view : D → DeviceView) (sum : List ℕ → ℕ) (old 
 
       others : (ticket : Reservation) (m : Message) → Awaits mid.log ticket m → Awaits log ticket m
       others = subst (λ (x : Log D C). (ticket : Reservation) (m : Message) → Awaits x ticket m → Awaits log ticket m) taken others_pinned
-
-      machine : machine_at log ≡ slots_behind mid.log page 8
-      machine = subst (λ (x : Log D C). machine_at log ≡ slots_behind x page 8) taken slots
 
       its_one : IsOneBlob (page_now k.history page) blob
       its_one = one_blob_is (page_now k.history page) blob one
@@ -284,7 +281,6 @@ module _ {D C : Type 0} (view : D → DeviceView) (sum : List ℕ → ℕ) (old 
         own = own ∙ sym (rewriting_apart (traces view) sum mid k at_mid page blob its_one);
         stored = kept_all.goes_on.items none its tt (rewriting_stored (traces view) sum mid k at_mid page blob its_one);
         behind = behind;
-        machine = machine;
         others = others;
         fault = answers.0;
         sound = none;

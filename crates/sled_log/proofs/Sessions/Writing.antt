@@ -1,12 +1,11 @@
 -- What writing buffers comes to in a session: what is seen of those that are written and of those that are left, what holds them up, and where the run stands then.
-use Rattle.std.proofs.Common.{◌≡◌, ◌∙◌, ◌≤◌, ◌<◌, ◌+◌, ◌-◌, ◌/◌, ◌^◌, ◌==◌, ◌⊎◌, inl, inr, nat_lt, if◌then◌else◌, max, ℕ, pos, zero, suc, Bool, true, false, List, [], ◌∷◌, ◌++◌, length, map, take, drop, Option, None, Some, ap, sym, subst, refl, arith}
+use Rattle.std.proofs.Common.{◌≡◌, ◌∙◌, ◌≤◌, ◌<◌, ◌+◌, ◌-◌, ◌/◌, ◌^◌, ◌⊎◌, inl, inr, nat_lt, if◌then◌else◌, max, ℕ, zero, suc, Bool, true, false, List, [], ◌∷◌, ◌++◌, length, map, take, Option, None, Some, ap, sym, subst, refl, arith}
 use Rattle.std.specs.Prelude.{Err}
 use Rattle.std.specs.List.{All, Contains, slice_get}
 use Rattle.std.specs.declared.io.Error.{Error as IoError}
 use Rattle.std.proofs.lemmas.Bool.Decides.{nat_tests}
 use Rattle.std.proofs.lemmas.Bool.{cases_lt}
-use Rattle.std.proofs.lemmas.Int.{ints}
-use Rattle.std.proofs.lemmas.List.Elements.{All-cons, All-head, All-nil, All-tail, All-weaker}
+use Rattle.std.proofs.lemmas.List.Elements.{All-weaker}
 use Rattle.sled_codec.specs.declared.result.Error.{Error}
 use Rattle.sled_codec.specs.declared.result.Error.TheVariants as error
 use Rattle.sled_codec.specs.History.{Batch, History, Message}
@@ -15,47 +14,42 @@ use Rattle.sled_store.specs.Accounts.{machine_of}
 use Rattle.sled_store.specs.Blobs.{UnlessFault}
 use Rattle.sled_store.specs.Device.{Event, Synced, Trace}
 use Rattle.sled_store.specs.Script.{Performs, after_all}
-use Rattle.sled_store.specs.SegmentStates.{Machine}
 use Rattle.sled_core.specs.Account.{account_of}
 use Rattle.sled_core.specs.Among.{AreAmong}
-use Rattle.sled_core.specs.Begun.{begin_of, segment_view}
+use Rattle.sled_core.specs.Begun.{segment_view}
 use Rattle.sled_core.specs.Causes.{Answers, HeldAnswers, IsHeld, OnDone}
 use Rattle.sled_core.specs.declared.logger.Log.{Log}
 use Rattle.sled_core.specs.Fillings.{FillingAt}
-use Rattle.sled_core.specs.Fits.{FirstWaits, IsUsedUp, IsUsedUpBelow, KeepsTickets, buffers_of, current_begin, current_of, fault_of, fillings_of, given_up_of, heads_of, held_len, holding_below, ledger_for, ledger_of, machine_at, noted_in, open_places, pending_of, pins_of, position_of, position_with, reserved_end, sealing_end, segment_size_of, stable_end, start_of, synced_end, waiting_of, writing_below, writing_some, device_of}
+use Rattle.sled_core.specs.Fits.{IsUsedUp, IsUsedUpBelow, KeepsTickets, buffers_of, current_begin, current_of, fault_of, fillings_of, given_up_of, heads_of, held_len, holding_below, ledger_for, ledger_of, machine_at, noted_in, open_places, pending_of, pins_of, reserved_end, sealing_end, segment_size_of, stable_end, start_of, synced_end, waiting_of, writing_below, writing_some, device_of}
 use Rattle.sled_core.specs.Freeing.{Ledger}
 use Rattle.sled_core.specs.Fronts.{CameTo, synced_writes, syncs}
 use Rattle.sled_core.specs.Heads.{HeadAt}
-use Rattle.sled_core.specs.Keeps.{KeepsWriting, Preserves, SamePosition, position_for, sealed_for, start_for, start_sealed}
+use Rattle.sled_core.specs.Keeps.{KeepsWriting, sealed_for}
 use Rattle.sled_core.specs.Ledger.{ledger_behind, writings}
-use Rattle.sled_core.specs.LogStatus.{LogStatus, status_below, status_of}
-use Rattle.sled_core.specs.OpenBatches.{not_whole, stable_below}
-use Rattle.sled_core.specs.OpenPlaces.{first_between}
-use Rattle.sled_core.specs.Positions.{Position, next_segment_at, is_short}
+use Rattle.sled_core.specs.OpenBatches.{not_whole}
+use Rattle.sled_core.specs.Positions.{next_segment_at, is_short}
 use Rattle.sled_core.specs.invariants.Running.{Fits}
 use Rattle.sled_core.specs.Running.{IsStored, end_below}
-use Rattle.sled_core.specs.Waiting.{BufferAt, BufferStart, HasLength, Span, first_held, free_below, front_below, held_below, is_unheld, not_below, pending_in, spans, without_pending}
+use Rattle.sled_core.specs.Waiting.{BufferAt, HasLength, Span, free_below, spans}
 use Rattle.sled_core.specs.WholeBuffers.{AreRecordsAmong, IsWholeBuffer, RecordParts}
+use Rattle.sled_core.specs.LogStatus.{LogStatus, current_span, failing, ledger_below, sealed_below, stable_in, status_below, status_of, wrote_front}
+use Rattle.sled_core.specs.Spans.{held_among, spans_below}
 use Rattle.sled_core.proofs.Line.Among.{among_behind}
 use Rattle.sled_core.proofs.Line.Current.{current_free}
 use Rattle.sled_core.proofs.Holds.Facts.{current_facts}
-use Rattle.sled_core.proofs.Line.LineEnds.{noted_still}
-use Rattle.sled_core.proofs.Line.Positions.{end_seen, next_seen}
 use Rattle.sled_core.proofs.Line.Segments.{line_segments}
-use Rattle.sled_core.proofs.Line.Settles.{stable_up}
-use Rattle.sled_core.proofs.Line.Shows.{buffers_add}
-use Rattle.sled_core.proofs.PublicLaws.{buffers_held, buffers_whole, first_waits, fits_holds, shows_current, shows_empty, shows_long, synced_as_first}
+use Rattle.sled_core.proofs.PublicLaws.{buffers_whole, fits_holds, shows_current, shows_empty, shows_long}
 use Rattle.sled_core.proofs.Reached.OpenBatch.{whole_not}
 use Rattle.sled_log.specs.declared.session.opened.Opened.{Opened}
 use Rattle.sled_log.specs.declared.session.marking.Due.{Due}
 use Rattle.sled_log.specs.declared.session.command.Refusal.{Refusal}
 use Rattle.sled_log.specs.Refusals.{when}
 use Rattle.sled_log.specs.RunPhases.{AreUnmarked, HasHeads, IsOpenAt, IsTicketFor, Unstored, seen_log, seen}
-use Rattle.sled_log.specs.RunSlots.{ledger_below, position_below}
-use Rattle.sled_log.specs.RunStates.{DeviceView, DueMark, EndsInReach, LogView, MarkAt, RunState, count_unheld, current_span, first_waiting, heads_at, held_among, next_start, open_messages, opens, pending_in_view, sealed_below, spans_below, spans_from, start_below, with_log, without_unheld}
-use Rattle.sled_log.specs.WriteSteps.{FailsTo, HasWrittenTo, IfHeld, IsWhy, KeepsFailing, ShowsBuffers, filled_by, fillings_seen, headed, holding, ledger_after, left_from, stable_from, synced_from, view_flushed}
+use Rattle.sled_log.specs.RunStates.{DeviceView, DueMark, EndsInReach, LogView, MarkAt, RunState, heads_at, open_messages, pending_in_view, view_at, with_log}
+use Rattle.sled_log.specs.WriteSteps.{FailsTo, HasWrittenTo, IfHeld, IsWhy, KeepsFailing, ShowsBuffers, filled_by, fillings_seen, headed, holding, stable_from, synced_from}
 use Rattle.sled_log.proofs.Sessions.BegunHeads.{HasOnlyBegun, heads_kept, heads_still}
-use Rattle.sled_log.proofs.Sessions.SlotsSeen.{below_seen, filled, ledger_below_seen, step_failed}
+use Rattle.sled_core.proofs.Line.StatusSeen.{IsHeldBy, all_held, below_front, below_held, count_seen, ledger_below_seen, sealed_seen, sealed_too, shows_current, span_seen, waiting_held}
+use Rattle.sled_log.proofs.Sessions.FailedSteps.{step_failed}
 
 -- What was reserved of a log ends there, tickets are for what they were for, and as many pins are out. While one is no crash takes an item that none took.
 pub record StaysPut {D C : Type 0} (trace : D → Trace) (sum : List ℕ → ℕ) (old new : Log D C) : Type 0 where
@@ -70,7 +64,7 @@ pub record StaysPut {D C : Type 0} (trace : D → Trace) (sum : List ℕ → ℕ
   pub sound : fault_of new ≡ None → fault_of old ≡ None
   pub items : fault_of new ≡ None → (m : Message) → 0 < pins_of old → IsStored trace sum old m → IsStored trace sum new m
 
--- So it is with a call that writes,
+-- So it is with a call that writes.
 pub put_writing : {D C : Type 0} (trace : D → Trace) (sum : List ℕ → ℕ) (old new : Log D C) → KeepsWriting trace sum old new → StaysPut trace sum old new
 put_writing trace sum old new keeps = record {
   tickets = keeps.tickets;
@@ -81,19 +75,6 @@ put_writing trace sum old new keeps = record {
   size = keeps.position.size;
   sound = keeps.preserves.goes_on.sound;
   items = λ none m out. keeps.preserves.goes_on.items none m (inl out);
-}
-
--- and with one that frees nothing.
-pub put_log : {D C : Type 0} (trace : D → Trace) (sum : List ℕ → ℕ) (old new : Log D C) → KeepsTickets old new → SamePosition old new → Preserves trace sum old new → StaysPut trace sum old new
-put_log trace sum old new tickets position keeps = record {
-  tickets = tickets;
-  reserved = position.reserved;
-  opens = tickets.opens;
-  noted = keeps.noted;
-  pins = position.pins;
-  size = position.size;
-  sound = keeps.goes_on.sound;
-  items = λ none m out. keeps.goes_on.items none m tt;
 }
 
 -- A buffer that is whole where these were given up is where more were.
@@ -141,85 +122,12 @@ whole_of trace sum log given_up heads H A f U among has fits none =
     (λ b whole free. more_given sum (segment_size_of log) (given_up_of log) given_up (heads_of log) marks (one ∷ fillings_of log) (one ∷ map filled_by heads) b among has.marked (among_behind (one ∷ []) (fillings_of log) (map filled_by heads) has.filled) (whole free))
     (buffers_of sum log) (buffers_whole trace sum log H (fits_holds trace sum log H A f U fits) none)
 
--- Buffers as they are seen.
-
--- those that begin at a place or behind it
-pub above_seen : (to : ℕ) (bs : List BufferAt) → spans (not_below to bs) ≡ spans_from to (spans bs)
-above_seen to [] = refl
-above_seen to (b ∷ bs) = by (above_seen to bs) (nat_lt b.place to) where
-  by : spans (not_below to bs) ≡ spans_from to (spans bs) → (o : Bool) → spans (if o then not_below to bs else b ∷ bs) ≡ (if o then spans_from to (spans bs) else record { place = b.place; end = b.end; lid = b.lid } ∷ spans bs)
-  by rest true = rest
-  by rest false = refl
-
-pub drop_seen : (n : ℕ) (bs : List BufferAt) → spans (drop n bs) ≡ drop n (spans bs)
-drop_seen zero bs = refl
-drop_seen (suc n) [] = refl
-drop_seen (suc n) (b ∷ bs) = drop_seen n bs
-
--- Those that begin below a place are none of the last one, where that begins there or behind it.
-pub below_front : (to : ℕ) (ss : List Span) (s : Span) → to ≤ s.place → spans_below to (ss ++ s ∷ []) ≡ spans_below to ss
-below_front to [] s far = by (nat_lt s.place to) refl where
-  by : (o : Bool) → nat_lt s.place to ≡ o → (if o then s ∷ [] else []) ≡ []
-  by true is = absurd (grind (arith, nat_tests, far, is))
-  by false is = refl
-below_front to (x ∷ xs) s far = by (below_front to xs s far) (nat_lt x.place to) where
-  by : spans_below to (xs ++ s ∷ []) ≡ spans_below to xs → (o : Bool) → (if o then x ∷ spans_below to (xs ++ s ∷ []) else []) ≡ (if o then x ∷ spans_below to xs else [])
-  by rest true = ap (λ (l : List Span). x ∷ l) rest
-  by rest false = refl
-
--- what all buffers have those have in front of others
-pub all_front : (P : BufferAt → Type 0) (bs cs : List BufferAt) → All P (bs ++ cs) → All P bs
-all_front P [] cs all = All-nil P
-all_front P (b ∷ bs) cs all = All-cons P b bs (All-head P b (bs ++ cs) all) (all_front P bs cs (All-tail P b (bs ++ cs) all))
-
--- What holds them up.
-
--- a buffer is held up by the first of these places that lies in it
-abbrev pub IsHeldBy : List ℕ → BufferAt → Type 0
-IsHeldBy places b = b.held ≡ first_between b.place b.end places
-
-module _ (places : List ℕ) where
-  pub below_held : (to : ℕ) (bs : List BufferAt) → All (IsHeldBy places) bs → held_below to bs ≡ held_among places (spans_below to (spans bs))
-  below_held to [] are = refl
-  below_held to (b ∷ bs) are = by (All-head (IsHeldBy places) b bs are) (below_held to bs (All-tail (IsHeldBy places) b bs are)) (nat_lt b.place to) where
-    by : IsHeldBy places b → held_below to bs ≡ held_among places (spans_below to (spans bs)) → (o : Bool)
-        → (if o then first_held b.held (held_below to bs) else None) ≡ held_among places (if o then record { place = b.place; end = b.end; lid = b.lid } ∷ spans_below to (spans bs) else [])
-    by own rest true = ap (λ (h : Option ℕ). first_held h (held_below to bs)) own ∙ ap (λ (h : Option ℕ). first_held (first_between b.place b.end places) h) rest
-    by own rest false = refl
-
-  -- how many of them can be written
-  pub count_seen : (bs : List BufferAt) → All (IsHeldBy places) bs → pending_in bs ≡ count_unheld places (spans bs)
-  count_seen [] are = refl
-  count_seen (b ∷ bs) are =
-      ap (λ (h : Option ℕ). if is_unheld h then suc (pending_in bs) else pending_in bs) (All-head (IsHeldBy places) b bs are)
-      ∙ ap (λ n. if is_unheld (first_between b.place b.end places) then suc n else n) (count_seen bs (All-tail (IsHeldBy places) b bs are))
-
-  -- and all but one of these
-  pub without_seen : (i : ℕ) (bs : List BufferAt) → All (IsHeldBy places) bs → spans (without_pending i bs) ≡ without_unheld places i (spans bs)
-  without_seen i [] are = refl
-  without_seen i (b ∷ bs) are =
-      ap (λ (h : Option ℕ). spans (if is_unheld h then (if i == 0 then bs else b ∷ without_pending (i - 1) bs) else b ∷ without_pending i bs)) (All-head (IsHeldBy places) b bs are)
-      ∙ by (without_seen (i - 1) bs (All-tail (IsHeldBy places) b bs are)) (without_seen i bs (All-tail (IsHeldBy places) b bs are)) (is_unheld (first_between b.place b.end places)) (i == 0) where
-        by : spans (without_pending (i - 1) bs) ≡ without_unheld places (i - 1) (spans bs) → spans (without_pending i bs) ≡ without_unheld places i (spans bs) → (u o : Bool)
-            → spans (if u then (if o then bs else b ∷ without_pending (i - 1) bs) else b ∷ without_pending i bs)
-            ≡ (if u then (if o then spans bs else record { place = b.place; end = b.end; lid = b.lid } ∷ without_unheld places (i - 1) (spans bs)) else record { place = b.place; end = b.end; lid = b.lid } ∷ without_unheld places i (spans bs))
-        by fewer same true true = refl
-        by fewer same true false = ap (λ (l : List Span). record { place = b.place; end = b.end; lid = b.lid } ∷ l) fewer
-        by fewer same false o = ap (λ (l : List Span). record { place = b.place; end = b.end; lid = b.lid } ∷ l) same
-
 -- A call that was held up sealed the current buffer, where that begins below its place.
 not_held : (e : Error) (old new to : ℕ) → old < to → new ≡ old → (IsHeld {T = ℕ} (Err e) → to ≤ new) → IfHeld e ⊥
 not_held (error.Held at) old new to below same sealed = let past = sealed tt in omega (arith, below, same, past)
 not_held _ old new to below same sealed = tt
 
 -- A log as it is seen.
-
--- all is on the device before the first buffer that waits, or the current one
-pub first_seen : {D C : Type 0} (log : Log D C) → synced_end log ≡ first_waiting (spans (waiting_of log)) (start_of log)
-first_seen log = by (waiting_of log) (first_waits log) where
-  by : (bs : List BufferAt) → FirstWaits (synced_end log) (current_begin log) bs → synced_end log ≡ first_waiting (spans bs) (start_of log)
-  by [] is = is
-  by (b ∷ bs) is = is
 
 module _ {D C : Type 0} (log : Log D C) (sum : List ℕ → ℕ) (begun : ℕ) (tickets : List (Option Message)) (given_up : List Message) (heads : List MarkAt) where
   abbrev pub l : LogView
@@ -228,23 +136,12 @@ module _ {D C : Type 0} (log : Log D C) (sum : List ℕ → ℕ) (begun : ℕ) (
   abbrev size : ℕ
   size = segment_size_of log
 
-  pub begins : begin_of (current_of log) ≤ length (current_of log).parts.bytes
-  begins = (current_facts log).begins
-
-  -- The current buffer, as the view has it.
-
-  pub span_seen : record { place = current_begin log; end = sealing_end log; lid = (start_of log).lid } ≡ current_span l l.position
-  span_seen = ap (λ n. record { place = current_begin log; end = n; lid = (start_of log).lid }) (sym (end_seen size (current_of log) (machine_of log.accountant) (filled log).0 begins))
-
-  pub next_start_seen : start_sealed log ≡ next_start l l.position
-  next_start_seen = sym (next_seen size (current_of log) (machine_of log.accountant) (filled log).0 begins)
-
   -- A flush needs a further segment where the next record would begin one that isn't in reach.
-  pub flush_out : IsUsedUp log → EndsInReach size l.position → ⊥
+  pub flush_out : IsUsedUp log → EndsInReach size l.status.position → ⊥
   flush_out used reach = by used.0 reach where
-    by : is_short size (length (current_of log).parts.bytes) ≡ true → EndsInReach size l.position → ⊥
+    by : is_short size (length (current_of log).parts.bytes) ≡ true → EndsInReach size l.status.position → ⊥
     by short ends =
-        let at : l.position ≡ next_segment_at size (current_of log).parts.site.place (machine_of log.accountant) =
+        let at : l.status.position ≡ next_segment_at size (current_of log).parts.site.place (machine_of log.accountant) =
         ap (λ (b : Bool). if b then next_segment_at size (current_of log).parts.site.place (machine_of log.accountant)
         else record { place = (current_of log).parts.site.place + length (current_of log).parts.bytes; begins = (current_of log).parts.site.place; slot = (current_of log).parts.site.slot; machine = machine_of log.accountant }) short in
         let begins = ap (λ x. x.begins) at in
@@ -254,27 +151,27 @@ module _ {D C : Type 0} (log : Log D C) (sum : List ℕ → ℕ) (begun : ℕ) (
         used.1 (record { place = omega (arith, low, begins); offset = omega (arith, high, slot) })
 
   -- Where it needs none, the segment ends in reach in which the next record would begin.
-  pub flush_in : (IsUsedUp log → ⊥) → EndsInReach size l.position
+  pub flush_in : (IsUsedUp log → ⊥) → EndsInReach size l.status.position
   flush_in free = by (is_short size (length (current_of log).parts.bytes)) refl where
-    by : (o : Bool) → is_short size (length (current_of log).parts.bytes) ≡ o → EndsInReach size l.position
+    by : (o : Bool) → is_short size (length (current_of log).parts.bytes) ≡ o → EndsInReach size l.status.position
     by true short =
-        let at : l.position ≡ next_segment_at size (current_of log).parts.site.place (machine_of log.accountant) =
+        let at : l.status.position ≡ next_segment_at size (current_of log).parts.site.place (machine_of log.accountant) =
         ap (λ (b : Bool). if b then next_segment_at size (current_of log).parts.site.place (machine_of log.accountant)
         else record { place = (current_of log).parts.site.place + length (current_of log).parts.bytes; begins = (current_of log).parts.site.place; slot = (current_of log).parts.site.slot; machine = machine_of log.accountant }) short in
         let begins = ap (λ x. x.begins) at in
         let slot = ap (λ x. x.slot) at in
         record {
-          place = elim (cases_lt (l.position.begins + size) (2 ^ 63)) [
+          place = elim (cases_lt (l.status.position.begins + size) (2 ^ 63)) [
             | inl below ↦ below
             | inr above ↦ absurd (free (short, λ may. let low = may.place in omega (arith, low, begins, above)))
           ];
-          slot = elim (cases_lt (l.position.slot + size) (2 ^ 63)) [
+          slot = elim (cases_lt (l.status.position.slot + size) (2 ^ 63)) [
             | inl below ↦ below
             | inr above ↦ absurd (free (short, λ may. let low = may.offset in omega (arith, low, slot, above)))
           ];
         }
     by false long =
-        let at : l.position ≡ record { place = (current_of log).parts.site.place + length (current_of log).parts.bytes; begins = (current_of log).parts.site.place; slot = (current_of log).parts.site.slot; machine = machine_of log.accountant } =
+        let at : l.status.position ≡ record { place = (current_of log).parts.site.place + length (current_of log).parts.bytes; begins = (current_of log).parts.site.place; slot = (current_of log).parts.site.slot; machine = machine_of log.accountant } =
         ap (λ (b : Bool). if b then next_segment_at size (current_of log).parts.site.place (machine_of log.accountant)
         else record { place = (current_of log).parts.site.place + length (current_of log).parts.bytes; begins = (current_of log).parts.site.place; slot = (current_of log).parts.site.slot; machine = machine_of log.accountant }) long in
         let begins = ap (λ x. x.begins) at in
@@ -283,20 +180,6 @@ module _ {D C : Type 0} (log : Log D C) (sum : List ℕ → ℕ) (begun : ℕ) (
         let slot_small = (current_facts log).slot_small in
         record { place = omega (arith, begins, place_small); slot = omega (arith, slot, slot_small) }
 
-  -- What is open of it holds its buffers up.
-  pub all_held : All (IsHeldBy (opens l)) (buffers_of sum log)
-  all_held = buffers_held sum log
-
-  -- what holds of all buffers holds of the sealed ones
-  pub sealed_too : (P : BufferAt → Type 0) → All P (buffers_of sum log) → All P (waiting_of log)
-  sealed_too P all = elim (cases_lt 0 (held_len log)) [
-    | inl some ↦ (let adds = buffers_add sum log some in all_front P (waiting_of log) (adds.more ∷ []) (subst (All P) adds.is all))
-    | inr none ↦ subst (All P) (shows_empty sum log (omega (arith, none))) all
-  ]
-
-  pub waiting_held : All (IsHeldBy (opens l)) (waiting_of log)
-  waiting_held = sealed_too (IsHeldBy (opens l)) all_held
-
   -- each is whole, and so it is seen
   abbrev pub SeenWhole : BufferAt → Type 0
   SeenWhole b = b.held ≡ None → IsWholeBuffer sum size given_up (map (headed sum) heads) (fillings_seen l) b
@@ -304,13 +187,13 @@ module _ {D C : Type 0} (log : Log D C) (sum : List ℕ → ℕ) (begun : ℕ) (
   pub whole_seen : AreWhole sum log given_up heads → All SeenWhole (buffers_of sum log)
   whole_seen whole =
       subst (λ n. All (λ b. b.held ≡ None → IsWholeBuffer sum size given_up (map (headed sum) heads) (record { next = n; from = reserved_end log } ∷ map filled_by heads) b) (buffers_of sum log))
-      (ap (λ (s : Span). s.end) span_seen) whole
+      (ap (λ (s : Span). s.end) (span_seen log)) whole
 
-  pub shows_waiting : AreWhole sum log given_up heads → ShowsBuffers sum size l l.waiting (waiting_of log)
-  shows_waiting whole = record { are = refl; long = sealed_too HasLength (shows_long sum log); held = waiting_held; whole = sealed_too SeenWhole (whole_seen whole) }
+  pub shows_waiting : AreWhole sum log given_up heads → ShowsBuffers sum size l l.status.waiting (waiting_of log)
+  shows_waiting whole = record { are = refl; long = sealed_too log sum HasLength (shows_long sum log); held = waiting_held log sum; whole = sealed_too log sum SeenWhole (whole_seen whole) }
 
   pub pending_seen : pending_of log ≡ pending_in_view l
-  pending_seen = count_seen (opens l) (waiting_of log) waiting_held
+  pending_seen = count_seen l.status.opens (waiting_of log) (waiting_held log sum)
 
   -- Where a run stands that goes on with another log, over a device that is seen so.
   module _ (trace : D → Trace) (new : Log D C) (device now : DeviceView) (H : History) (A f : ℕ) (due : Option DueMark) (put : StaysPut trace sum log new) where
@@ -320,61 +203,39 @@ module _ {D C : Type 0} (log : Log D C) (sum : List ℕ → ℕ) (begun : ℕ) (
     abbrev pub after : ℕ → RunState
     after reached = record { device = now; history = H; acknowledged = reached; floor = f; log = Some (seen_log new begun tickets given_up (heads_at l (start_of new))); due = due }
 
-    -- with these buffers left, these slots and marks, and the next record there
-    pub leaves : (reached : ℕ) (waiting : List Span) (start : BufferStart) (fault : Option IoError) (ledger : Ledger) (place : Machine → Position) → spans (waiting_of new) ≡ waiting → start_of new ≡ start → fault_of new ≡ fault
-        → ledger_of new ≡ ledger → position_of new ≡ place (machine_at new)
-        → after reached ≡ record { device = now; history = H; acknowledged = reached; floor = f; log = Some (view_flushed l waiting start fault ledger place); due = due }
-    leaves reached waiting start fault ledger place left from kept slots lies =
-        let synced : synced_end new ≡ first_waiting waiting start = first_seen new ∙ (λ i. first_waiting (left i) (from i)) in
-        let noted : noted_in new ≡ not_whole (first_waiting waiting start) (noted_in log) = put.noted ∙ ap (λ n. not_whole n (noted_in log)) synced in
-        let position : position_of new ≡ place ledger.machine = lies ∙ ap (λ (x : Ledger). place x.machine) slots in
+    -- where that stands so
+    pub stands_left : (reached : ℕ) (s : LogStatus) → status_of new ≡ s
+        → after reached ≡ record { device = now; history = H; acknowledged = reached; floor = f; log = Some (view_at l s); due = due }
+    stands_left reached s is =
         λ i. record {
           device = now;
           history = H;
           acknowledged = reached;
           floor = f;
-          log = Some (record { position = position i; synced = synced i; noted = noted i; end = put.reserved i; waiting = left i; start = from i; begun = begun; fault = kept i; outstanding = put.opens i; tickets = tickets; given_up = given_up; heads = heads_at l (from i); pins = put.pins i; machine = (slots i).machine; account = (slots i).account });
+          log = Some (record { status = is i; begun = begun; tickets = tickets; given_up = given_up; heads = heads_at l (is i).start });
           due = due;
         }
 
     -- or as it was
-    pub left_alone : waiting_of new ≡ waiting_of log → start_of new ≡ start_of log → fault_of new ≡ fault_of log → ledger_of new ≡ ledger_of log → ((m : Machine) → position_with new m ≡ position_with log m) → after A ≡ with_log before now (Some l)
-    left_alone left from kept slots lies =
-        let synced : synced_end new ≡ synced_end log = synced_as_first log new left from in
-        let noted : noted_in new ≡ noted_in log = put.noted ∙ ap (λ n. not_whole n (noted_in log)) synced ∙ sym (noted_still log) in
-        let position : position_of new ≡ position_of log = lies (machine_at new) ∙ ap (λ (x : Ledger). position_with log x.machine) slots in
-        let marks : heads_at l (start_of new) ≡ heads = ap (heads_at l) from ∙ heads_still l in
-        λ i. record {
-          device = now;
-          history = H;
-          acknowledged = A;
-          floor = f;
-          log = Some (record { position = position i; synced = synced i; noted = noted i; end = put.reserved i; waiting = spans (left i); start = from i; begun = begun; fault = kept i; outstanding = put.opens i; tickets = tickets; given_up = given_up; heads = marks i; pins = put.pins i; machine = (slots i).machine; account = (slots i).account });
-          due = due;
-        }
+    pub left_alone : status_of new ≡ status_of log → after A ≡ with_log before now (Some l)
+    left_alone is =
+        stands_left A l.status is
+        ∙ ap (λ (hs : List MarkAt). record { device = now; history = H; acknowledged = A; floor = f; log = Some (record l { heads = hs }); due = due }) (heads_still l)
 
   -- Once what begins below a place is sealed.
   module _ (to : ℕ) where
-    -- so much was reserved
-    pub some_reserved : to ≤ reserved_end log → current_begin log < to → 0 < held_len log
-    some_reserved le less = let is = filled log in let low = begins in omega (arith, le, less, is.1, low)
-
-    -- or nothing of that is in the current buffer
-    pub some_stable : to ≤ synced_end log → current_begin log < to → 0 < held_len log
-    some_stable le less = let up = stable_up log (pos (current_begin log)) (omega (arith, ints)) in absurd (omega (arith, ints, le, less, up))
-
     -- the sealed buffers then, and the calls that write those of them that begin below the place
     abbrev pub its_buffers : List BufferAt
     its_buffers = sealed_for sum to log
 
     abbrev pub its_writings : List Event
-    its_writings = writings size (free_below to its_buffers) (ledger_below to l)
+    its_writings = writings size (free_below to its_buffers) (ledger_below to l.status)
 
     sealed_all : (P : BufferAt → Type 0) → All P (buffers_of sum log) → All P its_buffers
     sealed_all P all = by (nat_lt (current_begin log) to) where
       by : (o : Bool) → All P (if o then buffers_of sum log else waiting_of log)
       by true = all
-      by false = sealed_too P all
+      by false = sealed_too log sum P all
 
     -- The current buffer is none of these where it begins at the place or behind it.
     pub free_seen : free_below to (buffers_of sum log) ≡ free_below to its_buffers
@@ -386,74 +247,47 @@ module _ {D C : Type 0} (log : Log D C) (sum : List ℕ → ℕ) (begun : ℕ) (
           current_free sum size log.segments.first.site.place to (segment_view log.segments.first) (map segment_view log.segments.behind.items) (line_segments log) far
 
     pub writes_seen : writing_below sum log to ≡ its_writings
-    writes_seen = λ i. writings size (free_seen i) (ledger_below_seen log begun tickets given_up heads to i)
+    writes_seen = λ i. writings size (free_seen i) (ledger_below_seen log to i)
 
     pub made_seen : (old new : Trace) → new ≡ after_all (writing_below sum log to) old → new ≡ after_all its_writings old
     made_seen old new made = subst (λ (es : List Event). new ≡ after_all es old) writes_seen made
 
     -- so many of them at the front
-    pub some_seen : (count : ℕ) → writing_some count sum log to ≡ writings size (take count (free_below to its_buffers)) (ledger_below to l)
-    some_seen count = λ i. writings size (take count (free_seen i)) (ledger_below_seen log begun tickets given_up heads to i)
-
-    -- where the next record may begin then
-    pub lies_below : (new : Log D C) → ((m : Machine) → position_with new m ≡ position_for to log m) → (m : Machine) → position_with new m ≡ position_below size to l m
-    lies_below new position m = position m ∙ below_seen log begun tickets given_up heads to m
+    pub some_seen : (count : ℕ) → writing_some count sum log to ≡ writings size (take count (free_below to its_buffers)) (ledger_below to l.status)
+    some_seen count = λ i. writings size (take count (free_seen i)) (ledger_below_seen log to i)
 
     module _ (some : current_begin log < to → 0 < held_len log) where
-      -- The sealed buffers and where the current one begins, once it is sealed.
-      pub sealed_seen : spans (sealed_for sum to log) ≡ sealed_below to l
-      sealed_seen = by (nat_lt (current_begin log) to) refl where
-        by : (o : Bool) → nat_lt (current_begin log) to ≡ o
-            → spans (if o then buffers_of sum log else waiting_of log) ≡ (if o then spans (waiting_of log) ++ current_span l l.position ∷ [] else spans (waiting_of log))
-        by true is = shows_current sum log (some (grind (arith, nat_tests, is))) ∙ ap (λ (s : Span). spans (waiting_of log) ++ s ∷ []) span_seen
-        by false is = refl
-
-      pub start_seen : start_for to log ≡ start_below to l
-      start_seen = by (nat_lt (current_begin log) to) where
-        by : (o : Bool) → (if o then start_sealed log else start_of log) ≡ (if o then next_start l l.position else start_of log)
-        by true = next_start_seen
-        by false = refl
-
       -- of all buffers those that begin below the place are seen, whether the current one is among them or not
-      pub flushed_seen : spans_below to (spans (buffers_of sum log)) ≡ spans_below to (sealed_below to l)
+      pub flushed_seen : spans_below to (spans (buffers_of sum log)) ≡ spans_below to (sealed_below to l.status)
       flushed_seen = by (nat_lt (current_begin log) to) refl (cases_lt 0 (held_len log)) where
         by : (o : Bool) → nat_lt (current_begin log) to ≡ o → (0 < held_len log) ⊎ (held_len log ≤ 0)
-            → spans_below to (spans (buffers_of sum log)) ≡ spans_below to (if o then spans (waiting_of log) ++ current_span l l.position ∷ [] else spans (waiting_of log))
-        by true is any = ap (spans_below to) (shows_current sum log (some (grind (arith, nat_tests, is))) ∙ ap (λ (s : Span). spans (waiting_of log) ++ s ∷ []) span_seen)
+            → spans_below to (spans (buffers_of sum log)) ≡ spans_below to (if o then spans (waiting_of log) ++ current_span l.status l.status.position ∷ [] else spans (waiting_of log))
+        by true is any = ap (spans_below to) (shows_current sum log (some (grind (arith, nat_tests, is))) ∙ ap (λ (s : Span). spans (waiting_of log) ++ s ∷ []) (span_seen log))
         by false is (inl any) =
             ap (spans_below to) (shows_current sum log any)
             ∙ below_front to (spans (waiting_of log)) (record { place = current_begin log; end = sealing_end log; lid = (start_of log).lid }) (grind (arith, nat_tests, is))
         by false is (inr none) = ap (λ (bs : List BufferAt). spans_below to (spans bs)) (shows_empty sum log (omega (arith, none)))
 
-      pub shows_below : AreWhole sum log given_up heads → ShowsBuffers sum size l (sealed_below to l) its_buffers
+      pub shows_below : AreWhole sum log given_up heads → ShowsBuffers sum size l (sealed_below to l.status) its_buffers
       shows_below whole = record {
-        are = sealed_seen;
+        are = sealed_seen log sum to some;
         long = sealed_all HasLength (shows_long sum log);
-        held = sealed_all (IsHeldBy (opens l)) all_held;
+        held = sealed_all (IsHeldBy l.status.opens) (all_held log sum);
         whole = sealed_all SeenWhole (whole_seen whole);
       }
 
       pub holding_seen : holding_below sum log to ≡ holding to l
-      holding_seen = below_held (opens l) to (buffers_of sum log) all_held ∙ ap (held_among (opens l)) flushed_seen
+      holding_seen = below_held l.status.opens to (buffers_of sum log) (all_held log sum) ∙ ap (held_among l.status.opens) flushed_seen
 
       -- What is left of it.
       module _ (new : Log D C) where
-        pub left_seen : status_of new ≡ status_below sum to log → spans (waiting_of new) ≡ left_from to l
-        left_seen is = ap (λ (s : LogStatus). spans s.waiting) is ∙ above_seen to (sealed_for sum to log) ∙ ap (spans_from to) sealed_seen
-
-        starts_seen : status_of new ≡ status_below sum to log → start_of new ≡ start_below to l
-        starts_seen is = ap (λ (s : LogStatus). s.start) is ∙ start_seen
-
         pub synced_seen : status_of new ≡ status_below sum to log → synced_end new ≡ synced_from to l
-        synced_seen is = let waiting = left_seen is in let first = starts_seen is in first_seen new ∙ (λ i. first_waiting (waiting i) (first i))
+        synced_seen is = ap (λ (s : LogStatus). s.synced) is
 
         -- Where the run stands then.
         module _ (trace : D → Trace) (device now : DeviceView) (H : History) (A f : ℕ) (due : Option DueMark) (put : StaysPut trace sum log new) where
           pub stable_seen : status_of new ≡ status_below sum to log → stable_end new ≡ stable_from to l
-          stable_seen is =
-              let ends = synced_seen is in
-              let noted : noted_in new ≡ not_whole (synced_from to l) (noted_in log) = put.noted ∙ ap (λ n. not_whole n (noted_in log)) ends in
-              λ i. stable_below (ends i) (noted i)
+          stable_seen is = ap stable_in is
 
           pub has_written : AreWhole sum log given_up heads → (n : ℕ) → fault_of log ≡ None → fault_of new ≡ None → (IsUsedUpBelow log to → ⊥) → holding_below sum log to ≡ None → now.trace ≡ after_all its_writings device.trace → now.failures ≡ device.failures
               → stable_end new ≡ stable_end log + n → to ≤ synced_end new → A ≤ stable_end log → status_of new ≡ status_below sum to log
@@ -461,10 +295,7 @@ module _ {D C : Type 0} (log : Log D C) (sum : List ℕ → ℕ) (begun : ℕ) (
           has_written records n none still unused free made failures answer whole past is =
               let ends = synced_seen is in
               let stable = stable_seen is in
-              let ledger : ledger_of new ≡ ledger_behind size (front_below to its_buffers) (ledger_below to l) =
-              (λ i. record { machine = (is i).machine; account = (is i).account }) ∙ ap (ledger_behind size (front_below to its_buffers)) (ledger_below_seen log begun tickets given_up heads to) in
-              let lies : position_of new ≡ position_below size to l (machine_at new) =
-              ap (λ (s : LogStatus). s.position (machine_at new)) is ∙ below_seen log begun tickets given_up heads to (machine_at new) in
+              let sound : status_of new ≡ failing None (status_below sum to log) = is ∙ ap (λ (f : Option IoError). failing f (status_below sum to log)) none in
               record {
                 sound = none;
                 in_reach = λ less. flush_in (λ used. unused (less, used));
@@ -475,14 +306,14 @@ module _ {D C : Type 0} (log : Log D C) (sum : List ℕ → ℕ) (begun : ℕ) (
                 reaches = omega (arith, whole, ends);
                 more = omega (arith, past, answer, stable);
                 leads =
-                    leaves trace new device now H A f due put (max A (end_below (stable_end new) H)) (left_from to l) (start_below to l) None _ (position_below size to l) (left_seen is) (starts_seen is) still ledger lies
-                    ∙ ap (λ reached. record { device = now; history = H; acknowledged = max A (end_below reached H); floor = f; log = Some (view_flushed l (left_from to l) (start_below to l) None (ledger_behind size (front_below to its_buffers) (ledger_below to l)) (position_below size to l)); due = due }) stable;
+                    stands_left trace new device now H A f due put (max A (end_below (stable_end new) H)) (failing None (status_below sum to log)) sound
+                    ∙ ap (λ reached. record { device = now; history = H; acknowledged = max A (end_below reached H); floor = f; log = Some (view_at l (failing None (status_below sum to log))); due = due }) stable;
               }
 
           -- It failed.
 
           pub fails_to : AreWhole sum log given_up heads → (e : Error) → device.trace ≡ trace (device_of log) → now.trace ≡ trace (device_of new) → fault_of log ≡ None
-              → IsWhy e (holding to l) ((current_begin log < to) × (EndsInReach size l.position → ⊥)) (fault_of new) device.failures now.failures → Performs its_writings device.trace now.trace
+              → IsWhy e (holding to l) ((current_begin log < to) × (EndsInReach size l.status.position → ⊥)) (fault_of new) device.failures now.failures → Performs its_writings device.trace now.trace
               → IfHeld e (now.trace ≡ after_all its_writings device.trace) → (IsHeld {T = ℕ} (Err e) → to ≤ current_begin new) → CameTo trace sum to log new
               → FailsTo sum size (before trace new device now H A f due put) l to e now (after trace new device now H A f due put A)
           fails_to records e was is none why made held sealed came = record {
@@ -505,16 +336,15 @@ module _ {D C : Type 0} (log : Log D C) (sum : List ℕ → ℕ) (begun : ℕ) (
                         inr (inr (
                           refl,
                           below,
-                          not_held e (current_begin log) (current_begin new) to below (ap (λ (x : BufferStart). x.place) same.start) sealed,
-                          left_alone trace new device now H A f due put same.waiting same.start same.fault same.ledger same.position,
-                          same.fault ∙ none,
+                          not_held e (current_begin log) (current_begin new) to below (ap (λ (x : LogStatus). x.start.place) same.stands.1) sealed,
+                          left_alone trace new device now H A f due put same.stands.1,
+                          ap (λ (x : LogStatus). x.fault) same.stands.1 ∙ none,
                         ))),
                   ))
               | inr front ↦ (
-                  let left : spans (waiting_of new) ≡ drop front.count (sealed_below to l) = ap spans front.left ∙ drop_seen front.count (sealed_for sum to log) ∙ ap (λ (ss : List Span). drop front.count ss) sealed_seen in
-                  let start : start_of new ≡ start_below to l = front.start ∙ start_seen in
-                  let lies = lies_below new front.position (machine_at new) in
-                  let seen = ledger_below_seen log begun tickets given_up heads to in (
+                  let view : Ledger → RunState = λ x. record (before trace new device now H A f due put) { device = now; log = Some (view_at l (failing (fault_of new) (wrote_front size to front.count x l.status))) } in
+                  let stands : after trace new device now H A f due put A ≡ view (ledger_of new) = stands_left trace new device now H A f due put A _ front.stands.1 in
+                  let seen = ledger_below_seen log to in (
                     front.count,
                     record {
                       buffers = its_buffers;
@@ -528,9 +358,8 @@ module _ {D C : Type 0} (log : Log D C) (sum : List ℕ → ℕ) (begun : ℕ) (
                       | inl all ↦ (
                           let behind : ledger_of new ≡ ledger_behind size (take front.count its_buffers) (ledger_for to log) = λ i. record { machine = all.0 i; account = front.ledger.0 i } in
                           inl (
-                            leaves trace new device now H A f due put A (drop front.count (sealed_below to l)) (start_below to l) (fault_of new) (ledger_after size to l its_buffers front.count) (position_below size to l) left start refl
-                                (behind ∙ ap (ledger_behind size (take front.count its_buffers)) seen) lies,
-                            subst (λ n. n < to) (first_seen new ∙ (λ i. first_waiting (left i) (start i))) all.1,
+                            stands ∙ ap view (behind ∙ ap (ledger_behind size (take front.count its_buffers)) seen),
+                            subst (λ n. n < to) (ap (λ (x : LogStatus). x.synced) front.stands.1) all.1,
                           ))
                       | inr failed ↦ inr (inl (
                         failed.1,
@@ -538,7 +367,7 @@ module _ {D C : Type 0} (log : Log D C) (sum : List ℕ → ℕ) (begun : ℕ) (
                         front.ledger.0 ∙ ap (λ (x : Ledger). (ledger_behind size (take front.count its_buffers) x).account) seen,
                         machine_at new,
                         step_failed log begun tickets given_up heads trace new _ _ now.trace (ap (λ (x : Ledger). (ledger_behind size (take (front.count - 1) its_buffers) x).machine) seen) put.size (sym is) failed.0 failed.2,
-                        leaves trace new device now H A f due put A (drop front.count (sealed_below to l)) (start_below to l) (fault_of new) (record { machine = machine_at new; account = account_of new }) (position_below size to l) left start refl refl lies,
+                        stands,
                       ))
                     ],
                   ))
@@ -635,13 +464,6 @@ some_open (Some x ∷ ts) (suc n) m there = omega arith
 pub due_none : {D C : Type 0} (old new : Log D C) (H : History) (due : Option Due) (U : List Message) → due ≡ None → AreUnmarked old H due U → AreUnmarked new H due U
 due_none old new H None U none are = are
 due_none old new H (Some d) U none are = cc
-
--- or one is due still, where the log keeps the failure that it kept, or none
-pub due_still : {D C : Type 0} (old new : Log D C) (H : History) (due : Option Due) (U : List Message) → fault_of new ≡ fault_of old → AreUnmarked old H due U → AreUnmarked new H due U
-due_still old new H None U same are = are
-due_still old new H (Some d) U same are =
-    let is = are.2 in
-    (are.0, are.1, record { there = is.there; is = is.is; kind = is.kind; newest = is.newest; beside = is.beside; former = is.former; sound = same ∙ is.sound })
 
 -- It stays open so, where that has the same tickets, and as many pins are out.
 module _ {D C : Type 0} (trace : D → Trace) (sum : List ℕ → ℕ) (opened : Opened D C) (log : Log D C) (k : Unstored) (A : ℕ) where

@@ -11,7 +11,12 @@ use Rattle.sled_store.specs.Script.{after_all}
 use Rattle.sled_core.specs.declared.logger.Log.{Log}
 use Rattle.sled_core.specs.Causes.{HeldAnswers}
 use Rattle.sled_core.specs.Fits.{device_of, fault_of, flushing, reserved_end, segment_size_of}
+use Rattle.sled_core.specs.Freeing.{Ledger}
+use Rattle.sled_core.specs.Keeps.{sealed_for}
+use Rattle.sled_core.specs.Ledger.{ledger_behind}
 use Rattle.sled_core.specs.LogStatus.{LogStatus, status_below, status_of}
+use Rattle.sled_core.specs.Waiting.{front_below}
+use Rattle.sled_core.proofs.Line.StatusSeen.{ledger_below_seen}
 use Rattle.sled_core.specs.Recoverable.{LeavesRecoverable, ReadsOnlyOwn}
 use Rattle.sled_core.specs.invariants.Running.{Fits}
 use Rattle.sled_core.proofs.PublicLaws.{fits_leaves, fits_reads_own}
@@ -44,7 +49,7 @@ pub can_recover : {D C : Type 0} (trace : D → Trace) (sum : List ℕ → ℕ) 
     → trace device ≡ after_all (flushing sum old) (trace (device_of old))
     → fault_of old ≡ None → fault_of new ≡ None → status_of new ≡ status_below sum (reserved_end old) old → CanRestart trace sum old H A f U → Fits trace sum new H end f U
     → CanRecover sum (segment_size_of old) (state_of (trace device)) H end f
-can_recover trace sum old new device H A end f U size same came none still is can fits = record {
+can_recover trace sum old new device H A end f U size same came none still is can fits = let to : ℕ = reserved_end old in record {
   orderly = can.orderly;
   left = subst (λ (t : Trace). LeavesRecoverable sum (segment_size_of old) H end f (state_of t)) (sym same)
       (subst (λ n. LeavesRecoverable sum n H end f (state_of (trace (device_of new)))) size (fits_leaves trace sum new H end f U fits));
@@ -52,7 +57,7 @@ can_recover trace sum old new device H A end f U size same came none still is ca
     | inl (zeros, low) ↦ subst (λ (t : Trace). ReadsOnlyOwn sum (segment_size_of old) (state_of t)) (sym same)
         (subst (λ n. ReadsOnlyOwn sum n (state_of (trace (device_of new)))) size
         (fits_reads_own trace sum new H end f U fits still zeros
-        (subst (λ z. z ≤ℤ pos f) (sym (ap (λ (s : LogStatus). s.account.mark) is)) low)))
+        (subst (λ z. z ≤ℤ pos f) (sym (ap (λ (s : LogStatus). s.account.mark) is ∙ ap (λ (l : Ledger). (ledger_behind (segment_size_of old) (front_below to (sealed_for sum to old)) l).account.mark) (sym (ledger_below_seen old to)))) low)))
     | inr own ↦ subst (λ (t : Trace). ReadsOnlyOwn sum (segment_size_of old) (state_of t)) (sym came) own
   ];
 }

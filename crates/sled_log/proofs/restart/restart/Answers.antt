@@ -45,7 +45,7 @@ returns-in-Ok-clause-ready g c = λ H A f U can.
     let now_size : segment_size_of log ≡ size = c.flush-flushed.ensures.keeps.position.size in
     let sizes : config.config.segment_size ≡ size = ap (λ (x : RunningConfig _ _). x.config.segment_size) is ∙ now_size in
     let same : old ≡ trace (device_of log) = ap (λ (x : RunningConfig _ _). trace x.device) is in
-    let there : CanRecover sum size (state_of old) H end f = can_recover trace sum c.args.log log config.device H A end f U now_size same (same ∙ c.in-Ok.ensures.calls) c.in-Ok.ensures.answers.2 c.in-Ok.ensures.answers.3 c.in-Ok.ensures.status can (c.in-Ok.ensures.acknowledges H A f U can.fits) in
+    let there : CanRecover sum size (state_of old) H end f = can_recover trace sum c.args.log log config.device H A end f U now_size same (same ∙ c.in-Ok.ensures.calls) c.in-Ok.ensures.answers.2 c.in-Ok.ensures.answers.3 c.in-Ok.ensures.status.1 can (c.in-Ok.ensures.acknowledges H A f U can.fits) in
     let kept : IsKept sum (account_of log).mark (account_of log).durable size log.segments.first.site log.segments.first.buffer.written_len (state_of old) (logged H) =
     subst (λ (t : Trace). IsKept sum (account_of log).mark (account_of log).durable size log.segments.first.site log.segments.first.buffer.written_len (state_of t) (logged H)) (sym same)
     (subst (λ n. IsKept sum (account_of log).mark (account_of log).durable n log.segments.first.site log.segments.first.buffer.written_len (state_of (trace (device_of log))) (logged H)) now_size (c.in-Ok.ensures.records H (inr (A, f, U, can.fits)))) in
@@ -81,7 +81,7 @@ returns-in-Ok-clause-undamaged g c = λ H A f U can.
     let now_size : segment_size_of log ≡ size = c.flush-flushed.ensures.keeps.position.size in
     let sizes : config.config.segment_size ≡ size = ap (λ (x : RunningConfig _ _). x.config.segment_size) is ∙ now_size in
     let same : old ≡ trace (device_of log) = ap (λ (x : RunningConfig _ _). trace x.device) is in
-    let there : CanRecover sum size (state_of old) H end f = can_recover trace sum c.args.log log config.device H A end f U now_size same (same ∙ c.in-Ok.ensures.calls) c.in-Ok.ensures.answers.2 c.in-Ok.ensures.answers.3 c.in-Ok.ensures.status can (c.in-Ok.ensures.acknowledges H A f U can.fits) in
+    let there : CanRecover sum size (state_of old) H end f = can_recover trace sum c.args.log log config.device H A end f U now_size same (same ∙ c.in-Ok.ensures.calls) c.in-Ok.ensures.answers.2 c.in-Ok.ensures.answers.3 c.in-Ok.ensures.status.1 can (c.in-Ok.ensures.acknowledges H A f U can.fits) in
     let reads = read_recoverable sum size old there.own H end f there.left in
     (c.read_snapshot_or_default-snapshot.ensures.read H end f can.orderly (subst (λ n. Recoverable sum n (content_of (state_of old)) H end f) (sym sizes) reads)).0
 
@@ -132,7 +132,7 @@ returns-in-Ok-clause-crash g c =
       then = λ H A f U restarts.
           let can : CanRecover sum size (state_of (trace config.device)) H A f =
           can_recover trace sum c.args.log log config.device H A A f U c.flush-flushed.ensures.keeps.position.size same came
-          c.in-Ok.ensures.answers.2 c.in-Ok.ensures.answers.3 c.in-Ok.ensures.status restarts (keeps.fits H A f U restarts.fits) in
+          c.in-Ok.ensures.answers.2 c.in-Ok.ensures.answers.3 c.in-Ok.ensures.status.1 restarts (keeps.fits H A f U restarts.fits) in
           subst (λ n. LeavesOnly (RecoverableIfOwn sum n H A f) (trace config.device) (trace new.device)) sizes
           (c.read_snapshot_or_default-snapshot.ensures.recoverable H A f
           (subst (λ n. CanRecover sum n (state_of (trace config.device)) H A f) (sym sizes) can));

@@ -5,6 +5,7 @@ use Rattle.sled_codec.specs.Spelling.{short_number}
 use Rattle.sled_core.specs.declared.reservation.Reservation.{Reservation}
 use Rattle.sled_core.specs.Causes.{ReserveAnswers}
 use Rattle.sled_core.specs.Fits.{IsLeastOpen, IsUsedUpFor, config_of, message_as, position_behind}
+use Rattle.sled_core.specs.LogStatus.{LogStatus}
 use Rattle.sled_core.specs.OpenPlaces.{open_places_along}
 use Rattle.sled_core.specs.Reserves.{reserve_causes}
 use Rattle.sled_core.proofs.PublicLaws.{awaited, comes_inline, goes_on_further, inline_named, not_in_blob, refused_inline}
@@ -99,7 +100,7 @@ invariant_of-self-in-Ok-complete g c =
       small = c.saturating_add-asked.type_inv;
       some = some;
       pinned = omega (arith, pins, pinned);
-      ended = none_behind _ _ _ _ c.in-Ok.ensures.behind.opens old.ended (c.in-Ok-complete.ensures.ends.opens _ (awaited c.reserve.new.self c.in-Ok.ticket _ c.in-Ok.ensures.ticket).0);
+      ended = none_behind _ _ _ _ (ap (λ (x : LogStatus). x.opens) c.in-Ok.ensures.behind.stands.1) old.ended (c.in-Ok-complete.ensures.ends.opens _ (awaited c.reserve.new.self c.in-Ok.ticket _ c.in-Ok.ensures.ticket).0);
     }
 
 pub invariant_of-self-in-Err-complete : goal.invariant_of-self-in-Err-complete
@@ -137,7 +138,7 @@ returns-in-Ok-complete-clause-gives_on g c =
       asked = omega (arith, asked, ahead);
       block = refl;
       generates = λ generates. has_generates trace sum _ (has_asked trace sum old.log c.reserve.new.self c.complete.new.self old.bound old.asked c.saturating_add-asked.result (generates_has trace sum old generates)
-          (omega (arith, asked, small, ahead, none)) c.saturating_add-asked.type_inv size came.keeps came.behind.reserved c.in-Ok-complete.ensures.ends.position.reserved c.in-Ok-complete.ensures.goes_on
+          (omega (arith, asked, small, ahead, none)) c.saturating_add-asked.type_inv size came.keeps (ap (λ (x : LogStatus). x.reserved) came.behind.stands.1) c.in-Ok-complete.ensures.ends.position.reserved c.in-Ok-complete.ensures.goes_on
           (λ H A f U fits. c.in-Ok-complete.ensures.fits H A f U _ fits came.ticket came.stored (inline_named H (message_as old.log Replace 0 false (length text) text) tt) (omega (arith, pins, pinned))));
       keeps = λ generates. through_less sum _ old.bound old.bound old.asked (old.asked + old.block) _ _ (omega arith) (omega arith)
           (has_throughout trace sum old.log c.complete.new.self old.bound old.asked (generates_has trace sum old generates) both);
@@ -172,7 +173,7 @@ returns-in-Ok-complete-clause-asked g c = λ same.
     record {
       sound = came.answers.0.0;
       room = subst (λ k. IsUsedUpFor old.log 0 (length (short_number k)) → ⊥) is came.answers.1.1;
-      position = c.in-Ok-complete.ensures.ends.position.position ∙ came.behind.position ∙ ap (λ k. position_behind old.log 0 (length (short_number k))) is;
+      position = c.in-Ok-complete.ensures.ends.position.position ∙ ap (λ (x : LogStatus). x.position) came.behind.stands.1 ∙ ap (λ k. position_behind old.log 0 (length (short_number k))) is;
     }
 
 pub returns-in-Ok-complete-clause-unwritten : goal.returns-in-Ok-complete-clause-unwritten

@@ -8,18 +8,20 @@ use Rattle.sled_store.specs.Moments.{LeavesOnly}
 use Rattle.sled_store.specs.SegmentStates.{Machine, stabilized}
 use Rattle.sled_core.specs.Account.{Account, account_of}
 use Rattle.sled_core.specs.Causes.{HeldAnswers}
-use Rattle.sled_core.specs.Fits.{IsUsedUpBelow, device_of, fault_of, holding_below, ledger_for, reserved_end, segment_size_of, stable_end, synced_end}
+use Rattle.sled_core.specs.Fits.{IsUsedUpBelow, device_of, fault_of, holding_below, ledger_for, reserved_end, segment_size_of, stable_end, start_of, synced_end}
 use Rattle.sled_core.specs.Fronts.{CameTo, ClosedAt, FailedFront, IsIo, IsStepDue, UnlessIo, WroteFront}
-use Rattle.sled_core.specs.Keeps.{sealed_for}
+use Rattle.sled_core.specs.Keeps.{sealed_for, start_for}
 use Rattle.sled_core.specs.Ledger.{ledger_behind}
-use Rattle.sled_core.specs.LogStatus.{LogStatus, status_below, status_of}
+use Rattle.sled_core.specs.LogStatus.{LogStatus, HasStatus, left_above, status_below}
+use Rattle.sled_core.specs.Stable.{first_begin}
+use Rattle.sled_core.proofs.Line.Buffers.{first_left}
+use Rattle.sled_core.proofs.Line.StatusSeen.{start_seen}
 use Rattle.sled_core.specs.Recoverable.{LeavesRecoverable, RecoverableIfOwn}
 use Rattle.sled_core.specs.Running.{end_below}
 use Rattle.sled_core.specs.Stable.{CloseAnswers, SyncsAll, first_begin, stable_behind}
 use Rattle.sled_core.specs.declared.logger.Log.{Log}
 use Rattle.sled_core.proofs.Holds.LessClaimed.{leaves_claimed}
 use Rattle.sled_core.proofs.Holds.LastEnds.{acknowledged_up}
-use Rattle.sled_core.proofs.Line.Buffers.{first_left}
 use Rattle.sled_core.proofs.Line.Outcomes.{on_both, on_err}
 use Rattle.sled_core.proofs.logger.Log.close.Goals as goal
 
@@ -35,8 +37,10 @@ close_answers (Err _) held used fault now before after answers = absurd answers
 
 -- By how much the stable end grew: what is left begins there.
 
-stable_left : {D C : Type 0} (sum : List ℕ → ℕ) (to : ℕ) (old new : Log D C) → status_of new ≡ status_below sum to old → stable_behind sum to old ≡ synced_end new
-stable_left sum to old new is = sym (ap (λ (s : LogStatus). s.synced) is)
+stable_left : {D C : Type 0} (sum : List ℕ → ℕ) (to : ℕ) (old new : Log D C) → HasStatus (left_above sum to old) (status_below sum to old) new → stable_behind sum to old ≡ synced_end new
+stable_left sum to old new (left, is) =
+    let start : start_of new ≡ start_for to old = ap (λ (s : LogStatus). s.start) is ∙ sym (start_seen old to) in
+    sym (first_left new ∙ (λ i. first_begin (left i) (start i)))
 
 grown : {D C : Type 0} (r : Result ℕ Error) (P : Type 0) (old new : Log D C) (behind before : ℕ) → (P → behind ≡ synced_end new) → IfOk r (λ n. stable_end new ≡ before + n) → OnOk r P → OnOk r (SyncsAll old new) → IfOk r (λ n. behind ≡ before + n)
 grown (Ok n) P old new behind before left grows is all = left is ∙ sym all.stable ∙ grows
@@ -102,16 +106,18 @@ step_due trace sum to old new size front failed =
 closes_part : {T D C : Type 0} (trace : D → Trace) (sum : List ℕ → ℕ) (r : Result T Error) (old new : Log D C) → ((P : Type 0) → (fault_of new ≡ None → P) → UnlessIo r P) → (fault_of old ≡ None → fault_of new ≡ fault_of old → IsIo r → ⊥)
     → ((e : IoError) → fault_of new ≡ Some e → IsIo r) → segment_size_of new ≡ segment_size_of old
     → CameTo trace sum (reserved_end old) old new → ClosedAt trace sum r old (trace (device_of new))
-closes_part trace sum r old new sound never io size (inl none) = inl (none.still, λ kept. (none.due kept, never kept none.fault))
+closes_part trace sum r old new sound never io size (inl none) = inl (none.still, λ kept. (none.due kept, never kept (ap (λ (s : LogStatus). s.fault) none.stands.1)))
 closes_part trace sum r old new sound never io size (inr front) = inr (record {
   count = front.count;
   written = front.written;
   whole = sound _ front.whole;
   short = elim front.ledger.1 [
-    | inl whole ↦ inr (subst (λ n. n < reserved_end old) (sym ((λ i. first_begin (sym front.left i) (sym front.start i)) ∙ sym (first_left new))) whole.1)
+    | inl whole ↦ inr (subst (λ n. n < reserved_end old) (first_left new ∙ (λ i. first_begin (front.stands.0 i) (starts front i))) whole.1)
     | inr failed ↦ inl (io failed.0.fault failed.0.kept, failed.0.sound, failed.0.unpinned, failed.1, step_due trace sum _ old new size front failed)
   ];
-})
+}) where
+  starts : (front : WroteFront trace sum (reserved_end old) old new) → start_of new ≡ start_for (reserved_end old) old
+  starts front = ap (λ (s : LogStatus). s.start) front.stands.1 ∙ sym (start_seen old (reserved_end old))
 
 pub returns-clause-came : goal.returns-clause-came
 returns-clause-came g c =

@@ -15,6 +15,7 @@ use Rattle.sled_core.proofs.Line.LineEnds.{stable_kept}
 use Rattle.sled_core.proofs.Line.NoneLeft.{all_stable, all_written}
 use Rattle.sled_core.proofs.Line.SealFirst.{still_came, writes_err, writes_none, writes_ok}
 use Rattle.sled_core.proofs.Line.Pools.{pools_some, pools_still}
+use Rattle.sled_core.proofs.Line.StatusSeen.{some_reserved}
 use Rattle.sled_core.proofs.Line.Wrote.{status_written}
 use Rattle.sled_core.proofs.logger.Log.flush.Given as given
 use Rattle.sled_core.proofs.logger.Log.flush.Goals as goal
@@ -52,7 +53,9 @@ pub returns-clause-status : goal.returns-clause-status
 returns-clause-status g c =
     let did = c.in_ok-write_below.ensures in
     let none = did.answers in
-    status_written g.C.Checksum.sum_of _ c.args.self.now c.write_below.new.self did.above did.keeps.position (none.3 ∙ sym c.in_default.is) did.keeps.preserves.noted
+    let old = c.args.self.now in
+    status_written g.C.Checksum.sum_of (reserved_end old) old c.write_below.new.self (some_reserved old (reserved_end old) (omega arith)) did.above did.keeps.tickets did.keeps.position
+    did.keeps.preserves.noted (none.3 ∙ sym c.in_default.is)
 
 pub returns-clause-acknowledges : goal.returns-clause-acknowledges
 unfolding Fits

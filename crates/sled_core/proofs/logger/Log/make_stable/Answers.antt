@@ -16,12 +16,14 @@ use Rattle.sled_core.specs.invariants.Running.{Fits}
 use Rattle.sled_core.specs.OpenBatches.{behind_batch}
 use Rattle.sled_core.specs.Stable.{behind_place, held_for, target_for}
 use Rattle.sled_core.specs.declared.logger.Log.{Log}
-use Rattle.sled_core.proofs.Line.KeptCalls.{place_still, writing_still}
+use Rattle.sled_core.proofs.Line.KeptCalls.{place_still, tickets_still, writing_still}
 use Rattle.sled_core.proofs.Line.Shown.{fits_acknowledges}
 use Rattle.sled_core.proofs.Line.LineEnds.{noted_still, stable_kept, stable_reached}
 use Rattle.sled_core.proofs.Line.SealFirst.{above_already, still_came, unused_already, writes_already, writes_err, writes_none, writes_ok}
 use Rattle.sled_core.proofs.Line.Places.{above_read, behind_read, behind_stable, done_as, held_up, holds_none, inside_read, reserved_in_reach, stable_answers, wrote_for}
 use Rattle.sled_core.proofs.Line.Pools.{pools_some, pools_still}
+use Rattle.sled_core.proofs.Line.StatusSeen.{some_reserved, some_stable}
+use Rattle.sled_core.proofs.Line.StableTargets.{target_reserved}
 use Rattle.sled_core.proofs.Line.Wrote.{status_written}
 use Rattle.sled_core.proofs.logger.Log.make_stable.Given as given
 use Rattle.sled_core.proofs.logger.Log.make_stable.Goals as goal
@@ -62,8 +64,8 @@ pub returns-then-lsn-stable_offset-clause-status : goal.returns-then-lsn-stable_
 returns-then-lsn-stable_offset-clause-status g c =
     let old = c.args.self.now in
     let to = target_for old c.args.lsn in
-    status_written g.C.Checksum.sum_of to old old (above_already g.C.Checksum.sum_of to old (behind_stable g.C.Checksum.sum_of old c.args.lsn (durable g c)))
-    (place_still old) refl (noted_still old)
+    let below = behind_stable g.C.Checksum.sum_of old c.args.lsn (durable g c) in
+    status_written g.C.Checksum.sum_of to old old (some_stable old to below) (above_already g.C.Checksum.sum_of to old below) (tickets_still old) (place_still old) (noted_still old) refl
 
 -- It wasn't reserved.
 
@@ -189,8 +191,9 @@ returns-clause-status g c =
     let sum = g.C.Checksum.sum_of in
     let did = c.in_ok-write_below.ensures in
     let to = to_is old c.args.lsn _ _ c.behind_batch-to.ensures.is (behind_read c.args.lsn _ _ (to_z-of_z w64 c.args.lsn c.ranges.lsn) (above_done g c)) in
-    status_written sum (target_for old c.args.lsn) old new (subst (λ n. LeavesAbove sum n old new) to did.above) did.keeps.position
-    (let none = did.answers in none.3 ∙ sym c.in_default.is) did.keeps.preserves.noted
+    let some = some_reserved old (target_for old c.args.lsn) (target_reserved old c.args.lsn (inside_done g c)) in
+    status_written sum (target_for old c.args.lsn) old new some (subst (λ n. LeavesAbove sum n old new) to did.above) did.keeps.tickets did.keeps.position
+    did.keeps.preserves.noted (let none = did.answers in none.3 ∙ sym c.in_default.is)
 
 pub returns-clause-buffers : goal.returns-clause-buffers
 returns-clause-buffers g c =

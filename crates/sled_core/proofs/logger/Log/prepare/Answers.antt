@@ -54,7 +54,7 @@ pub returns-then-has_place-clause-prepared : goal.returns-then-has_place-clause-
 returns-then-has_place-clause-prepared g c =
     let did = c.in_ok-room_for.ensures in
     prepared_here g.D.Device.trace g.C.Checksum.sum_of c.args.self.now c.room_for.new.self c.args.purpose.now c.fill_head.new.head c.args.body_len
-    (record { bytes = c.fill_head.ensures.bytes; len = c.fill_head.ensures.len }) (c.if-has_place.ensures.0 refl) did.line did.rest did.room (λ is. did.batch (c.is_manifest-manifest.ensures ∙ is))
+    (record { bytes = c.fill_head.ensures.bytes; len = c.fill_head.ensures.len }) (c.if-has_place.ensures.0 refl) c.requires did.line did.rest did.room (λ is. did.batch (c.is_manifest-manifest.ensures ∙ is))
 
 pub returns-then-has_place-clause-answers : goal.returns-then-has_place-clause-answers
 returns-then-has_place-clause-answers g c =

@@ -36,8 +36,9 @@ use Rattle.sled_core.proofs.Line.Advanced.{same_current}
 use Rattle.sled_core.proofs.Line.CameFar.{around_none, came_behind, seals_none, still_around}
 use Rattle.sled_core.proofs.Line.BlobReads.{gives_read, item_read, reads_stable, stable_begins, stable_stored}
 use Rattle.sled_core.proofs.Line.KeptReads.{err_waits, gives_at_once, kept_stored, record_begins}
-use Rattle.sled_core.proofs.Line.LogSpans.{same_buffers, same_with}
+use Rattle.sled_core.proofs.Line.LogSpans.{same_buffers}
 use Rattle.sled_core.proofs.Line.HeaderMarks.{segment_same}
+use Rattle.sled_core.proofs.Line.Wrote.{status_same}
 use Rattle.sled_core.proofs.Line.Reads.{above_zero, around_err, around_read, err_answers, err_damages, err_gives, err_refuses, err_settles, fits_begins, is_settled, read_answers, read_held, read_reserved, read_settles, refuses_none, seals_err, seals_read, settled_record}
 use Rattle.sled_core.proofs.Line.Records.{inline_is}
 use Rattle.sled_core.proofs.Line.Settles.{held_stable, stable_up, written_still}
@@ -381,15 +382,16 @@ returns-clause-buffers g c =
     let place : ℤ = place_read c.args.lsn c.args.ptr in
     let at = at_ok g c in
     let same = same_buffers mid new c.read_settled.ensures.line in
-    let with_slots = same_with mid new c.read_settled.ensures.line c.read_settled.ensures.keeps.position.size in
+    let keeps = c.read_settled.ensures.keeps in
+    let status = status_same mid new c.read_settled.ensures.line c.read_settled.ensures.ledger keeps.position keeps.tickets keeps.preserves.noted in
     let free = read_held sum _ c.args.ptr c.read_settled.result _ _ _ _ c.read_settled.ensures.answers in (
       seals_read place old mid c.read_settled.result new tt (subst (λ z. SealsAround {T = Unit {0}} (Ok tt) z old mid) at c.in_ok-settle_at.ensures.seals) same.0 (same_current mid new c.read_settled.ensures.line) free,
-      around_read place old mid sum c.read_settled.result new tt (subst (λ z. WritesAround {T = Unit {0}} sum (Ok tt) z old mid) at c.in_ok-settle_at.ensures.buffers.0) same.0 same.1 c.read_settled.ensures.ledger with_slots free (segment_same mid new c.read_settled.ensures.line),
+      around_read place old mid sum c.read_settled.result new tt (subst (λ z. WritesAround {T = Unit {0}} sum (Ok tt) z old mid) at c.in_ok-settle_at.ensures.buffers.0) same.0 status free (segment_same mid new c.read_settled.ensures.line),
       came_behind g.D.Device.trace sum old mid new place tt c.read_settled.result (subst (λ z. WritesAround {T = Unit {0}} sum (Ok tt) z old mid) at c.in_ok-settle_at.ensures.buffers.0)
           (subst (λ z. g.D.Device.trace (device_of mid) ≡ after_all (settling sum old z) (g.D.Device.trace (device_of old))) at c.in_ok-settle_at.ensures.calls)
           (subst (λ z. held_at sum old z ≡ None) at c.in_ok-settle_at.ensures.answers.1.0)
           (λ below. ap (λ (l : Log g.row.D.Denot g.row.C.Denot). g.D.Device.trace l.config.device) (subst (λ z. z <ℤ pos (synced_end old) → mid ≡ old) at c.in_ok-settle_at.ensures.still below))
-          same.0 same.1 c.read_settled.ensures.ledger with_slots c.read_settled.ensures.trace,
+          same.0 status c.read_settled.ensures.trace,
     )
 
 pub returns-clause-answers : goal.returns-clause-answers

@@ -11,35 +11,39 @@ use Rattle.sled_store.specs.SegmentStates.{Machine}
 use Rattle.sled_core.specs.declared.iobuf.IoBuf.{IoBuf}
 use Rattle.sled_core.specs.declared.iobuf.SegmentPosition.{SegmentPosition}
 use Rattle.sled_core.specs.declared.logger.Log.{Log}
-use Rattle.sled_core.specs.Fits.{KeepsAll, buffers_of, current_of, held_len, ledger_sealed, machine_at, position_sealed, position_with, start_of, waiting_of}
+use Rattle.sled_core.specs.Fits.{KeepsAll, KeepsTickets, buffers_of, current_of, held_len, ledger_sealed, machine_at, position_sealed, position_with, start_of, waiting_of}
 use Rattle.sled_core.specs.Freeing.{Ledger}
 use Rattle.sled_core.specs.Keeps.{SamePosition, start_sealed}
-use Rattle.sled_core.specs.LogStatus.{LogStatus, rolled, status_of}
-use Rattle.sled_core.specs.Waiting.{holds_any}
+use Rattle.sled_core.specs.LogStatus.{LogStatus, status_of, status_sealed}
+use Rattle.sled_core.specs.Waiting.{holds_any, spans}
 use Rattle.sled_core.proofs.Holds.Facts.{current_facts}
 use Rattle.sled_core.proofs.Line.KeptCalls.{log_still}
 use Rattle.sled_core.proofs.Line.SealFirst.{sealed_ledger}
 use Rattle.sled_core.specs.Pooled.{PoolsWith, begun_sealed}
 use Rattle.sled_core.proofs.Line.Pools.{pools_still}
+use Rattle.sled_core.proofs.Line.Shows.{buffers_still}
+use Rattle.sled_core.proofs.Line.StatusSeen.{all_seen, next_start_seen}
 use Rattle.sled_core.proofs.logger.Log.roll_iobuf.Goals as goal
 
 pub returns-in-Some-clause-keeps : goal.returns-in-Some-clause-keeps
 returns-in-Some-clause-keeps g c = log_still g.D.Device.trace g.C.Checksum.sum_of c.args.self.now
 
 -- One of which the current buffer is sealed has one more.
-one_rolled : {D C : Type 0} (sum : List ℕ → ℕ) (old new : Log D C) → waiting_of new ≡ buffers_of sum old → start_of new ≡ start_sealed old
-    → ((m : Machine) → position_with new m ≡ position_sealed old m) → SamePosition old new → KeepsAll old new
-    → status_of new ≡ rolled (buffers_of sum old) (start_sealed old) (ledger_sealed old).machine (position_sealed old) (status_of old)
-one_rolled sum old new waits start with_slots position same =
+one_rolled : {D C : Type 0} (sum : List ℕ → ℕ) (old new : Log D C) → 0 < held_len old → waiting_of new ≡ buffers_of sum old → start_of new ≡ start_sealed old
+    → ((m : Machine) → position_with new m ≡ position_sealed old m) → SamePosition old new → KeepsTickets old new → KeepsAll old new → status_of new ≡ status_sealed (status_of old)
+one_rolled sum old new some waits start with_slots position tickets same =
     let machine : machine_at new ≡ (ledger_sealed old).machine = ap (λ (l : Ledger). l.machine) (sealed_ledger old new with_slots position.position same.account) in
+    let seen = ap spans waits ∙ all_seen old sum some in
+    let begins = start ∙ next_start_seen old in
     λ i. record {
-      position = λ m. with_slots m i;
+      position = position.position i;
       machine = machine i;
       reserved = position.reserved i;
       synced = same.synced i;
       noted = same.noted i;
-      waiting = waits i;
-      start = start i;
+      waiting = seen i;
+      start = begins i;
+      opens = tickets.opens i;
       fault = same.fault i;
       pins = same.pins i;
       account = same.account i;
@@ -64,7 +68,8 @@ returns-then-held-eq0-clause-status g c =
     let log = c.args.self.now in
     let begins = (current_facts log).begins in
     let none : holds_any (current_of log) ≡ false = grind (arith, nat_tests, count, empty, held, begins) in
-    rolled_by (holds_any (current_of log)) false _ (status_of log) (status_of log) none refl
+    let still : held_len log ≡ 0 = omega (arith, count, empty, held) in
+    (sym (buffers_still g.C.Checksum.sum_of log still), rolled_by (holds_any (current_of log)) false _ (status_of log) (status_of log) none refl)
 
 pub returns-then-held-eq0-clause-keeps : goal.returns-then-held-eq0-clause-keeps
 returns-then-held-eq0-clause-keeps g c = log_still g.D.Device.trace g.C.Checksum.sum_of c.args.self.now
@@ -93,9 +98,11 @@ returns-clause-status g c =
     let more : 0 < held_len c.args.self.now = omega (arith, count, some, held) in
     let did = c.in_ok-seal.ensures in
     let old = c.args.self.now in
-    let any : holds_any (current_of old) ≡ true = grind (arith, nat_tests, more) in
-    rolled_by (holds_any (current_of old)) true _ (status_of old) (status_of c.seal.new.self) any
-    (one_rolled g.C.Checksum.sum_of old c.seal.new.self did.waiting did.start did.position did.keeps.position did.same)
+    let any : holds_any (current_of old) ≡ true = grind (arith, nat_tests, more) in (
+      did.waiting,
+      rolled_by (holds_any (current_of old)) true _ (status_of old) (status_of c.seal.new.self) any
+          (one_rolled g.C.Checksum.sum_of old c.seal.new.self more did.waiting did.start did.position did.keeps.position did.keeps.tickets did.same),
+    )
 
 -- Where nothing is sealed no segment is begun.
 

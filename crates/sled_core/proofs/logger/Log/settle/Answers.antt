@@ -9,18 +9,19 @@ use Rattle.sled_store.specs.declared.config.RunningConfig.{RunningConfig}
 use Rattle.sled_store.proofs.Traces.ScriptLemmas.{performs_nothing}
 use Rattle.sled_core.specs.Causes.{OnDone}
 use Rattle.sled_core.specs.declared.logger.Log.{Log}
-use Rattle.sled_core.specs.Fits.{current_begin, synced_end}
+use Rattle.sled_core.specs.Fits.{current_begin, reserved_end, synced_end}
 use Rattle.sled_core.specs.Keeps.{KeepsLog}
-use Rattle.sled_core.specs.ReadBuffer.{IsUsedUpAt, settling}
+use Rattle.sled_core.specs.ReadBuffer.{IsUsedUpAt, LeavesUnsealed, settling}
 use Rattle.sled_core.specs.Waiting.{BufferStart}
 use Rattle.sled_core.proofs.Line.KeptCalls.{log_writing, spared_same, writing_further, writing_still}
 use Rattle.sled_core.proofs.Line.Advanced.{same_current}
-use Rattle.sled_core.proofs.Line.LogSpans.{same_buffers, same_with}
+use Rattle.sled_core.proofs.Line.LogSpans.{same_buffers}
 use Rattle.sled_core.proofs.Line.Outcomes.{answers_used, on_err, seal_answers, seal_not_done, seal_not_held}
 use Rattle.sled_core.proofs.Line.HeaderMarks.{none_begun, segment_same}
 use Rattle.sled_core.proofs.Line.SealsFor.{SealsFor, came_sealed, held_at_same, held_sound, holds_reserved, seals_current, seals_still, settling_same, writes_around}
 use Rattle.sled_core.proofs.Line.Settles.{held_stable, stable_written}
 use Rattle.sled_core.proofs.Line.Spared.{spared_at}
+use Rattle.sled_core.proofs.Line.Wrote.{status_same}
 use Rattle.sled_core.specs.Pooled.{PoolsSome}
 use Rattle.sled_core.proofs.Line.Pools.{pools_sealing, pools_some, pools_some_further, pools_still, pools_unchanged}
 use Rattle.sled_core.proofs.logger.Log.settle.Given.{Over}
@@ -53,7 +54,7 @@ returns-then-place-synced_end-clause-seals g c = record { still = λ _. refl; ap
 pub returns-then-place-synced_end-clause-buffers : goal.returns-then-place-synced_end-clause-buffers
 returns-then-place-synced_end-clause-buffers g c =
     let below : c.args.place < synced_end c.args.self.now = omega (arith, c.if-place-synced_end.true, c.synced_end.ensures.is) in
-    (record { still = λ _. (refl, refl, refl, λ m. refl); written = λ behind. absurd (omega (arith, ints, below, behind)); held = λ is. absurd is; some = tt; marked = none_begun g.C.Checksum.sum_of c.args.self.now c.args.self.now refl (λ h there. there) (λ f there. there) }, tt)
+    (record { still = λ _. (refl, refl); written = λ behind. absurd (omega (arith, ints, below, behind)); held = λ is. absurd is; some = tt; marked = none_begun g.C.Checksum.sum_of c.args.self.now c.args.self.now refl (λ h there. there) (λ f there. there) }, tt)
 
 -- The current buffer could not be sealed.
 
@@ -114,18 +115,20 @@ returns-in_err-seal-clause-seals g c =
 pub returns-in_err-seal-clause-buffers : goal.returns-in_err-seal-clause-buffers
 returns-in_err-seal-clause-buffers g c =
     let e = err_from_is_err_and c.from_residual.result c.from_residual.ensures.1 in
-    let buffers = same_buffers c.args.self.now c.seal.new.self c.in_err-seal.ensures.err.line in
-    let ledger = ledger_unchanged c.args.self.now c.seal.new.self c.in_err-seal.ensures.err in
-    let with_slots = same_with c.args.self.now c.seal.new.self c.in_err-seal.ensures.err.line c.seal.ensures.keeps.position.size in
+    let old = c.args.self.now in
+    let new = c.seal.new.self in
+    let same = c.in_err-seal.ensures.err in
+    let keeps = c.seal.ensures.keeps in
+    let stays : LeavesUnsealed old new = ((same_buffers old new same.line).0, status_same old new same.line (ledger_unchanged old new same) keeps.position keeps.tickets keeps.preserves.noted) in
     rw (e.1, e.2) (
       record {
         still = λ below. absurd (omega (arith, ints, below, c.if-place-synced_end.false, c.synced_end.ensures.is));
         written = λ _. tt;
         held = λ is. absurd (seal_not_held (Unit {0}) (Unit {0}) c.in_err-seal.field-0.0 _ c.in_err-seal.ensures.answers is);
-        some = inl (buffers.0, buffers.1, ledger, with_slots);
+        some = inl stays;
         marked = (let kept = segment_same c.args.self.now c.seal.new.self c.in_err-seal.ensures.err.line in none_begun g.C.Checksum.sum_of c.args.self.now c.seal.new.self kept.place kept.heads kept.fillings);
       },
-      inl ((buffers.0, buffers.1, ledger, with_slots), ap (λ (x : RunningConfig g.row.D.Denot g.row.C.Denot). g.D.Device.trace x.device) c.in_err-seal.ensures.err.config, λ _. c.in_err-seal.ensures.err.fault),
+      inl (stays, ap (λ (x : RunningConfig g.row.D.Denot g.row.C.Denot). g.D.Device.trace x.device) c.in_err-seal.ensures.err.config, λ _. c.in_err-seal.ensures.err.fault),
     )
 
 -- The buffer that has the place is sealed now.
@@ -229,10 +232,14 @@ returns-clause-seals g c =
 pub returns-clause-buffers : goal.returns-clause-buffers
 returns-clause-buffers g c =
     let did = c.write_around.ensures in
-    let r = c.write_around.result in (
-      writes_around g.D.Device.trace g.C.Checksum.sum_of c.args.place c.args.self.now c.if-place-current_begin.self (seals g c) c.write_around.new.self did.start.0 did.start.1 r
+    let old = c.args.self.now in
+    let new = c.write_around.new.self in
+    let r = c.write_around.result in
+    let keeps = returns-clause-keeps g c in
+    let below : c.args.place < reserved_end old = elim c.requires.reserved [ inl stable ↦ absurd (omega (arith, stable, c.if-place-synced_end.false, c.synced_end.ensures.is)) | inr lower ↦ lower ] in (
+      writes_around g.D.Device.trace g.C.Checksum.sum_of c.args.place old c.if-place-current_begin.self (seals g c) new did.start.0 did.start.1 keeps below r
           (omega (arith, c.if-place-synced_end.false, c.synced_end.ensures.is)) did.without did.same (held_sound r _ _ _ _ _ did.answers) did.segment,
-      on_err r _ _ (came_sealed g.D.Device.trace g.C.Checksum.sum_of c.args.place c.args.self.now c.if-place-current_begin.self (seals g c) c.write_around.new.self did.start.0 did.start.1) did.same,
+      on_err r _ _ (came_sealed g.D.Device.trace g.C.Checksum.sum_of c.args.place old c.if-place-current_begin.self (seals g c) new did.start.0 did.start.1 keeps below) did.same,
     )
 
 -- The mark that joins isn't above what was synced.

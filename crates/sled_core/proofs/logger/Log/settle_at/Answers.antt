@@ -1,15 +1,19 @@
 -- A place that isn't negative is settled where it is stable or was reserved.
-use Rattle.std.proofs.Common.{◌≡◌, ◌<ℤ◌, ◌⊎◌, inl, inr, subst, refl, arith, ℤ, of_z, pos, to_z, None, OnErr}
+use Rattle.std.proofs.Common.{◌≡◌, ◌<ℤ◌, ◌⊎◌, inl, inr, ap, subst, refl, arith, unsigned_abs, ℕ, ℤ, of_z, pos, to_z, None, Option, OnErr, Result, Err}
 use Rattle.std.specs.Int.{w64}
 use Rattle.std.proofs.lemmas.Int.{ints, to_z-of_z}
+use Rattle.std.specs.declared.io.Error.{Error as IoError}
+use Rattle.sled_codec.specs.declared.result.Error.{Error}
 use Rattle.sled_codec.specs.declared.result.Error.TheVariants.{NotReserved}
-use Rattle.sled_store.specs.Script.{after_all}
+use Rattle.sled_store.specs.Script.{Performs, after_all}
 use Rattle.sled_store.proofs.Traces.ScriptLemmas.{performs_nothing}
 use Rattle.sled_core.specs.Causes.{HeldAnswers, OnDone}
 use Rattle.sled_core.specs.Fits.{device_of, fault_of, reserved_end, synced_end}
 use Rattle.sled_core.specs.Fronts.{CameAround}
-use Rattle.sled_core.specs.ReadBuffer.{IsUsedUpAt, SealsAround, WritesAround, held_at, settling}
+use Rattle.sled_core.specs.ReadBuffer.{IsUsedUpAt, IsWrittenPlace, SealsAround, WritesAround, held_at, settling}
+use Rattle.sled_core.specs.Stable.{IsNotReserved}
 use Rattle.sled_core.proofs.Line.KeptCalls.{writing_still}
+use Rattle.sled_core.proofs.Line.Outcomes.{on_ok}
 use Rattle.sled_core.proofs.Line.CameFar.{around_none, still_around}
 use Rattle.sled_core.proofs.Line.MarksJoin.{joins_same}
 use Rattle.sled_core.proofs.Line.Reads.{above_zero, at_place, settle_answers}
@@ -33,6 +37,24 @@ returns-then-at-self-clause-keeps g c = writing_still g.D.Device.trace g.C.Check
 -- it is a place
 is_at : (g : given.Over) (c : goal.After-settle g) → pos c.unsigned_abs-at.result ≡ c.args.place
 is_at g c = at_place c.args.place _ c.unsigned_abs-at.result c.unsigned_abs-at.ensures.value (to_z-of_z w64 c.args.place c.ranges.place) (above_zero c.args.place c.ranges.place c.if-place-lt0.false)
+
+pub returns-clause-written : goal.returns-clause-written
+returns-clause-written g c =
+    on_ok c.settle.result _ _ (λ written up. subst (λ n. IsWrittenPlace c.settle.new.self n) (ap unsigned_abs (is_at g c)) written) c.settle.ensures.written
+
+-- what was reserved isn't refused
+reserved_place : {T : Type 0} (r : Result T Error) (held : Option ℕ) (used P : Type 0) (old now : Option IoError) (before after : ℕ) → HeldAnswers r held used old now before after → IsNotReserved r → P
+reserved_place (Err (NotReserved at)) held used P old now before after answers is = absurd answers
+reserved_place _ held used P old now before after answers is = absurd is
+
+pub returns-clause-unchanged : goal.returns-clause-unchanged
+returns-clause-unchanged g c = reserved_place c.settle.result _ _ _ _ _ _ _ c.settle.ensures.answers
+
+pub returns-clause-at_most : goal.returns-clause-at_most
+returns-clause-at_most g c =
+    let trace = g.D.Device.trace in
+    let old = c.args.self.now in
+    subst (λ z. Performs (settling g.C.Checksum.sum_of old z) (trace (device_of old)) (trace (device_of c.settle.new.self))) (is_at g c) c.settle.ensures.at_most
 
 pub returns-clause-calls : goal.returns-clause-calls
 returns-clause-calls g c =

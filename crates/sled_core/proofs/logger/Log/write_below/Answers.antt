@@ -11,6 +11,8 @@ use Rattle.sled_core.proofs.Line.HeaderMarks.{marked_same, none_begun, segment_s
 use Rattle.sled_core.proofs.Line.CameFar.{front_leaves}
 use Rattle.sled_core.proofs.Line.Outcomes.{all_err, on_err, on_ok, seal_answers, seal_not_held}
 use Rattle.sled_core.proofs.Line.SealFirst.{SealedFor, first_answers, first_calls, first_keeps, first_performs, sealed_already, sealed_first, sealed_past, some_below, unchanged_came, unchanged_performs}
+use Rattle.sled_core.proofs.Line.StatusSeen.{some_reserved}
+use Rattle.sled_core.proofs.Line.Wrote.{front_seen}
 use Rattle.sled_core.specs.Pooled.{PoolsSome}
 use Rattle.sled_core.proofs.Line.Pools.{pools_sealing, pools_some, pools_some_further, pools_still, pools_unchanged}
 use Rattle.sled_core.proofs.logger.Log.write_below.Given.{Over}
@@ -108,7 +110,14 @@ pub returns-clause-above : goal.returns-clause-above
 returns-clause-above g c = on_ok c.write_sealed_below.result _ _ ((ready g c).above c.write_sealed_below.new.self) c.write_sealed_below.ensures.above
 
 pub returns-clause-came : goal.returns-clause-came
-returns-clause-came g c = on_err c.write_sealed_below.result _ _ (λ front. inr ((ready g c).fronts c.write_sealed_below.new.self front)) c.write_sealed_below.ensures.front
+returns-clause-came g c =
+    let trace = g.D.Device.trace in
+    let sum = g.C.Checksum.sum_of in
+    let old = c.args.self.now in
+    let new = c.write_sealed_below.new.self in
+    on_err c.write_sealed_below.result _ _
+    (λ front. inr (front_seen trace sum c.args.to old new (some_reserved old c.args.to c.requires.reserved) (returns-clause-keeps g c) ((ready g c).fronts new front)))
+    c.write_sealed_below.ensures.front
 
 -- A segment is begun at most, before the buffers are written.
 

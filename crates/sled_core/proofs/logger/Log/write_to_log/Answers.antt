@@ -9,10 +9,12 @@ use Rattle.sled_core.specs.Fillings.{fillings_along}
 use Rattle.sled_core.specs.Heads.{heads_along}
 use Rattle.sled_core.specs.Among.{AreAmong}
 use Rattle.sled_core.specs.Account.{account_behind, account_of, written_account}
-use Rattle.sled_core.specs.Fits.{fillings_of, heads_of, ledger_of, line_of, position_with, segment_size_of, start_of, waiting_of, writing_pending}
+use Rattle.sled_core.specs.Fits.{fillings_of, heads_of, ledger_of, line_of, machine_at, segment_size_of, start_of, waiting_of, writing_pending}
 use Rattle.sled_core.specs.Ledger.{ledger_behind, written_ledger}
 use Rattle.sled_core.specs.inside.Turned.{mark_of, promoted, writing_in, written_now}
-use Rattle.sled_core.specs.Waiting.{BufferAt, one_pending, unwritten, without_pending}
+use Rattle.sled_core.specs.LogStatus.{ledger_in, position_over, status_of}
+use Rattle.sled_core.specs.Spans.{without_unheld}
+use Rattle.sled_core.specs.Waiting.{BufferAt, one_pending, spans, unwritten, without_pending}
 use Rattle.sled_core.proofs.Line.KeptCalls.{writing_still}
 use Rattle.sled_core.proofs.Line.Buffers.{calls_pending, unwritten_promoted}
 use Rattle.sled_core.proofs.Line.LogSpans.{same_buffers, written_starts}
@@ -20,6 +22,7 @@ use Rattle.sled_core.proofs.Line.LogWrites.{segments_written}
 use Rattle.sled_core.proofs.Line.Advanced.{same_synced}
 use Rattle.sled_core.proofs.Line.Outcomes.{either, on_err, on_ok}
 use Rattle.sled_core.proofs.Line.Pools.{pools_still}
+use Rattle.sled_core.proofs.Line.StatusSeen.{over_seen, waiting_held, without_seen}
 use Rattle.sled_core.proofs.Line.Wrote.{status_wrote, wrote_ok}
 use Rattle.sled_core.proofs.logger.Log.write_to_log.Given as given
 use Rattle.sled_core.proofs.logger.Log.write_to_log.Goals as goal
@@ -117,10 +120,17 @@ returns-clause-status g c =
     let r = c.ready_at-n.ensures.ready in
     let keeps = c.write_buffer.ensures.keeps in
     let start = (returns-clause-start g c).0 in
+    let s = status_of old in
+    let bs = waiting_of old in
+    let size : ℕ = segment_size_of old in
+    let lies = c.write_buffer.ensures.position (machine_at new) ∙ over_seen old (machine_at new) in
     wrote_ok c.write_buffer.result _ _ _ _ _ _
-    (λ line ledger fault.
-    status_wrote old new (one_pending c.args.i (waiting_of old)) (without_pending c.args.i (waiting_of old)) (start_of old) (ledger_of old) (position_with old)
-    (without_it g c line) start (ledger ∙ its_ledger g c) c.write_buffer.ensures.position keeps.position (fault ∙ sym c.in_default.is) keeps.preserves.noted)
+    (λ line ledger fault. (
+      without_it g c line,
+      status_wrote old new (without_unheld s.opens c.args.i s.waiting) s.start (ledger_behind size (one_pending c.args.i bs) (ledger_in s)) (position_over size s)
+          (ap spans (without_it g c line) ∙ without_seen s.opens c.args.i bs (waiting_held old g.C.Checksum.sum_of)) start (ledger ∙ its_ledger g c) lies keeps.tickets keeps.position
+          keeps.preserves.noted (fault ∙ sym c.in_default.is),
+    ))
     (c.write_buffer.ensures.line r.segment r.among) (c.write_buffer.ensures.ledger r.segment r.among) c.write_buffer.ensures.answers
 
 pub returns-clause-err : goal.returns-clause-err

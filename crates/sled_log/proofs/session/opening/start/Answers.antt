@@ -58,21 +58,23 @@ returns-in-Ok-clause-starts g c = λ H A f at.
     let sized = sym begins.sized in
     record {
       log = λ i. Some (record {
-        position = begins.position i;
-        synced = synced i;
-        noted = begins.noted i;
-        end = end i;
-        waiting = waiting i;
-        start = begins.start i;
+        status = record {
+          position = begins.position i;
+          machine = begins.machine i;
+          reserved = end i;
+          synced = synced i;
+          noted = begins.noted i;
+          waiting = waiting i;
+          start = begins.start i;
+          opens = empty i;
+          fault = begins.fault i;
+          pins = begins.pins i;
+          account = begins.account i;
+        };
         begun = pages i;
-        fault = begins.fault i;
-        outstanding = empty i;
         tickets = [];
         given_up = [];
         heads = heads_on size len s;
-        pins = begins.pins i;
-        machine = begins.machine i;
-        account = begins.account i;
       });
       due = refl;
       at = record {

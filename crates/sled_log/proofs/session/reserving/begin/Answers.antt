@@ -52,7 +52,7 @@ returns-in-Ok-clause-step g c = λ none k at asked.
     begin_does view sum old k c.hold_manifest.new.opened c.hold_manifest.result
     (room_tried view sum old mid c.hold_manifest.new.opened does.Skip manifest_page blank_manifest c.hold_manifest.result k room
     (manifest_tried view sum mid c.hold_manifest.new.opened log does.Skip manifest_page blank_manifest c.in-Ok.reservation c.pin-guard.result c.hold_manifest.result k
-    (pin_taken trace sum mid.log c.pin-guard.new.self taken c.pin-guard.ensures.keeps) came came.behind.machine
+    (pin_taken trace sum mid.log c.pin-guard.new.self taken c.pin-guard.ensures.keeps) came
     c.hold_manifest.ensures (room.due ∙ none) (room_at _ sum old mid k room at) refl refl (manifest_inline mid.log) (begin_idle view sum old k asked)))
 
 -- A log that kept no place is as it was, and the pin went back.
@@ -86,4 +86,4 @@ returns-in-Err-reserve-clause-step g c = λ none k at asked.
     begin_does view sum old k _ _
     (room_tried view sum old mid c.give_back.new.opened does.Skip manifest_page blank_manifest c.give_back.result k room
     (given_tried view sum mid c.give_back.new.opened log does.Skip manifest_page blank_manifest k e c.give_back.result gives
-    (failed_tried view sum mid log does.Skip manifest_page blank_manifest k (room.due ∙ none) (room_at _ sum old mid k room at) made e (manifest_written mid.log) came (λ ready. ready.machine))))
+    (failed_tried view sum mid log does.Skip manifest_page blank_manifest k (room.due ∙ none) (room_at _ sum old mid k room at) made e (manifest_written mid.log) came)))

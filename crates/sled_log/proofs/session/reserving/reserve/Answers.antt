@@ -40,10 +40,9 @@ returns-in-Ok-clause-step g c = λ none k at may.
       seen = c.reserve.ensures.seen;
       left = tt;
     }) in
-    let slots = came.behind.machine in
     room_tried view sum old mid c.hold.new.opened c.args.kind c.args.page bytes c.hold.result k room
     (held_tried view sum mid c.hold.new.opened log c.args.kind c.args.page bytes c.in-Ok.reservation c.pin-guard.result c.hold.result k
-    (pin_taken trace sum mid.log c.pin-guard.new.self taken c.pin-guard.ensures.keeps) came slots
+    (pin_taken trace sum mid.log c.pin-guard.new.self taken c.pin-guard.ensures.keeps) came
     c.hold.ensures.held (room.due ∙ none) (room_at _ sum old mid k room at) c.requires.kind
     c.in_default.ensures.enough.2 (hold-requires-clause-message g c.before)
     (room_may old mid k c.args.kind c.args.page room may))
@@ -80,4 +79,4 @@ returns-in-Err-reserve-clause-step g c = λ none k at may.
     let made = went_back trace sum mid c.give_back.new.opened log e c.give_back.result gives (pin_taken trace sum mid.log c.pin-guard.new.self taken c.pin-guard.ensures.keeps) came.keeps came.seen in
     room_tried view sum old mid c.give_back.new.opened c.args.kind c.args.page bytes c.give_back.result k room
     (given_tried view sum mid c.give_back.new.opened log c.args.kind c.args.page bytes k e c.give_back.result gives
-    (failed_tried view sum mid log c.args.kind c.args.page bytes k (room.due ∙ none) (room_at _ sum old mid k room at) made e written came (λ ready. ready.machine)))
+    (failed_tried view sum mid log c.args.kind c.args.page bytes k (room.due ∙ none) (room_at _ sum old mid k room at) made e written came))

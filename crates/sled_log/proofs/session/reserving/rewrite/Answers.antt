@@ -32,7 +32,7 @@ returns-in-Ok-clause-step g c = λ none k at asked.
     let ticket = subst (λ z. (item : List ℕ) → Awaits log c.in-Ok.reservation (message_rewriting c.pin-guard.new.self c.args.page z item)) (to_z-of_z w64 c.in-Some.blob fits) c.in-Ok.ensures.ticket in
     rewrite_does view sum old c.args.page c.hold.new.opened c.hold.result k at
     (held_again view sum old mid k c.args.page c.room_for.ensures.room at none log came c.pin-guard.new.self c.pin-guard.ensures.taken
-    c.in-Some.blob (sym (c.blob_of.ensures k at) ∙ c.in-Some.is) c.in-Ok.reservation ticket c.in-Ok.ensures.own c.in-Ok.ensures.answers c.in-Ok.ensures.behind c.rewrite_blob_pointer.ensures.others c.in-Ok.ensures.behind.machine
+    c.in-Some.blob (sym (c.blob_of.ensures k at) ∙ c.in-Some.is) c.in-Ok.reservation ticket c.in-Ok.ensures.own c.in-Ok.ensures.answers c.in-Ok.ensures.behind c.rewrite_blob_pointer.ensures.others
     c.hold.new.opened c.pin-guard.result c.hold.result c.hold.ensures.held
     c.in_default-room_for.ensures.enough.2 (hold-requires-clause-message g c.before) (rewrite_may view old k c.args.page asked).1)
 

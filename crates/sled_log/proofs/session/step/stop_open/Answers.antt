@@ -30,21 +30,23 @@ returns-clause-step g c = λ k at free.
           acknowledged = k.acknowledged;
           floor = k.floor;
           log = Some (record {
-            position = did.keeps.position.position i;
-            synced = did.rest.synced i;
-            noted = did.rest.noted i;
-            end = did.rest.reserved i;
-            waiting = spans (did.rest.waiting i);
-            start = did.rest.start i;
+            status = record {
+              position = did.keeps.position.position i;
+              machine = did.rest.machine i;
+              reserved = did.rest.reserved i;
+              synced = did.rest.synced i;
+              noted = did.rest.noted i;
+              waiting = spans (did.rest.waiting i);
+              start = did.rest.start i;
+              opens = did.keeps.tickets.opens i;
+              fault = did.rest.fault i;
+              pins = did.rest.pins i;
+              account = did.rest.account i;
+            };
             begun = length opened.pages.items;
-            fault = did.rest.fault i;
-            outstanding = did.keeps.tickets.opens i;
             tickets = k.tickets;
             given_up = k.given_up;
             heads = k.heads;
-            pins = did.rest.pins i;
-            machine = did.rest.machine i;
-            account = did.rest.account i;
           });
           due = shown_due opened.due;
         }),

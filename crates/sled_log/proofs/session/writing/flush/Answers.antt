@@ -14,7 +14,8 @@ use Rattle.sled_core.proofs.PublicLaws.{written_past}
 use Rattle.sled_log.specs.RunPhases.{seen, shown_due, view_by}
 use Rattle.sled_log.specs.RunStates.{LogView}
 use Rattle.sled_log.specs.WriteSteps.{stable_from}
-use Rattle.sled_log.proofs.Sessions.Writing.{fails_to, flush_in, flush_out, has_written, holding_seen, if_held, keeps_failing, kept, kept_or_none, made_seen, put_writing, some_reserved, stable_seen, still_open, whole_of, why_of, writes_seen}
+use Rattle.sled_core.proofs.Line.StatusSeen.{some_reserved}
+use Rattle.sled_log.proofs.Sessions.Writing.{fails_to, flush_in, flush_out, has_written, holding_seen, if_held, keeps_failing, kept, kept_or_none, made_seen, put_writing, stable_seen, still_open, whole_of, why_of, writes_seen}
 use Rattle.sled_log.proofs.session.writing.flush.Goals as goal
 use Rattle.sled_log.proofs.Sessions.BegunHeads.{only_begun}
 
@@ -32,11 +33,11 @@ returns-in-Ok-clause-step g c = λ none k at free.
     let l : LogView = seen opened k.tickets k.given_up k.heads in
     let H = k.history in
     let to = reserved_end old in
-    let some : current_begin old < to → 0 < held_len old = some_reserved old sum begun k.tickets k.given_up k.heads to (omega arith) in
+    let some : current_begin old < to → 0 < held_len old = some_reserved old to (omega arith) in
     let fast : HoldsFast trace sum old H = inr (k.acknowledged, k.floor, at.unmarked, at.fits) in
     let past = fits_stable trace sum old H k.acknowledged k.floor at.unmarked at.fits in
     let answers = c.in-Ok.ensures.answers in
-    let ends : synced_end new ≡ stable_from to l = sym c.in-Ok.ensures.synced.stable ∙ stable_seen old sum begun k.tickets k.given_up k.heads to some new trace (view old.config.device) (view new.config.device) H k.acknowledged k.floor due put c.in-Ok.ensures.status in
+    let ends : synced_end new ≡ stable_from to l = sym c.in-Ok.ensures.synced.stable ∙ stable_seen old sum begun k.tickets k.given_up k.heads to some new trace (view old.config.device) (view new.config.device) H k.acknowledged k.floor due put c.in-Ok.ensures.status.1 in
     let settled : IsKept sum (account_of new).mark (account_of new).durable (segment_size_of old) new.segments.first.site new.segments.first.buffer.written_len (state_of (trace (device_of new))) (logged H) =
     subst (λ n. IsKept sum (account_of new).mark (account_of new).durable n new.segments.first.site new.segments.first.buffer.written_len (state_of (trace (device_of new))) (logged H)) put.size (c.in-Ok.ensures.records H fast) in
     let reached : ℕ = max k.acknowledged (end_below (stable_end new) H) in
@@ -46,7 +47,7 @@ returns-in-Ok-clause-step g c = λ none k at free.
       next = kept trace sum opened new k reached;
       step = record {
         written = has_written old sum begun k.tickets k.given_up k.heads to some new trace (view old.config.device) (view new.config.device) H k.acknowledged k.floor due put (whole_of trace sum old k.given_up k.heads H k.acknowledged k.floor at.unmarked at.given_up at.heads at.fits answers.2) c.in-Ok.grown answers.2 answers.3 answers.1 answers.0
-            made answers.4 c.in-Ok.ensures.answer c.in-Ok.ensures.synced.whole past c.in-Ok.ensures.status;
+            made answers.4 c.in-Ok.ensures.answer c.in-Ok.ensures.synced.whole past c.in-Ok.ensures.status.1;
         all = λ i d lt. let low = written_past trace sum new H (c.in-Ok.ensures.records H fast) i d lt in omega (arith, low, ends);
         site = new.segments.first.site;
         from = new.segments.first.buffer.written_len;
@@ -55,7 +56,7 @@ returns-in-Ok-clause-step g c = λ none k at free.
         durable = (account_of new).durable;
         marks = λ v is.
             let same = same_Some _ v is in
-            (ap (λ (x : LogView). x.account.mark) (sym same), ap (λ (x : LogView). x.account.durable) (sym same));
+            (ap (λ (x : LogView). x.status.account.mark) (sym same), ap (λ (x : LogView). x.status.account.durable) (sym same));
         kept = settled;
       };
       at = λ own. still_open trace sum opened new k reached at (only_begun sum opened.log new c.flush.ensures.buffers.0.marked) put none
@@ -78,7 +79,7 @@ returns-in-Err-clause-step g c = λ none k at free.
     let l : LogView = seen opened k.tickets k.given_up k.heads in
     let H = k.history in
     let to = reserved_end old in
-    let some : current_begin old < to → 0 < held_len old = some_reserved old sum begun k.tickets k.given_up k.heads to (omega arith) in
+    let some : current_begin old < to → 0 < held_len old = some_reserved old to (omega arith) in
     let device = view old.config.device in
     let now = view new.config.device in
     let held = holding_below sum old to in

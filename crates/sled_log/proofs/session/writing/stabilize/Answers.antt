@@ -9,7 +9,7 @@ use Rattle.sled_core.specs.Running.{end_below}
 use Rattle.sled_core.specs.Stable.{target_for}
 use Rattle.sled_core.proofs.Holds.ReachLemmas.{fits_stable}
 use Rattle.sled_log.specs.RunPhases.{DoesHere, shown_due, view_by}
-use Rattle.sled_log.proofs.Sessions.NotedSeen.{target_written}
+use Rattle.sled_core.proofs.Line.StableTargets.{target_written}
 use Rattle.sled_log.proofs.Sessions.Writing.{has_written, holding_seen, kept, over, put_writing, stable_seen, still_open, whole_of}
 use Rattle.sled_log.proofs.Sessions.MadeStable.{held_seen, some_known, stabilizing_seen, stable_failed}
 use Rattle.sled_log.specs.declared.session.Phase.TheVariants as phase
@@ -33,7 +33,7 @@ returns-in-Ok-clause-step g c = λ none k at free.
     let H = k.history in
     let to = target_for old place in
     let answers = c.in-Ok.ensures.answers in
-    let status = c.in-Ok.ensures.status in
+    let status = c.in-Ok.ensures.status.1 in
     let fits = c.in-Ok.ensures.acknowledges H k.acknowledged k.floor at.unmarked at.fits in
     let some : current_begin old < to → 0 < held_len old = some_known old sum begun k.tickets k.given_up k.heads place answers.0 in
     let past = fits_stable trace sum old H k.acknowledged k.floor at.unmarked at.fits in

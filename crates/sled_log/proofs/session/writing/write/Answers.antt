@@ -1,19 +1,21 @@
 -- A buffer that nothing holds up is written, unless memory is wanting, the device fails, or the log keeps a failure.
-use Rattle.std.proofs.Common.{◌≡◌, ◌∙◌, ◌≤◌, ◌&&◌, inl, inr, nat_le, true, false, None, Some, ap, sym, refl, arith, length}
+use Rattle.std.proofs.Common.{◌≡◌, ◌∙◌, ◌≤◌, ◌&&◌, inl, inr, nat_le, true, false, None, Option, Some, ap, sym, refl, arith, length}
 use Rattle.std.proofs.lemmas.Bool.Decides.{nat_tests}
 use Rattle.sled_core.specs.Account.{account_of}
 use Rattle.sled_core.specs.Fits.{fault_of, ledger_of, machine_at, position_of, segment_size_of, waiting_of}
 use Rattle.sled_core.specs.Fronts.{synced_writes, syncs}
-use Rattle.sled_core.specs.Ledger.{ledger_behind}
-use Rattle.sled_core.specs.LogStatus.{LogStatus}
-use Rattle.sled_core.specs.Waiting.{one_pending, spans}
+use Rattle.std.specs.declared.io.Error.{Error as IoError}
+use Rattle.sled_core.specs.Waiting.{spans}
+use Rattle.sled_core.specs.LogStatus.{failing, position_over, status_behind, status_of, wrote_one}
+use Rattle.sled_core.specs.Spans.{without_unheld}
 use Rattle.sled_log.specs.RunPhases.{seen, shown_due, view_by}
-use Rattle.sled_log.specs.RunSlots.{position_over}
-use Rattle.sled_log.specs.RunStates.{LogView, opens, pending_in_view, without_unheld}
+use Rattle.sled_log.specs.RunStates.{LogView, pending_in_view}
 use Rattle.sled_log.specs.declared.session.command.Refusal.TheVariants as why
 use Rattle.sled_log.proofs.Sessions.BegunHeads.{begun_none}
-use Rattle.sled_log.proofs.Sessions.SlotsSeen.{over_seen, step_failed}
-use Rattle.sled_log.proofs.Sessions.Writing.{held_none, index_fits, keeps_failing, kept, kept_or_none, leaves, never_held, pending_seen, put_writing, shows_waiting, spared, still_open, unsynced, waiting_held, whole_of, why_of, without_seen}
+use Rattle.sled_core.proofs.Line.StatusSeen.{over_seen, waiting_held, without_seen}
+use Rattle.sled_core.proofs.Line.Wrote.{status_left, status_unwritten}
+use Rattle.sled_log.proofs.Sessions.FailedSteps.{step_failed}
+use Rattle.sled_log.proofs.Sessions.Writing.{held_none, index_fits, keeps_failing, kept, kept_or_none, never_held, pending_seen, put_writing, shows_waiting, spared, stands_left, still_open, unsynced, whole_of, why_of}
 use Rattle.sled_log.proofs.session.writing.write.Goals as goal
 
 -- an index that isn't refused fits
@@ -38,9 +40,7 @@ returns-in-Ok-clause-step g c = λ none k at free.
     let begun = length opened.pages.items in
     let l : LogView = seen opened k.tickets k.given_up k.heads in
     let answers = c.in-Ok.ensures.answers in
-    let left : spans (waiting_of new) ≡ without_unheld (opens l) c.args.i l.waiting = ap (λ (s : LogStatus). spans s.waiting) c.in-Ok.ensures.status ∙ without_seen (opens l) c.args.i (waiting_of old) (waiting_held old sum begun k.tickets k.given_up k.heads) in
-    let lies : position_of new ≡ position_over (segment_size_of old) l (machine_at new) = c.write_to_log.ensures.start.1 (machine_at new) ∙ over_seen old begun k.tickets k.given_up k.heads (machine_at new) in
-    let ledger : ledger_of new ≡ ledger_behind (segment_size_of old) (one_pending c.args.i (waiting_of old)) (ledger_of old) = λ i. record { machine = (c.in-Ok.ensures.status i).machine; account = (c.in-Ok.ensures.status i).account } in
+    let is : status_of new ≡ failing None (status_behind c.args.i old) = c.in-Ok.ensures.status.1 ∙ ap (λ (f : Option IoError). failing f (status_behind c.args.i old)) answers.0 in
     record {
       not_refused = refl;
       next = kept trace sum opened new k k.acknowledged;
@@ -48,7 +48,7 @@ returns-in-Ok-clause-step g c = λ none k at free.
         answers.0,
         record { buffers = waiting_of old; shown = shows_waiting old sum begun k.tickets k.given_up k.heads (whole_of trace sum old k.given_up k.heads k.history k.acknowledged k.floor at.unmarked at.given_up at.heads at.fits answers.0); made = c.in-Ok.ensures.calls },
         answers.2,
-        leaves old sum begun k.tickets k.given_up k.heads trace new (view old.config.device) (view new.config.device) k.history k.acknowledged k.floor (shown_due opened.due) put k.acknowledged (without_unheld (opens l) c.args.i l.waiting) l.start None (ledger_behind (segment_size_of old) (one_pending c.args.i (waiting_of old)) (ledger_of old)) (position_over (segment_size_of old) l) left c.write_to_log.ensures.start.0 answers.1 ledger lies,
+        stands_left old sum begun k.tickets k.given_up k.heads trace new (view old.config.device) (view new.config.device) k.history k.acknowledged k.floor (shown_due opened.due) put k.acknowledged (failing None (status_behind c.args.i old)) is,
       );
       at = λ own. still_open trace sum opened new k k.acknowledged at (begun_none sum old new (record { heads = c.write_to_log.ensures.heads; fillings = c.write_to_log.ensures.fillings })) put none (c.write_to_log.ensures.keeps.preserves.fits k.history k.acknowledged k.floor at.unmarked at.fits);
       crash = λ own. c.write_to_log.ensures.keeps.preserves.goes_on.crash k.history k.acknowledged k.floor at.unmarked at.fits;
@@ -71,7 +71,7 @@ returns-in-Err-clause-step g c = λ none k at free.
     let due = shown_due opened.due in
     let device = view old.config.device in
     let now = view new.config.device in
-    let lies : position_of new ≡ position_over (segment_size_of old) l (machine_at new) = c.write_to_log.ensures.start.1 (machine_at new) ∙ over_seen old begun k.tickets k.given_up k.heads (machine_at new) in
+    let lies : position_of new ≡ position_over (segment_size_of old) l.status (machine_at new) = c.write_to_log.ensures.start.1 (machine_at new) ∙ over_seen old (machine_at new) in
     let answers = held_none (Unit {0}) c.in-Err.e (fault_of old) (fault_of new) device.failures now.failures c.in-Err.ensures.answers in
     record {
       not_refused = refl;
@@ -96,7 +96,9 @@ returns-in-Err-clause-step g c = λ none k at free.
                     whole = λ fine. spared (Unit {0}) c.in-Err.e (fault_of old) (fault_of new) device.failures now.failures device.trace now.trace sound fine c.in-Err.ensures.answers c.in-Err.ensures.refused;
                     held = never_held (Unit {0}) c.in-Err.e (fault_of old) (fault_of new) device.failures now.failures _ c.in-Err.ensures.answers;
                   },
-                  leaves old sum begun k.tickets k.given_up k.heads trace new device now k.history k.acknowledged k.floor due put k.acknowledged l.waiting l.start (fault_of new) (ledger_of old) (position_over (segment_size_of old) l) (ap spans not.1) c.write_to_log.ensures.start.0 refl not.3 lies,
+                  stands_left old sum begun k.tickets k.given_up k.heads trace new device now k.history k.acknowledged k.floor due put k.acknowledged (failing (fault_of new) l.status)
+                      (status_left old new l.status.waiting l.status.start (ledger_of old) (position_over (segment_size_of old) l.status) (ap spans not.1) c.write_to_log.ensures.start.0 not.3 lies keeps.tickets keeps.position keeps.preserves.noted
+                      ∙ ap (failing (fault_of new)) (status_unwritten old)),
                 )
                 | inr wrote ↦ inr (
                   record {
@@ -111,8 +113,11 @@ returns-in-Err-clause-step g c = λ none k at free.
                   wrote.account,
                   machine_at new,
                   step_failed old begun k.tickets k.given_up k.heads trace new (machine_at old) (machine_at old) now.trace refl put.size refl wrote.failed wrote.way,
-                  leaves old sum begun k.tickets k.given_up k.heads trace new device now k.history k.acknowledged k.floor due put k.acknowledged (without_unheld (opens l) c.args.i l.waiting) l.start (fault_of new) (record { machine = machine_at new; account = account_of new }) (position_over (segment_size_of old) l)
-                      (ap spans wrote.waiting ∙ without_seen (opens l) c.args.i (waiting_of old) (waiting_held old sum begun k.tickets k.given_up k.heads)) c.write_to_log.ensures.start.0 refl refl lies,
+                  stands_left old sum begun k.tickets k.given_up k.heads trace new device now k.history k.acknowledged k.floor due put k.acknowledged
+                      (failing (fault_of new) (wrote_one (segment_size_of old) c.args.i (ledger_of new) l.status))
+                      (status_left old new (without_unheld l.status.opens c.args.i l.status.waiting) l.status.start (ledger_of new) (position_over (segment_size_of old) l.status)
+                      (ap spans wrote.waiting ∙ without_seen l.status.opens c.args.i (waiting_of old) (waiting_held old sum)) c.write_to_log.ensures.start.0 refl lies
+                      keeps.tickets keeps.position keeps.preserves.noted),
                 )
               ];
             }))

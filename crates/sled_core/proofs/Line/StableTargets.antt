@@ -1,4 +1,4 @@
--- Up to where a log has to write for a place to be stable, as it is seen.
+-- Up to where a log has to write for a place to be stable.
 use Rattle.std.proofs.Common.{◌≡◌, ◌≤◌, ◌<ℤ◌, ℕ, ℤ, pos, negsuc, List, arith, sym, subst, inl, inr}
 use Rattle.std.specs.List.{Contains}
 use Rattle.std.proofs.lemmas.Bool.{cases_lt}
