@@ -133,6 +133,7 @@ pub mod Spans
 pub mod Spared
 pub mod StableTargets
 pub mod StandsThere
+pub mod StatusLaws
 pub mod StatusSeen
 pub mod Stays
 pub mod StepAlong

@@ -84,9 +84,10 @@ pub use Rattle.sled_core.proofs.Holds.ReachLemmas.{fits_acknowledged, inline_nam
 pub use Rattle.sled_core.proofs.Line.WithoutBlob.{alone_answers, alone_keeps, alone_same, without_further, without_none}
 pub use Rattle.sled_core.proofs.Line.ReservedInline.{ReservesInline, comes_inline, inline_keeps, inline_message, not_in_blob, refused_inline}
 pub use Rattle.sled_core.proofs.Line.Shows.{buffers_still as shows_empty, buffers_long as shows_long}
--- A log is as its status tells it: where the next record may begin with any slots (`over_seen`), where the current buffer and the next record begin once what
--- begins below a place, or has it, is sealed, and what a reservation seals.
+-- A log is as its status tells it, and what a call leaves of it part by part follows from where it says that the log stands: where the current buffer begins, slots
+-- and marks, and where the next record may begin with slots left as any machine has them.
 pub use Rattle.sled_core.proofs.Line.ReadySeen.{machine_seen, shows_behind, start_with_seen, waiting_seen}
+pub use Rattle.sled_core.proofs.Line.StatusLaws.{behind_says, below_says, front_says, rolled_says, sealed_says, written_says}
 pub use Rattle.sled_core.proofs.Line.StatusSeen.{around_seen, below_seen, ledger_around_seen, ledger_below_seen, over_seen, sealed_around_seen, sealed_seen, shows_current}
 pub use Rattle.sled_core.proofs.Line.StatusSeen.{start_around_seen, start_seen}
 
