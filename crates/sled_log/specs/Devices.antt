@@ -43,10 +43,6 @@ RefusedIn true (command.Stop n) w = w ≡ None
 RefusedIn true (command.Crash choice) w = w ≡ None
 RefusedIn true c w = Unit {0}
 
--- the same by whether it is barred
-abbrev pub RefusedBy : Bool → Bool → Command → Option Refusal → Type 0
-RefusedBy barred was c w = MatchBool barred (w ≡ Some why.Stopped) (RefusedIn was c w)
-
 module _ (sum : List ℕ → ℕ) (size : ℕ) where
   -- What a command is answered and does to the device, by whether a log is open. While none is, all but an opening, a stop and a crash are refused: an
   -- opening that meets damage has synced the device, and wrote nothing. While one is open, the calls of the log are added to what was asked of the device.
@@ -73,6 +69,12 @@ module _ (sum : List ℕ → ℕ) (size : ℕ) where
     pub stops : KeepsToStop new.trace new.is_stopped
     pub handles : Handles was c came old new
     pub leads : Leads (opens_after was c came) new
+
+  -- A command that was answered so did this to a device that is never stopped, and what is claimed of where that leads holds (`Session::carry_out`).
+  pub record LeavesOn (was : Bool) (old : DeviceView) (c : Command) (r : Reply) (Leads : Bool → DeviceView → Type 0) : Type 0 where
+    pub new : DeviceView
+    pub touches : Touches was c r old new
+    pub leads : Leads (opens_after was c r) new
 
   -- These commands are answered by these replies, one for each, and this is what they do to the device, one behind another.
   unfoldable pub Devices : Bool → DeviceView → List Command → List Reply → (Bool → DeviceView → Type 0) → Type 0

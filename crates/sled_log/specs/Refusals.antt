@@ -73,6 +73,12 @@ abbrev pub is_crash : Command → Bool
 is_crash (command.Crash choice) = true
 is_crash _ = false
 
+-- a command asks the device for no stop and no crash
+abbrev pub is_for_log : Command → Bool
+is_for_log (command.Stop n) = false
+is_for_log (command.Crash choice) = false
+is_for_log _ = true
+
 -- where a run stands there
 abbrev pub refusal_for : RunState → Command → Option Refusal
 refusal_for a c = when (a.device.is_stopped && not (is_crash c)) why.Stopped (refused_by_log a.history a.log c)

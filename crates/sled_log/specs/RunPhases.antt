@@ -36,7 +36,7 @@ use Rattle.sled_log.specs.Made.{IsMade, MayJoin}
 use Rattle.sled_log.specs.Refusals.{reason_of, refusal_for}
 use Rattle.sled_log.specs.RunStates.{DeviceView, DueMark, LogView, RunState, ShowsActive, has_page, in_batch, open_messages, top, MarkAt}
 use Rattle.sled_log.specs.TicketSteps.{own_of}
-use Rattle.sled_log.specs.Runs.{Carries, IsOwn, IsStep, StaysWithin, StepBy}
+use Rattle.sled_log.specs.Runs.{Carries, CarriesOn, IsOwn, IsStep, StaysWithin, StepBy}
 
 -- What is seen of what code has.
 
@@ -229,6 +229,19 @@ abbrev pub CarriesHere : {D C : Type 0} → (D → DeviceView) → (List ℕ →
 CarriesHere view sum phase command result =
     (k : Unstored) → IsAt (traces view) sum phase k → refusal_for (stands view phase k) command ≡ None → DoesHere view sum phase command result k
 
+-- A command is answered in a phase: it is refused exactly where a reason fits, with the first one, and comes to a step. What holds there holds in the next phase,
+-- unless what is foreign was read or left, and at each moment on the way a crash leaves what can be recovered.
+pub record AnswersAt {D C : Type 0} (view : D → DeviceView) (sum : List ℕ → ℕ) (phase : Phase D C) (command : Command) (result : Phase D C × Reply) (k : Unstored) : Type 0 where
+  pub refused : reason_of result.1 ≡ refusal_for (stands view phase k) command
+  pub next : Unstored
+  pub step : IsStep sum (size_of phase) (stands view phase k) command result.1 (device_in view result.0) (stands view result.0 next)
+  pub at : IsOwn sum (size_of phase) (state_of (device_in view phase).trace) command result.1 → IsAt (traces view) sum result.0 next
+  pub crash : IsOwn sum (size_of phase) (state_of (device_in view phase).trace) command result.1
+      → StaysWithin sum (size_of phase) (stands view phase k) command (device_in view result.0) (stands view result.0 next)
+
+abbrev pub AnswersFrom : {D C : Type 0} → (D → DeviceView) → (List ℕ → ℕ) → Phase D C → Command → Phase D C × Reply → Type 0
+AnswersFrom view sum phase command result = (k : Unstored) → IsAt (traces view) sum phase k → AnswersAt view sum phase command result k
+
 -- Where a run stands in a phase, with what holds there.
 abbrev pub StandsIn : {D C : Type 0} → (D → DeviceView) → (List ℕ → ℕ) → Phase D C → RunState → Type 0
 StandsIn view sum phase a = (k : Unstored) × (a ≡ stands view phase k) × IsAt (traces view) sum phase k
@@ -237,6 +250,11 @@ StandsIn view sum phase a = (k : Unstored) × (a ≡ stands view phase k) × IsA
 abbrev pub AnswersIn : {D C : Type 0} → (D → DeviceView) → (List ℕ → ℕ) → Phase D C → Command → Phase D C × Reply → Type 0
 AnswersIn view sum phase command result =
     (a : RunState) → StandsIn view sum phase a → Carries sum (size_of phase) a command result.1 (StandsIn view sum result.0)
+
+-- The same on a device that is never stopped.
+abbrev pub CarriesOnIn : {D C : Type 0} → (D → DeviceView) → (List ℕ → ℕ) → Phase D C → Command → Phase D C × Reply → Type 0
+CarriesOnIn view sum phase command result =
+    (a : RunState) → StandsIn view sum phase a → CarriesOn sum (size_of phase) a command result.1 (StandsIn view sum result.0)
 
 -- the trace goes on, with the same sizes and the same checksum
 pub record RunsOn {D C : Type 0} (trace : D → Trace) (old new : RunningConfig D C) : Type 0 where

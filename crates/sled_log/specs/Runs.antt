@@ -154,6 +154,17 @@ module _ (sum : List ℕ → ℕ) (size : ℕ) where
     pub own : IsOwn (state_of a.device.trace) c came → KeepsOwn after
     pub leads : IsOwn (state_of a.device.trace) c came → Leads after
 
+  -- A command was carried out on a device that is never stopped, from where a run stands, and was answered as it came (`Session::carry_out`). Else this is `Carries`.
+  pub record CarriesOn (a : RunState) (c : Command) (r : Reply) (Leads : RunState → Type 0) : Type 0 where
+    pub refused : reason_of r ≡ refusal_for a c
+    pub new : DeviceView
+    pub later : IsLater a.device.trace new.trace
+    pub after : RunState
+    pub step : IsStep a c r new after
+    pub crash : IsOwn (state_of a.device.trace) c r → StaysWithin a c new after
+    pub own : IsOwn (state_of a.device.trace) c r → KeepsOwn after
+    pub leads : IsOwn (state_of a.device.trace) c r → Leads after
+
   -- These commands are answered by these replies, from where a run stands on. What is claimed of each place between two commands holds behind each of them,
   -- and what is claimed of the end holds there. Where a command reads or leaves what is foreign, nothing more is claimed from there on.
   unfoldable pub Runs : (RunState → Type 0) → RunState → List Command → List Reply → (RunState → Type 0) → Type 0

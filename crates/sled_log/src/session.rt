@@ -4,6 +4,7 @@
 //! A session begins with no log open. A command that can't be carried out is refused (`specs/Refusals.antt`).
 ghost use Rattle.std.specs.Prelude.{IsSome};
 
+mod carrying;
 pub mod command;
 mod ending;
 mod known;
@@ -15,12 +16,13 @@ mod reserving;
 mod step;
 mod writing;
 
+use crate::session::carrying::{carry_out, close};
 pub use crate::session::command::{Command, Refusal, Reply};
 use crate::session::opened::Opened;
-use crate::session::step::{close, step};
+use crate::session::step::step;
 use sled_codec::serialization::Checksum;
 use sled_codec::serialization::snapshot::PageState;
-use sled_store::{Config, CrashDevice, RunningConfig};
+use sled_store::{Config, CrashDevice, Device, RunningConfig};
 use std::alloc::{AllocError, Global};
 
 /// What a session is at: the device while no log is open, or a log that is open.
@@ -37,23 +39,23 @@ pub struct Session<D, C> {
     ghost present: { IsSome phase },
 }
 
-impl<D: CrashDevice, C: Checksum> Session<D, C> {
-    ghost use Rattle.std.specs.Prelude.{◌≡◌, map, Bool, false, None, IfOk, IsSome, MatchOption, OnErr};
+impl<D: Device, C: Checksum> Session<D, C> {
+    ghost use Rattle.std.specs.Prelude.{◌≡◌, map, Bool, true, false, None, IsSome, MatchOption};
     ghost use Rattle.sled_codec.specs.PageTables.{IsTable};
     ghost use Rattle.sled_codec.specs.Snapshots.{page_of};
     ghost use Rattle.sled_store.specs.Device.{state_of, fresh};
-    ghost use Rattle.sled_log.specs.Devices.{Devices, Leaves, StandsOver};
+    ghost use Rattle.sled_log.specs.Devices.{LeavesOn, StandsOver};
+    ghost use Rattle.sled_log.specs.Refusals.{is_for_log};
     ghost use Rattle.sled_log.specs.RunStates.{DeviceView, RunState, begins_on, top};
-    ghost use Rattle.sled_log.specs.Headline.{Recovers};
-    ghost use Rattle.sled_log.specs.Runs.{Carries, Runs};
-    ghost use Rattle.sled_log.specs.RunPhases.{SomeStands, StandsAt, segment_size_in, view_by};
+    ghost use Rattle.sled_log.specs.Runs.{CarriesOn};
+    ghost use Rattle.sled_log.specs.RunPhases.{StandsAt, segment_size_in, view_by};
 
     /// Returns a session over a device that no log was written to, with no log open.
     pub fn new(alloc: Global, config: Config, device: D, checksum: C) -> Session<D, C>
         ensures size { segment_size_in result ≡ config.segment_size }
-        ensures begins { let view = view_by D.trace D.faults D.is_stopped in
+        ensures begins { (stopped : D → Bool) → let view = view_by D.trace D.faults stopped in
             state_of (D.trace device) ≡ fresh → StandsAt view C.sum_of result (begins_on (view device)) }
-        ensures over { let view = view_by D.trace D.faults D.is_stopped in StandsOver view result false (view device) }
+        ensures over { (stopped : D → Bool) → let view = view_by D.trace D.faults stopped in StandsOver view result false (view device) }
     {
         let config = RunningConfig::new(alloc, config, device, checksum);
         Session {
@@ -61,6 +63,66 @@ impl<D: CrashDevice, C: Checksum> Session<D, C> {
             phase: Some(Phase::Closed(config)),
         }
     }
+
+    /// Carries out a command, unless it is refused, and returns what came of it. The command is no `Stop` and no `Crash`,
+    /// which `run` has the device do.
+    ///
+    /// What `run` says of a command is said of this one, as of a device that never stops. An error of the command is its reply.
+    pub fn carry_out(&mut self, command: &Command) -> Reply
+        requires { is_for_log command.now ≡ true }
+        ensures carries { let view = view_by D.trace D.faults (λ device. false) in (a : RunState) → StandsAt view C.sum_of self.old a
+            → CarriesOn C.sum_of (segment_size_in self.old) a command.now result (StandsAt view C.sum_of self.new) }
+        ensures device { (stopped : D → Bool) → let view = view_by D.trace D.faults stopped in
+            (on : Bool) (device : DeviceView) → StandsOver view self.old on device
+            → LeavesOn C.sum_of (segment_size_in self.old) on device command.now result (StandsOver view self.new) }
+        ensures size { segment_size_in self.new ≡ segment_size_in self.old }
+    {
+        let phase = self.phase.take().unwrap();
+        let (next, reply) = carry_out(phase, command);
+        match self.phase.replace(next) {
+            None => reply,
+            Some(_) => unreachable!(),
+        }
+    }
+
+    /// Returns what each page is of which a message is completed, by number, where a log is open.
+    pub fn pages(&self) -> Option<&[PageState]>
+        ensures table { (stopped : D → Bool) → let view = view_by D.trace D.faults stopped in (a : RunState) → StandsAt view C.sum_of self.now a
+            → MatchOption result (a.log ≡ None) (λ pages. IsSome a.log × IsTable (map page_of pages.now) a.history top) }
+    {
+        match self.phase.as_ref()? {
+            Phase::Open(opened) => Some(&opened.pages),
+            Phase::Closed(_) => None,
+        }
+    }
+}
+
+impl<D: Device, C: Checksum + Drop> Session<D, C> {
+    ghost use Rattle.std.specs.Prelude.{◌≡◌, Bool};
+    ghost use Rattle.sled_log.specs.Devices.{StandsOver};
+    ghost use Rattle.sled_log.specs.RunStates.{DeviceView, RunState};
+    ghost use Rattle.sled_log.specs.RunPhases.{StandsAt, view_by};
+
+    /// Closes the log that is open, if one is, and returns the device. What isn't durable is lost. It takes no memory.
+    pub fn end(self) -> D
+        ensures device { (stopped : D → Bool) → let view = view_by D.trace D.faults stopped in
+            (a : RunState) → StandsAt view C.sum_of self a → a.device ≡ view result }
+        ensures over { (stopped : D → Bool) → let view = view_by D.trace D.faults stopped in
+            (on : Bool) (device : DeviceView) → StandsOver view self on device → device ≡ view result }
+    {
+        let Session { alloc: _, phase } = self;
+        let phase = phase.unwrap();
+        close(phase).into_device()
+    }
+}
+
+impl<D: CrashDevice, C: Checksum> Session<D, C> {
+    ghost use Rattle.std.specs.Prelude.{◌≡◌, Bool, IfOk, OnErr};
+    ghost use Rattle.sled_log.specs.Devices.{Devices, Leaves, StandsOver};
+    ghost use Rattle.sled_log.specs.RunStates.{DeviceView, RunState};
+    ghost use Rattle.sled_log.specs.Headline.{Recovers};
+    ghost use Rattle.sled_log.specs.Runs.{Carries, Runs};
+    ghost use Rattle.sled_log.specs.RunPhases.{SomeStands, StandsAt, segment_size_in, view_by};
 
     /// Runs these commands in order, and returns what came of each.
     ///
@@ -106,35 +168,5 @@ impl<D: CrashDevice, C: Checksum> Session<D, C> {
             None => reply,
             Some(_) => unreachable!(),
         }
-    }
-
-    /// Returns what each page is of which a message is completed, by number, where a log is open.
-    pub fn pages(&self) -> Option<&[PageState]>
-        ensures table { let view = view_by D.trace D.faults D.is_stopped in (a : RunState) → StandsAt view C.sum_of self.now a
-            → MatchOption result (a.log ≡ None) (λ pages. IsSome a.log × IsTable (map page_of pages.now) a.history top) }
-    {
-        match self.phase.as_ref()? {
-            Phase::Open(opened) => Some(&opened.pages),
-            Phase::Closed(_) => None,
-        }
-    }
-}
-
-impl<D: CrashDevice, C: Checksum + Drop> Session<D, C> {
-    ghost use Rattle.std.specs.Prelude.{◌≡◌, Bool};
-    ghost use Rattle.sled_log.specs.Devices.{StandsOver};
-    ghost use Rattle.sled_log.specs.RunStates.{DeviceView, RunState};
-    ghost use Rattle.sled_log.specs.RunPhases.{StandsAt, view_by};
-
-    /// Closes the log that is open, if one is, and returns the device. What isn't durable is lost. It takes no memory.
-    pub fn end(self) -> D
-        ensures device { let view = view_by D.trace D.faults D.is_stopped in
-            (a : RunState) → StandsAt view C.sum_of self a → a.device ≡ view result }
-        ensures over { let view = view_by D.trace D.faults D.is_stopped in
-            (on : Bool) (device : DeviceView) → StandsOver view self on device → device ≡ view result }
-    {
-        let Session { alloc: _, phase } = self;
-        let phase = phase.unwrap();
-        close(phase).into_device()
     }
 }

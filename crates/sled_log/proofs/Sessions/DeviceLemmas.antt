@@ -1,7 +1,8 @@
 -- What the commands of a run do to its device goes on, one behind another; and each phase does what is claimed of a command.
-use Rattle.std.proofs.Common.{◌≡◌, ℕ, Bool, true, false, List, [], ◌∷◌, ◌++◌, if◌then◌else◌, Option, None, Some, refl, sym, ap, subst}
+use Rattle.std.proofs.Common.{◌≡◌, ℕ, Bool, true, false, List, [], ◌∷◌, ◌++◌, if◌then◌else◌, Option, Some, refl, sym, ap, subst}
 use Rattle.std.specs.Prelude.{◌↔◌, IsTrue}
 use Rattle.std.specs.Bool.{MatchBool}
+use Rattle.sled_codec.specs.declared.result.Error.TheVariants as error
 use Rattle.sled_store.specs.declared.device.choice.Choice.{Choice}
 use Rattle.sled_store.specs.Chosen.{MayBeLeft}
 use Rattle.sled_store.specs.Device.{Left, Settled, Crashed, state_of}
@@ -18,7 +19,8 @@ use Rattle.sled_log.specs.declared.session.command.Refusal.{Refusal}
 use Rattle.sled_log.specs.declared.session.command.Refusal.TheVariants as why
 use Rattle.sled_log.specs.declared.session.command.Reply.{Reply}
 use Rattle.sled_log.specs.declared.session.command.Reply.TheVariants as reply
-use Rattle.sled_log.specs.Devices.{Devices, Handles, IsOver, Leaves, RefusedBy, RefusedIn, StandsOver, ToldIn, Touches, TouchesIn, is_barred, is_open, opens_after}
+use Rattle.sled_log.specs.Devices.{Devices, Handles, IsOver, Leaves, LeavesOn, RefusedIn, StandsOver, ToldIn, Touches, TouchesIn, is_barred, is_open, opens_after}
+use Rattle.sled_log.specs.Refusals.{is_for_log, refused_closed}
 use Rattle.sled_log.specs.RunStates.{DeviceView}
 use Rattle.sled_log.specs.Runs.{calls_log, told}
 use Rattle.sled_core.specs.Fits.{config_of}
@@ -82,6 +84,20 @@ left_at {D} {C} view sum old new p next c r was_at is_at told_in was device over
       leads = subst (λ (b : Bool). StandsOver view new b (device_in view next)) told_in.opens (over_at view sum new next is_at);
     })))
 
+-- The same of one that it carries out on a device that is never stopped.
+pub left_on_at : {D C : Type 0} (view : D → DeviceView) (sum : List ℕ → ℕ) (old new : Session D C) (p next : Phase D C) (c : Command) (r : Reply) → old.phase ≡ Some p → new.phase ≡ Some next
+    → TouchesIn view sum p c next r → (was : Bool) (device : DeviceView) → StandsOver view old was device → LeavesOn sum (segment_size_in old) was device c r (StandsOver view new)
+left_on_at {D} {C} view sum old new p next c r was_at is_at did was device over =
+    let here = over_in view sum old p was_at was device over in
+    subst (λ (n : ℕ). LeavesOn sum n was device c r (StandsOver view new)) (sym (ap size_in was_at))
+    (subst (λ (b : Bool). LeavesOn sum (size_of p) b device c r (StandsOver view new)) (sym here.0)
+    (subst (λ (d : DeviceView). LeavesOn sum (size_of p) (is_open p) d c r (StandsOver view new)) (sym here.1)
+    (record {
+      new = device_in view next;
+      touches = did.touches;
+      leads = subst (λ (b : Bool). StandsOver view new b (device_in view next)) did.opens (over_at view sum new next is_at);
+    })))
+
 module _ (sum : List ℕ → ℕ) (size : ℕ) where
   -- A refusal does nothing, and is the right one.
   no_touch : (was : Bool) (c : Command) (w : Refusal) (device : DeviceView) → RefusedIn was c (Some w) → Touches sum size was c (reply.Refused w) device device
@@ -95,20 +111,17 @@ module _ (sum : List ℕ → ℕ) (size : ℕ) where
   no_touch true command.Halt w device is = cc
   no_touch true c w device is = later_same device.trace
 
-  pub handles_refused : (was : Bool) (c : Command) (w : Refusal) (device : DeviceView) → RefusedBy (is_barred device c) was c (Some w) → Handles sum size was c (reply.Refused w) device device
-  handles_refused was c w device = by (is_barred device c)
-    where
-      by : (b : Bool) → RefusedBy b was c (Some w) → MatchBool b ((reply.Refused w ≡ reply.Refused why.Stopped) × (device ≡ device)) (Touches sum size was c (reply.Refused w) device device)
-      by true is = (cc, refl)
-      by false is = no_touch was c w device is
+  -- While the device is stopped it is that,
+  pub handles_barred : (was : Bool) (c : Command) (device : DeviceView) → is_barred device c ≡ true → Handles sum size was c (reply.Refused why.Stopped) device device
+  handles_barred was c device barred =
+      let Handled : Bool → Type 0 = λ b. MatchBool b ((reply.Refused why.Stopped ≡ reply.Refused why.Stopped) × (device ≡ device)) (Touches sum size was c (reply.Refused why.Stopped) device device) in
+      subst Handled (sym barred) (refl, refl)
 
-  -- What isn't refused is carried out.
-  pub handles_carried : (was : Bool) (c : Command) (r : Reply) (old new : DeviceView) → RefusedBy (is_barred old c) was c None → Touches sum size was c r old new → Handles sum size was c r old new
-  handles_carried was c r old new free touches = by (is_barred old c) free
-    where
-      by : (b : Bool) → RefusedBy b was c None → MatchBool b ((r ≡ reply.Refused why.Stopped) × (new ≡ old)) (Touches sum size was c r old new)
-      by true is = cc
-      by false is = touches
+  -- and else a command does what it does.
+  pub handles_free : (was : Bool) (c : Command) (r : Reply) (old new : DeviceView) → is_barred old c ≡ false → Touches sum size was c r old new → Handles sum size was c r old new
+  handles_free was c r old new free touches =
+      let Handled : Bool → Type 0 = λ b. MatchBool b ((r ≡ reply.Refused why.Stopped) × (new ≡ old)) (Touches sum size was c r old new) in
+      subst Handled (sym free) touches
 
 -- A refusal opens and closes nothing.
 pub opens_refused : (was : Bool) (c : Command) (w : Refusal) → was ≡ opens_after was c (reply.Refused w)
@@ -117,17 +130,16 @@ opens_refused was command.Halt w = refl
 opens_refused was (command.Crash choice) w = refl
 opens_refused was c w = refl
 
--- No other command is carried out while no log is open.
-pub touched_closed : {D C : Type 0} (view : D → DeviceView) (sum : List ℕ → ℕ) (config : RunningConfig D C) (c : Command) → (c ≡ command.Open → ⊥) → ((n : ℕ) → c ≡ command.Stop n → ⊥)
-    → ((choice : Choice) → c ≡ command.Crash choice → ⊥) → TouchesIn view sum (phase.Closed config) c (phase.Closed config) (reply.Refused why.Closed)
-touched_closed view sum config c no_opening no_stop no_crash = record { touches = by c no_opening no_stop no_crash; opens = opens_refused false c why.Closed }
-  where
-    by : (d : Command) → (d ≡ command.Open → ⊥) → ((n : ℕ) → d ≡ command.Stop n → ⊥) → ((choice : Choice) → d ≡ command.Crash choice → ⊥)
-        → Touches sum (size_of (phase.Closed config)) false d (reply.Refused why.Closed) (view config.device) (view config.device)
-    by command.Open no_opening no_stop no_crash = absurd (no_opening refl)
-    by (command.Stop n) no_opening no_stop no_crash = absurd (no_stop n refl)
-    by (command.Crash choice) no_opening no_stop no_crash = absurd (no_crash choice refl)
-    by d no_opening no_stop no_crash = (refl, refl)
+-- What is refused leaves the device alone.
+pub touched_refused : {D C : Type 0} (view : D → DeviceView) (sum : List ℕ → ℕ) (p : Phase D C) (c : Command) (w : Refusal) → RefusedIn (is_open p) c (Some w) → TouchesIn view sum p c p (reply.Refused w)
+touched_refused view sum p c w is = record { touches = no_touch sum (size_of p) (is_open p) c w (device_in view p) is; opens = opens_refused (is_open p) c w }
+
+-- No other command for the log is carried out while none is open.
+pub closed_refuses : (c : Command) → is_for_log c ≡ true → (c ≡ command.Open → ⊥) → refused_closed c ≡ Some why.Closed
+closed_refuses command.Open for_log no_opening = absurd (no_opening refl)
+closed_refuses (command.Stop n) for_log no_opening = cc
+closed_refuses (command.Crash choice) for_log no_opening = cc
+closed_refuses c for_log no_opening = refl
 
 -- No log is opened while one is.
 pub touched_open : {D C : Type 0} (view : D → DeviceView) (sum : List ℕ → ℕ) (opened : Opened D C) → TouchesIn view sum (phase.Open opened) command.Open (phase.Open opened) (reply.Refused why.Open)
@@ -180,6 +192,11 @@ module _ {D C : Type 0} (view : D → DeviceView) (sum : List ℕ → ℕ) (from
       let crashes : Crashes (view config.device) (device_in view next) (left_of copy) = here.touches in
       subst (TouchesIn view sum from (command.Crash choice) next) (sym told_is)
       (from_any from (subst (λ (d : DeviceView). Crashes d (device_in view next) (left_of choice)) from_device (subst (Crashes (view config.device) (device_in view next)) same crashes)) here.opens)
+
+-- Without memory for what was chosen a crash does nothing.
+pub touched_kept : {D C : Type 0} (view : D → DeviceView) (sum : List ℕ → ℕ) (p : Phase D C) (choice : Choice) → TouchesIn view sum p (command.Crash choice) p (reply.Failed error.OutOfMemory)
+touched_kept view sum (phase.Closed config) choice = record { touches = refl; opens = refl }
+touched_kept view sum (phase.Open opened) choice = record { touches = refl; opens = refl }
 
 -- A log that is given up leaves its device.
 pub halts : {D C : Type 0} (view : D → DeviceView) (sum : List ℕ → ℕ) (opened : Opened D C) (config : RunningConfig D C) → config ≡ config_of opened.log → TouchesIn view sum (phase.Open opened) command.Halt (phase.Closed config) reply.Halted

@@ -1,6 +1,6 @@
 -- What holds at the joints of a run: one trace behind another, what a crash leaves, and how a phase leads to the next one.
 use Rattle.std.proofs.Common.{◌≡◌, ◌∙◌, ◌<◌, ◌≤◌, ◌^◌, ℕ, ℤ, Bool, true, false, if◌then◌else◌, IsTrue, List, [], ◌∷◌, Option, None, Some, refl, sym, ap, subst}
-use Rattle.std.specs.Prelude.{Result, Ok, Err, OnErr, OnOk, is_err, ◌&&◌, ◌↔◌}
+use Rattle.std.specs.Prelude.{Result, Ok, Err, OnErr, OnOk, is_err, not, ◌&&◌, ◌↔◌}
 use Rattle.sled_codec.specs.declared.result.Error.{Error}
 use Rattle.sled_codec.specs.declared.result.Error.TheVariants as error
 use Rattle.sled_codec.specs.Errors.{IsCorruption, IsCorrupt}
@@ -29,11 +29,11 @@ use Rattle.sled_log.specs.declared.session.command.Refusal.{Refusal}
 use Rattle.sled_log.specs.declared.session.command.Refusal.TheVariants as why
 use Rattle.sled_log.specs.declared.session.command.Reply.{Reply}
 use Rattle.sled_log.specs.declared.session.command.Reply.TheVariants as reply
-use Rattle.sled_log.specs.Refusals.{reason_of, refusal_for, when}
-use Rattle.sled_log.specs.RunStates.{DeviceView, RunState}
+use Rattle.sled_log.specs.Refusals.{is_crash, is_for_log, reason_of, refusal_for, refused_by_log, when}
+use Rattle.sled_log.specs.RunStates.{DeviceView, LogView, RunState}
 use Rattle.sled_log.specs.OpenSteps.{IsCause, IsStartCause}
-use Rattle.sled_log.specs.Runs.{Carries, CrashStep, IsOwn, IsStep, KeepsOwn, StaysRecoverable, StaysWithin, told}
-use Rattle.sled_log.specs.RunPhases.{AnswersIn, CarriesHere, CarriesOut, Does, DoesBy, IsAt, IsClosedAt, IsOpenAt, RunsOn, StandsIn, Unstored, device_in, running, size_of, stands, traces}
+use Rattle.sled_log.specs.Runs.{Carries, CarriesOn, CrashStep, IsOwn, IsStep, KeepsOwn, StaysRecoverable, StaysWithin, told}
+use Rattle.sled_log.specs.RunPhases.{AnswersFrom, AnswersIn, CarriesHere, CarriesOnIn, CarriesOut, Does, DoesBy, IsAt, IsClosedAt, IsOpenAt, RunsOn, StandsIn, Unstored, device_in, running, size_of, stands, traces}
 use Rattle.sled_log.proofs.Sessions.MadeHistories.{none_made}
 use Rattle.sled_log.proofs.Sessions.Within.{still_there, untouched}
 pub use Rattle.sled_core.proofs.PublicLaws.{place_back}
@@ -149,6 +149,15 @@ halted view sum opened config is = λ k at free. record {
   crash = λ own. untouched (traces view) sum opened k at (traces view config.device) (ap (λ (x : RunningConfig _ _). traces view x.device) is);
 }
 
+-- An asked stop or crash is refused for nothing that the log and the history say.
+pub stop_goes : (H : History) (log : Option LogView) (n : ℕ) → refused_by_log H log (command.Stop n) ≡ None
+stop_goes H None n = refl
+stop_goes H (Some l) n = refl
+
+pub crash_goes : (H : History) (log : Option LogView) (choice : Choice) → refused_by_log H log (command.Crash choice) ≡ None
+crash_goes H None choice = refl
+crash_goes H (Some l) choice = refl
+
 -- A crash from any phase, by what it comes to there.
 module _ {D C : Type 0} (view : D → DeviceView) (sum : List ℕ → ℕ) (from : Phase D C) (config : RunningConfig D C) (choice copy : Choice) (result : Phase D C × Reply) (taken : Bool)
     (Step : RunState → Command → Reply → DeviceView → RunState → Type 0)
@@ -207,6 +216,29 @@ module _ {D C : Type 0} (view : D → DeviceView) (sum : List ℕ → ℕ) (from
         crash = λ own. leaves k (does.crash (owned own));
       }
 
+-- What the device's stop bars is refused for that, and else a command is refused for what the history and the log say: so it is on a device that isn't stopped.
+module _ (a : RunState) (c : Command) where
+  pub barred_refusal : (a.device.is_stopped && not (is_crash c)) ≡ true → refusal_for a c ≡ Some why.Stopped
+  barred_refusal barred = ap (λ (b : Bool). when b why.Stopped (refused_by_log a.history a.log c)) barred
+
+  pub free_refusal : (a.device.is_stopped && not (is_crash c)) ≡ false → refusal_for a c ≡ refused_by_log a.history a.log c
+  free_refusal free = ap (λ (b : Bool). when b why.Stopped (refused_by_log a.history a.log c)) free
+
+  pub going_refusal : a.device.is_stopped ≡ false → refusal_for a c ≡ refused_by_log a.history a.log c
+  going_refusal going = free_refusal (ap (λ (b : Bool). b && not (is_crash c)) going)
+
+-- A stop bars each command but a crash.
+pub not_stopped : (b : Bool) (c : Command) → (b && not (is_crash c)) ≡ false → ((choice : Choice) → c ≡ command.Crash choice → ⊥) → b ≡ false
+not_stopped false c free no_crash = refl
+not_stopped true (command.Crash choice) free no_crash = absurd (no_crash choice refl)
+not_stopped true c free no_crash = cc
+
+-- One that is no stop and no crash is for the log.
+pub for_log : (c : Command) → ((n : ℕ) → c ≡ command.Stop n → ⊥) → ((choice : Choice) → c ≡ command.Crash choice → ⊥) → is_for_log c ≡ true
+for_log (command.Stop n) no_stop no_crash = absurd (no_stop n refl)
+for_log (command.Crash choice) no_stop no_crash = absurd (no_crash choice refl)
+for_log c no_stop no_crash = refl
+
 -- A command that is carried out is told, or it was refused.
 module _ {D C : Type 0} (view : D → DeviceView) (sum : List ℕ → ℕ) (from : Phase D C) (c : Command) where
   -- While a log is open that keeps no failure, and no mark joined above the floor, what is read is its own.
@@ -215,7 +247,7 @@ module _ {D C : Type 0} (view : D → DeviceView) (sum : List ℕ → ℕ) (from
   phase_own (phase.Open opened) k at = λ none low. fits_reads_own (traces view) sum opened.log k.history k.acknowledged k.floor at.unmarked at.fits none at.zeros low
 
   -- Where nothing is done a crash leaves what it left.
-  here : (phase : Phase D C) (k : Unstored) → IsAt (traces view) sum phase k → StaysRecoverable sum (size_of phase) (stands view phase k) (device_in view phase).trace (device_in view phase).trace
+  pub here : (phase : Phase D C) (k : Unstored) → IsAt (traces view) sum phase k → StaysRecoverable sum (size_of phase) (stands view phase k) (device_in view phase).trace (device_in view phase).trace
   here (phase.Closed config) k at = still_there sum config.config.segment_size k.history k.acknowledged k.floor (traces view config.device) (traces view config.device) at.left refl
   here (phase.Open opened) k at = untouched (traces view) sum opened k at (traces view (device_of opened.log)) refl
 
@@ -223,14 +255,47 @@ module _ {D C : Type 0} (view : D → DeviceView) (sum : List ℕ → ℕ) (from
   refused_within k at command.Open = ((device_in view from).trace, here from k at, here from k at)
   refused_within k at d = here from k at
 
-  pub answered : (to : Phase D C) (came : Reply) → size_of to ≡ size_of from → CarriesOut view sum from c (to, came) → IsLater (device_in view from).trace (device_in view to).trace
-      → KeepsToStop (device_in view to).trace (device_in view to).is_stopped → ((k : Unstored) → IsAt (traces view) sum from k → None ≡ refusal_for (stands view from k) c) → AnswersIn view sum from c (to, told (device_in view to).is_stopped came)
-  answered to came sizes carries later stops free a stands_in =
+  -- What a command that isn't refused comes to answers it,
+  pub done_from : (result : Phase D C × Reply) → CarriesOut view sum from c result → ((k : Unstored) → IsAt (traces view) sum from k → refusal_for (stands view from k) c ≡ None) → AnswersFrom view sum from c result
+  done_from result carries free = λ k at.
+      let none = free k at in
+      let does = carries k at none in
+      record { refused = does.not_refused ∙ sym none; next = does.next; step = does.step; at = does.at; crash = does.crash }
+
+  -- and a refusal answers one that is.
+  pub refused_from : (w : Refusal) → ((k : Unstored) → IsAt (traces view) sum from k → Some w ≡ refusal_for (stands view from k) c) → AnswersFrom view sum from c (from, reply.Refused w)
+  refused_from w because = λ k at. record {
+    refused = because k at;
+    next = k;
+    step = (refl, refl);
+    at = λ own. at;
+    crash = λ own. refused_within k at c;
+  }
+
+  -- An answer is what came of a command on a device that is never stopped.
+  pub carried_on : (to : Phase D C) (r : Reply) → size_of to ≡ size_of from → AnswersFrom view sum from c (to, r) → IsLater (device_in view from).trace (device_in view to).trace → CarriesOnIn view sum from c (to, r)
+  carried_on to r sizes answers later a stands_in =
       let k : Unstored = stands_in.0 in
-      let none = free k stands_in.2 in
-      let does = carries k stands_in.2 (sym none) in
+      let does = answers k stands_in.2 in
+      subst (λ (x : RunState). CarriesOn sum (size_of from) x c r (StandsIn view sum to)) (sym stands_in.1) (record {
+        refused = does.refused;
+        new = device_in view to;
+        later = later;
+        after = stands view to does.next;
+        step = does.step;
+        crash = does.crash;
+        own = λ own. subst (λ n. KeepsOwn sum n (stands view to does.next)) sizes (phase_own to does.next (does.at own));
+        leads = λ own. (does.next, refl, does.at own);
+      })
+
+  -- On one that may be, an answer is told.
+  pub answered : (to : Phase D C) (came : Reply) → size_of to ≡ size_of from → AnswersFrom view sum from c (to, came) → IsLater (device_in view from).trace (device_in view to).trace
+      → KeepsToStop (device_in view to).trace (device_in view to).is_stopped → AnswersIn view sum from c (to, told (device_in view to).is_stopped came)
+  answered to came sizes answers later stops a stands_in =
+      let k : Unstored = stands_in.0 in
+      let does = answers k stands_in.2 in
       subst (λ (x : RunState). Carries sum (size_of from) x c (told (device_in view to).is_stopped came) (StandsIn view sum to)) (sym stands_in.1) (record {
-        refused = told_reason (device_in view to).is_stopped came ∙ does.not_refused ∙ none;
+        refused = told_reason (device_in view to).is_stopped came ∙ does.refused;
         new = device_in view to;
         came = came;
         is_told = refl;

@@ -11,8 +11,8 @@ use Rattle.sled_log.specs.declared.session.opened.Opened.{Opened}
 use Rattle.sled_log.specs.declared.session.command.Command.{Command}
 use Rattle.sled_log.specs.declared.session.command.Reply.{Reply}
 use Rattle.sled_log.specs.RunStates.{DeviceView, RunState, top}
-use Rattle.sled_log.specs.Runs.{Carries, Runs}
-use Rattle.sled_log.specs.RunPhases.{AnswersIn, StandsAt, StandsAtPhase, StandsIn, device_in, segment_size_in, size_in}
+use Rattle.sled_log.specs.Runs.{Carries, CarriesOn, Runs}
+use Rattle.sled_log.specs.RunPhases.{AnswersIn, CarriesOnIn, StandsAt, StandsAtPhase, StandsIn, device_in, segment_size_in, size_in}
 
 -- Where a session stands.
 module _ {D C : Type 0} (view : D → DeviceView) (sum : List ℕ → ℕ) (session : Session D C) (a : RunState) where
@@ -60,6 +60,25 @@ pub carried_at : {D C : Type 0} (view : D → DeviceView) (sum : List ℕ → �
 carried_at view sum old new phase c result was is answers a at =
     carries_over sum (segment_size_in old) a c result.1 (λ b. stands_at view sum new b result.0 is)
     (subst (λ n. Carries sum n a c result.1 (StandsIn view sum result.0)) (sym (ap size_in was)) (answers a (stands_in view sum old a phase was at)))
+
+-- The same on a device that is never stopped.
+pub carries_on_over : {Leads Next : RunState → Type 0} (sum : List ℕ → ℕ) (size : ℕ) (a : RunState) (c : Command) (r : Reply) → ((b : RunState) → Leads b → Next b) → CarriesOn sum size a c r Leads → CarriesOn sum size a c r Next
+carries_on_over sum size a c r over carries = record {
+  refused = carries.refused;
+  new = carries.new;
+  later = carries.later;
+  after = carries.after;
+  step = carries.step;
+  crash = carries.crash;
+  own = carries.own;
+  leads = λ own. over carries.after (carries.leads own);
+}
+
+pub carried_on_at : {D C : Type 0} (view : D → DeviceView) (sum : List ℕ → ℕ) (old new : Session D C) (phase : Phase D C) (c : Command) (result : Phase D C × Reply) → old.phase ≡ Some phase → new.phase ≡ Some result.0
+    → CarriesOnIn view sum phase c result → (a : RunState) → StandsAt view sum old a → CarriesOn sum (segment_size_in old) a c result.1 (StandsAt view sum new)
+carried_on_at view sum old new phase c result was is answers a at =
+    carries_on_over sum (segment_size_in old) a c result.1 (λ b. stands_at view sum new b result.0 is)
+    (subst (λ n. CarriesOn sum n a c result.1 (StandsIn view sum result.0)) (sym (ap size_in was)) (answers a (stands_in view sum old a phase was at)))
 
 -- Runs.
 

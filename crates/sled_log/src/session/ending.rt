@@ -1,5 +1,5 @@
 //! Completing messages, giving them up, and ending batches.
-ghost use Rattle.std.specs.Prelude.{◌≡◌, None, IfOk, IsOkUnless, OnErr, OnOk};
+ghost use Rattle.std.specs.Prelude.{Bool, ◌≡◌, None, IfOk, IsOkUnless, OnErr, OnOk};
 ghost use Rattle.sled_core.specs.Fits.{config_of, fault_of};
 ghost use Rattle.sled_log.specs.declared.session.command.Command.TheVariants as told;
 ghost use Rattle.sled_log.specs.Endings.{HasRoomFor, IsFormerFor, KeepsPages, TakesTicket, batch_left};
@@ -13,16 +13,13 @@ use crate::session::opened::{Opened, Ticket};
 use sled_codec::result::{Error, PageId, Result};
 use sled_codec::serialization::Checksum;
 use sled_codec::serialization::message::BATCH_MANIFEST_PID;
-use sled_store::CrashDevice;
+use sled_store::Device;
 use sled_store::segment::accountant::CacheInfo;
 
 /// Completes the message of a ticket, marks it, and gives the pin back. The room for its entry in the table is made
 /// first, and the list of what it takes the place of. Where memory for the mark is refused, that is due.
-pub(crate) fn complete<D: CrashDevice, C: Checksum>(
-    opened: &mut Opened<D, C>,
-    number: usize,
-) -> Reply
-    ensures step { opened.old.due ≡ None → CarriesHere (view_by D.trace D.faults D.is_stopped) C.sum_of
+pub(crate) fn complete<D: Device, C: Checksum>(opened: &mut Opened<D, C>, number: usize) -> Reply
+    ensures step { (stopped : D → Bool) → opened.old.due ≡ None → CarriesHere (view_by D.trace D.faults stopped) C.sum_of
         (Phase.Open opened.old) (told.Complete number) (Phase.Open opened.new, result) }
     ensures on { RunsOn D.trace (config_of opened.old.log) (config_of opened.new.log) }
 {
@@ -65,7 +62,7 @@ pub(crate) fn complete<D: CrashDevice, C: Checksum>(
 }
 
 /// Returns what a ticket's message takes the place of, unless the log keeps a failure.
-fn former_for<D: CrashDevice, C: Checksum>(
+fn former_for<D: Device, C: Checksum>(
     opened: &Opened<D, C>,
     number: usize,
 ) -> Result<Vec<CacheInfo>>
@@ -86,7 +83,7 @@ fn former_for<D: CrashDevice, C: Checksum>(
 }
 
 /// Makes room for the entry of a ticket's message in the table, unless the log keeps a failure.
-fn room_for<D: CrashDevice, C: Checksum>(opened: &mut Opened<D, C>, number: usize) -> Result<()>
+fn room_for<D: Device, C: Checksum>(opened: &mut Opened<D, C>, number: usize) -> Result<()>
     ensures kept { KeepsPages opened.old opened.new }
     ensures room { OnOk result (fault_of opened.old.log ≡ None → HasRoomFor opened.new number) }
     ensures whole { OnErr result (fault_of opened.old.log ≡ None) }
@@ -101,8 +98,8 @@ fn room_for<D: CrashDevice, C: Checksum>(opened: &mut Opened<D, C>, number: usiz
 }
 
 /// Gives the message of a ticket up.
-pub(crate) fn abort<D: CrashDevice, C: Checksum>(opened: &mut Opened<D, C>, number: usize) -> Reply
-    ensures step { opened.old.due ≡ None → CarriesHere (view_by D.trace D.faults D.is_stopped) C.sum_of
+pub(crate) fn abort<D: Device, C: Checksum>(opened: &mut Opened<D, C>, number: usize) -> Reply
+    ensures step { (stopped : D → Bool) → opened.old.due ≡ None → CarriesHere (view_by D.trace D.faults stopped) C.sum_of
         (Phase.Open opened.old) (told.Abort number) (Phase.Open opened.new, result) }
     ensures on { RunsOn D.trace (config_of opened.old.log) (config_of opened.new.log) }
 {
@@ -126,8 +123,8 @@ pub(crate) fn abort<D: CrashDevice, C: Checksum>(opened: &mut Opened<D, C>, numb
 }
 
 /// Ends the batch that is begun with the greatest place that was reserved.
-pub(crate) fn end<D: CrashDevice, C: Checksum>(opened: &mut Opened<D, C>) -> Reply
-    ensures step { opened.old.due ≡ None → CarriesHere (view_by D.trace D.faults D.is_stopped) C.sum_of
+pub(crate) fn end<D: Device, C: Checksum>(opened: &mut Opened<D, C>) -> Reply
+    ensures step { (stopped : D → Bool) → opened.old.due ≡ None → CarriesHere (view_by D.trace D.faults stopped) C.sum_of
         (Phase.Open opened.old) told.EndBatch (Phase.Open opened.new, result) }
     ensures on { RunsOn D.trace (config_of opened.old.log) (config_of opened.new.log) }
 {
@@ -161,10 +158,7 @@ pub(crate) fn end<D: CrashDevice, C: Checksum>(opened: &mut Opened<D, C>) -> Rep
 
 /// Takes the ticket of this number, where its reservation is open. Its page has no open ticket then; where that is the page
 /// of manifests, no batch is begun.
-fn take_open<D: CrashDevice, C: Checksum>(
-    opened: &mut Opened<D, C>,
-    number: usize,
-) -> Option<Ticket>
+fn take_open<D: Device, C: Checksum>(opened: &mut Opened<D, C>, number: usize) -> Option<Ticket>
     ensures { TakesTicket opened.old number opened.new result }
 {
     let ticket = opened.tickets.get_mut(number)?.take()?;

@@ -1,5 +1,5 @@
 //! Marking what is completed, so that segments come free (`specs/SessionMarks.antt`, `specs/Marking.antt`).
-ghost use Rattle.std.specs.Prelude.{◌≡◌, ◌≢◌, ◌<◌, ◌-◌, ◌∷◌, ℕ, List, [], map, Some, IfOk, IsOkUnless};
+ghost use Rattle.std.specs.Prelude.{Bool, ◌≡◌, ◌≢◌, ◌<◌, ◌-◌, ◌∷◌, ℕ, List, [], map, Some, IfOk, IsOkUnless};
 ghost use Rattle.std.specs.Option.{option_copied};
 ghost use Rattle.sled_codec.specs.History.{History, Message};
 ghost use Rattle.sled_store.specs.Marks.{told_of};
@@ -18,7 +18,7 @@ use sled_codec::serialization::snapshot::{Entry, PageState};
 use sled_codec::serialization::{Checksum, LogKind, Serialize};
 use sled_core::logger::Log;
 use sled_core::reservation::Guard;
-use sled_store::CrashDevice;
+use sled_store::Device;
 use sled_store::segment::accountant::CacheInfo;
 use std::alloc::Global;
 
@@ -140,7 +140,7 @@ fn free_len(origin: Origin, page: PageId, place: u64) -> u64
 }
 
 /// Makes a mark, and gives its pin back. Where memory for it is refused it comes back, and nothing was done.
-fn mark<D: CrashDevice, C: Checksum>(log: &mut Log<D, C>, due: Due) -> Option<Due>
+fn mark<D: Device, C: Checksum>(log: &mut Log<D, C>, due: Due) -> Option<Due>
     ensures marks { (H : History) (A f : ℕ) (m : Message) → Fits D.trace C.sum_of log.old H A f (m ∷ []) → IsUnmarked log.old H due m → IsMade H
         → HasMarked D.trace C.sum_of log.old due result log.new H A f m }
     ensures beside { KeepsBeside log.old log.new }
@@ -161,7 +161,7 @@ fn mark<D: CrashDevice, C: Checksum>(log: &mut Log<D, C>, due: Due) -> Option<Du
 }
 
 /// Makes a mark. One of a message that may not be marked isn't made, as no caller has it.
-fn make<D: CrashDevice, C: Checksum>(log: &mut Log<D, C>, due: &Due) -> Result<()>
+fn make<D: Device, C: Checksum>(log: &mut Log<D, C>, due: &Due) -> Result<()>
     ensures makes { (H : History) (A f : ℕ) (m : Message) → Fits D.trace C.sum_of log.old H A f (m ∷ []) → IsUnmarked log.old H due.now m → IsMade H
         → MakesMark D.trace C.sum_of log.old due.now result log.new H A f m }
     ensures rest { ChangesAccount log.old log.new }
@@ -181,9 +181,9 @@ fn make<D: CrashDevice, C: Checksum>(log: &mut Log<D, C>, due: &Due) -> Result<(
 /// # Errors
 ///
 /// `OutOfMemory`: it stays due, and nothing was done.
-pub(crate) fn make_due<D: CrashDevice, C: Checksum>(opened: &mut Opened<D, C>) -> Result<()>
-    ensures makes { (k : Unstored) → IsOpenAt D.trace C.sum_of opened.old k
-        → MakesDue (view_by D.trace D.faults D.is_stopped) C.sum_of opened.old result opened.new k }
+pub(crate) fn make_due<D: Device, C: Checksum>(opened: &mut Opened<D, C>) -> Result<()>
+    ensures makes { (stopped : D → Bool) → (k : Unstored) → IsOpenAt D.trace C.sum_of opened.old k
+        → MakesDue (view_by D.trace D.faults stopped) C.sum_of opened.old result opened.new k }
     ensures err { IsOkUnless result Error.OutOfMemory }
     ensures same { config_of opened.new.log ≡ config_of opened.old.log }
     ensures on { RunsOn D.trace (config_of opened.old.log) (config_of opened.new.log) }
@@ -198,7 +198,7 @@ pub(crate) fn make_due<D: CrashDevice, C: Checksum>(opened: &mut Opened<D, C>) -
 }
 
 /// Makes a mark, and gives its pin back; or keeps it, where memory for it is refused. Returns whether it was made.
-pub(crate) fn settle<D: CrashDevice, C: Checksum>(opened: &mut Opened<D, C>, due: Due) -> bool
+pub(crate) fn settle<D: Device, C: Checksum>(opened: &mut Opened<D, C>, due: Due) -> bool
     ensures settles { (H : History) (A f : ℕ) (m : Message) → Fits D.trace C.sum_of opened.old.log H A f (m ∷ []) → IsUnmarked opened.old.log H due m → IsMade H
         → Settles D.trace C.sum_of opened.old due result opened.new H A f m }
     ensures rest { opened.new ≡ record opened.old { log = opened.new.log; due = opened.new.due } }
@@ -215,7 +215,7 @@ pub(crate) fn settle<D: CrashDevice, C: Checksum>(opened: &mut Opened<D, C>, due
 }
 
 /// Keeps a mark that is due. There is one at most: another one would be given up.
-fn postpone<D: CrashDevice, C: Checksum>(opened: &mut Opened<D, C>, due: Due)
+fn postpone<D: Device, C: Checksum>(opened: &mut Opened<D, C>, due: Due)
     ensures { opened.new ≡ record opened.old { due = Some due } }
 {
     if let Some(other) = opened.due.replace(due) {
@@ -224,7 +224,7 @@ fn postpone<D: CrashDevice, C: Checksum>(opened: &mut Opened<D, C>, due: Due)
 }
 
 /// Gives the pin of a ticket back. It is out, so the log has one.
-pub(crate) fn unpin<D: CrashDevice, C: Checksum>(log: &mut Log<D, C>, guard: Guard)
+pub(crate) fn unpin<D: Device, C: Checksum>(log: &mut Log<D, C>, guard: Guard)
     ensures given { log.new ≡ record log.old { pins = pins_of log.old - 1 } }
     ensures fits { (H : History) (A f : ℕ) (U : List Message) → Fits D.trace C.sum_of log.old H A f U → (U ≢ [] → 1 < pins_of log.old)
         → Fits D.trace C.sum_of log.new H A f U }

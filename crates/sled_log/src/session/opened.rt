@@ -18,7 +18,7 @@ use sled_codec::serialization::snapshot::PageState;
 use sled_codec::serialization::{Checksum, LogKind};
 use sled_core::logger::Log;
 use sled_core::reservation::{Guard, Reservation};
-use sled_store::{CrashDevice, RunningConfig};
+use sled_store::{Device, RunningConfig};
 use std::alloc::Global;
 
 /// A log that is open. A pin is out for each open ticket, and for the mark that is due.
@@ -56,7 +56,7 @@ pub(crate) struct Ticket {
 /// How many entries a page may have: its Replace, and 254 fragments.
 const MOST_ENTRIES: usize = 255;
 
-impl<D: CrashDevice, C: Checksum> Opened<D, C> {
+impl<D: Device, C: Checksum> Opened<D, C> {
     /// Why a command is refused while the log is open, if it is.
     pub(crate) fn refusal(&self, command: &Command) -> Option<Refusal>
         ensures why { (k : Unstored) → IsOpenAt D.trace C.sum_of self.now k

@@ -1,5 +1,5 @@
 //! Opening a log on what a recovery gives.
-ghost use Rattle.std.specs.Prelude.{◌≡◌, false};
+ghost use Rattle.std.specs.Prelude.{Bool, ◌≡◌, false};
 ghost use Rattle.sled_codec.specs.Snapshots.{model_of};
 ghost use Rattle.sled_log.specs.declared.session.command.Command.TheVariants as told;
 ghost use Rattle.sled_log.specs.Devices.{TouchesIn, is_open, opens_after};
@@ -13,12 +13,12 @@ use crate::session::opened::{Opened, Origin};
 use crate::snapshot::{Snapshot, read_snapshot_or_default};
 use sled_codec::serialization::Checksum;
 use sled_core::logger::Log;
-use sled_store::{CrashDevice, RunningConfig};
+use sled_store::{Device, RunningConfig};
 
 /// Recovers what the device has, and opens a log on it.
-pub(crate) fn open<D: CrashDevice, C: Checksum>(config: RunningConfig<D, C>) -> (Phase<D, C>, Reply)
-    ensures step { CarriesOut (view_by D.trace D.faults D.is_stopped) C.sum_of (Phase.Closed config) told.Open result }
-    ensures device { TouchesIn (view_by D.trace D.faults D.is_stopped) C.sum_of (Phase.Closed config) told.Open result.0 result.1 }
+pub(crate) fn open<D: Device, C: Checksum>(config: RunningConfig<D, C>) -> (Phase<D, C>, Reply)
+    ensures step { (stopped : D → Bool) → CarriesOut (view_by D.trace D.faults stopped) C.sum_of (Phase.Closed config) told.Open result }
+    ensures device { (stopped : D → Bool) → TouchesIn (view_by D.trace D.faults stopped) C.sum_of (Phase.Closed config) told.Open result.0 result.1 }
     ensures on { RunsOn D.trace config (running result.0) }
 {
     let mut config = config;
@@ -29,13 +29,13 @@ pub(crate) fn open<D: CrashDevice, C: Checksum>(config: RunningConfig<D, C>) -> 
 }
 
 /// Opens a log on what was recovered.
-fn start<D: CrashDevice, C: Checksum>(
+fn start<D: Device, C: Checksum>(
     config: RunningConfig<D, C>,
     snapshot: Snapshot,
 ) -> (Phase<D, C>, Reply)
-    ensures acts { let view = view_by D.trace D.faults D.is_stopped in
+    ensures acts { (stopped : D → Bool) → let view = view_by D.trace D.faults stopped in
         HasStarted config.config.segment_size result.1 (view config.device) (model_of snapshot) (device_in view result.0) }
-    ensures starts { Starts (view_by D.trace D.faults D.is_stopped) C.sum_of config (model_of snapshot) result }
+    ensures starts { (stopped : D → Bool) → Starts (view_by D.trace D.faults stopped) C.sum_of config (model_of snapshot) result }
     ensures opens { is_open result.0 ≡ opens_after false told.Open result.1 }
     ensures on { RunsOn D.trace config (running result.0) }
 {

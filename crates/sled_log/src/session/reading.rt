@@ -1,5 +1,5 @@
 //! Reading pages.
-ghost use Rattle.std.specs.Prelude.{◌≡◌, ◌∷◌, length, map, None};
+ghost use Rattle.std.specs.Prelude.{Bool, ◌≡◌, ◌∷◌, length, map, None};
 ghost use Rattle.sled_core.specs.Fits.{config_of};
 ghost use Rattle.sled_log.specs.declared.session.command.Command.TheVariants as told;
 ghost use Rattle.sled_log.specs.Readings.{ReadsEntries, ReadsItem};
@@ -13,12 +13,12 @@ use sled_codec::serialization::Checksum;
 use sled_codec::serialization::snapshot::{Entry, PageState};
 use sled_core::logger::Log;
 use sled_core::logger::read_message::LogRead;
-use sled_store::CrashDevice;
+use sled_store::Device;
 use std::alloc::Global;
 
 /// Reads what a page is.
-pub(crate) fn read<D: CrashDevice, C: Checksum>(opened: &mut Opened<D, C>, page: PageId) -> Reply
-    ensures step { opened.old.due ≡ None → CarriesHere (view_by D.trace D.faults D.is_stopped) C.sum_of
+pub(crate) fn read<D: Device, C: Checksum>(opened: &mut Opened<D, C>, page: PageId) -> Reply
+    ensures step { (stopped : D → Bool) → opened.old.due ≡ None → CarriesHere (view_by D.trace D.faults stopped) C.sum_of
         (Phase.Open opened.old) (told.Read page) (Phase.Open opened.new, result) }
     ensures on { RunsOn D.trace (config_of opened.old.log) (config_of opened.new.log) }
 {
@@ -38,14 +38,14 @@ pub(crate) fn read<D: CrashDevice, C: Checksum>(opened: &mut Opened<D, C>, page:
 }
 
 /// Reads the messages of a page, its Replace first. A failure that the log keeps comes before all.
-fn read_entries<D: CrashDevice, C: Checksum>(
+fn read_entries<D: Device, C: Checksum>(
     alloc: Global,
     log: &mut Log<D, C>,
     page: PageId,
     base: &Entry,
     frags: &[Entry],
 ) -> Result<Vec<Vec<u8>>>
-    ensures reads { ReadsEntries (view_by D.trace D.faults D.is_stopped) C.sum_of log.old page (base.now ∷ frags.now) log.new result }
+    ensures reads { (stopped : D → Bool) → ReadsEntries (view_by D.trace D.faults stopped) C.sum_of log.old page (base.now ∷ frags.now) log.new result }
     ensures on { RunsOn D.trace (config_of log.old) (config_of log.new) }
 {
     if let Some(e) = log.failure() {
@@ -60,13 +60,13 @@ fn read_entries<D: CrashDevice, C: Checksum>(
 }
 
 /// Reads the item of a message, from its record or from its blob.
-fn read_item<D: CrashDevice, C: Checksum>(
+fn read_item<D: Device, C: Checksum>(
     log: &mut Log<D, C>,
     page: PageId,
     place: Lsn,
     pointer: DiskPtr,
 ) -> Result<Vec<u8>>
-    ensures reads { ReadsItem (view_by D.trace D.faults D.is_stopped) C.sum_of log.old page place pointer log.new result }
+    ensures reads { (stopped : D → Bool) → ReadsItem (view_by D.trace D.faults stopped) C.sum_of log.old page place pointer log.new result }
     ensures on { RunsOn D.trace (config_of log.old) (config_of log.new) }
 {
     match log.read(page, place, pointer)? {

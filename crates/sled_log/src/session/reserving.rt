@@ -1,5 +1,5 @@
 //! Keeping places for messages, and beginning batches.
-ghost use Rattle.std.specs.Prelude.{[], ◌≡◌, ◌≢◌, ◌<◌, ◌-◌, ◌^◌, length, vec_capacity, vec_len, None, OnOk};
+ghost use Rattle.std.specs.Prelude.{Bool, [], ◌≡◌, ◌≢◌, ◌<◌, ◌-◌, ◌^◌, length, vec_capacity, vec_len, None, OnOk};
 ghost use Rattle.sled_codec.specs.History.{ChangesPage};
 ghost use Rattle.sled_codec.specs.declared.serialization.message.LogKind.TheVariants.{Free, Skip};
 ghost use Rattle.sled_core.specs.Manifests.{manifest_page};
@@ -17,13 +17,13 @@ use sled_codec::result::{Error, PageId, Result};
 use sled_codec::serialization::message::BATCH_MANIFEST_PID;
 use sled_codec::serialization::{BatchManifest, Checksum, LogKind, Serialize};
 use sled_core::reservation::{Guard, Reservation};
-use sled_store::CrashDevice;
+use sled_store::Device;
 
 /// How many tickets may be open: each has a pin.
 const MOST_PINS: u64 = 4_294_967_295;
 
 /// Keeps a place for a message of a page, with a pin, and numbers its ticket. The room for both is made first.
-pub(crate) fn reserve<D: CrashDevice, C: Checksum, T: Serialize>(
+pub(crate) fn reserve<D: Device, C: Checksum, T: Serialize>(
     opened: &mut Opened<D, C>,
     kind: LogKind,
     page: PageId,
@@ -32,7 +32,7 @@ pub(crate) fn reserve<D: CrashDevice, C: Checksum, T: Serialize>(
     requires fits { T.fits (T.meaning item.now) }
     requires kind { ChangesPage kind }
     requires plain { kind ≡ Free → T.short (T.meaning item.now) ≡ [] }
-    ensures step { opened.old.due ≡ None → Reserves (view_by D.trace D.faults D.is_stopped) C.sum_of
+    ensures step { (stopped : D → Bool) → opened.old.due ≡ None → Reserves (view_by D.trace D.faults stopped) C.sum_of
         opened.old kind page (T.short (T.meaning item.now)) opened.new result }
     ensures on { RunsOn D.trace (config_of opened.old.log) (config_of opened.new.log) }
 {
@@ -48,8 +48,8 @@ pub(crate) fn reserve<D: CrashDevice, C: Checksum, T: Serialize>(
 
 /// Keeps a place for a Replace of a page that is one item in a blob, which stays there, and numbers its ticket. The room for it
 /// is made first.
-pub(crate) fn rewrite<D: CrashDevice, C: Checksum>(opened: &mut Opened<D, C>, page: PageId) -> Reply
-    ensures step { opened.old.due ≡ None → CarriesHere (view_by D.trace D.faults D.is_stopped) C.sum_of
+pub(crate) fn rewrite<D: Device, C: Checksum>(opened: &mut Opened<D, C>, page: PageId) -> Reply
+    ensures step { (stopped : D → Bool) → opened.old.due ≡ None → CarriesHere (view_by D.trace D.faults stopped) C.sum_of
         (Phase.Open opened.old) (told.Rewrite page) (Phase.Open opened.new, result) }
     ensures on { RunsOn D.trace (config_of opened.old.log) (config_of opened.new.log) }
 {
@@ -67,8 +67,8 @@ pub(crate) fn rewrite<D: CrashDevice, C: Checksum>(opened: &mut Opened<D, C>, pa
 }
 
 /// Begins a batch: keeps a place for its manifest, and numbers the ticket of that. The room for it is made first.
-pub(crate) fn begin<D: CrashDevice, C: Checksum>(opened: &mut Opened<D, C>) -> Reply
-    ensures step { opened.old.due ≡ None → CarriesHere (view_by D.trace D.faults D.is_stopped) C.sum_of
+pub(crate) fn begin<D: Device, C: Checksum>(opened: &mut Opened<D, C>) -> Reply
+    ensures step { (stopped : D → Bool) → opened.old.due ≡ None → CarriesHere (view_by D.trace D.faults stopped) C.sum_of
         (Phase.Open opened.old) told.BeginBatch (Phase.Open opened.new, result) }
     ensures on { RunsOn D.trace (config_of opened.old.log) (config_of opened.new.log) }
 {
@@ -85,11 +85,7 @@ pub(crate) fn begin<D: CrashDevice, C: Checksum>(opened: &mut Opened<D, C>) -> R
 }
 
 /// Gives a pin back where no place was kept.
-fn give_back<D: CrashDevice, C: Checksum>(
-    opened: &mut Opened<D, C>,
-    guard: Guard,
-    why: Error,
-) -> Reply
+fn give_back<D: Device, C: Checksum>(opened: &mut Opened<D, C>, guard: Guard, why: Error) -> Reply
     ensures { GivesBack D.trace C.sum_of opened.old opened.new why result }
 {
     unpin(&mut opened.log, guard);
@@ -101,7 +97,7 @@ fn give_back<D: CrashDevice, C: Checksum>(
 /// # Errors
 ///
 /// `Io` where the log keeps a failure, and `OutOfMemory`, also where as many pins are out as can be.
-fn room_for_ticket<D: CrashDevice, C: Checksum>(opened: &mut Opened<D, C>) -> Result<()>
+fn room_for_ticket<D: Device, C: Checksum>(opened: &mut Opened<D, C>) -> Result<()>
     ensures room { MakesRoom opened.old opened.new }
     ensures enough { OnOk result ((pins_of opened.old.log < 2 ^ 32 - 1) × (vec_len opened.new.tickets < vec_capacity opened.new.tickets)) }
     ensures whole { FaultOrMemory result ⊥ (fault_of opened.old.log) }
@@ -120,7 +116,7 @@ fn room_for_ticket<D: CrashDevice, C: Checksum>(opened: &mut Opened<D, C>) -> Re
 /// # Errors
 ///
 /// As of `room_for_ticket`.
-fn room_for<D: CrashDevice, C: Checksum>(opened: &mut Opened<D, C>, page: PageId) -> Result<()>
+fn room_for<D: Device, C: Checksum>(opened: &mut Opened<D, C>, page: PageId) -> Result<()>
     ensures room { MakesRoom opened.old opened.new }
     ensures enough { OnOk result ((pins_of opened.old.log < 2 ^ 32 - 1) × (vec_len opened.new.tickets < vec_capacity opened.new.tickets)
         × (page < length opened.new.busy.items)) }
@@ -134,7 +130,7 @@ fn room_for<D: CrashDevice, C: Checksum>(opened: &mut Opened<D, C>, page: PageId
 }
 
 /// Keeps a ticket under the next number, where there is room for it.
-fn hold<D: CrashDevice, C: Checksum>(
+fn hold<D: Device, C: Checksum>(
     opened: &mut Opened<D, C>,
     kind: LogKind,
     page: PageId,
@@ -159,7 +155,7 @@ fn hold<D: CrashDevice, C: Checksum>(
 }
 
 /// Keeps the ticket of a manifest under the next number, where there is room for it.
-fn hold_manifest<D: CrashDevice, C: Checksum>(
+fn hold_manifest<D: Device, C: Checksum>(
     opened: &mut Opened<D, C>,
     reservation: Reservation,
     guard: Guard,

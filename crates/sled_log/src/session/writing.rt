@@ -1,5 +1,5 @@
 //! Writing what was reserved.
-ghost use Rattle.std.specs.Prelude.{◌≡◌, None};
+ghost use Rattle.std.specs.Prelude.{Bool, ◌≡◌, None};
 ghost use Rattle.sled_core.specs.Fits.{config_of};
 ghost use Rattle.sled_log.specs.declared.session.command.Command.TheVariants as told;
 ghost use Rattle.sled_log.specs.RunPhases.{CarriesHere, RunsOn, view_by};
@@ -9,11 +9,11 @@ use crate::session::command::{Refusal, Reply};
 use crate::session::opened::Opened;
 use sled_codec::result::Lsn;
 use sled_codec::serialization::Checksum;
-use sled_store::CrashDevice;
+use sled_store::Device;
 
 /// Writes one of the sealed buffers that can be written, and syncs it.
-pub(crate) fn write<D: CrashDevice, C: Checksum>(opened: &mut Opened<D, C>, i: usize) -> Reply
-    ensures step { opened.old.due ≡ None → CarriesHere (view_by D.trace D.faults D.is_stopped) C.sum_of
+pub(crate) fn write<D: Device, C: Checksum>(opened: &mut Opened<D, C>, i: usize) -> Reply
+    ensures step { (stopped : D → Bool) → opened.old.due ≡ None → CarriesHere (view_by D.trace D.faults stopped) C.sum_of
         (Phase.Open opened.old) (told.Write i) (Phase.Open opened.new, result) }
     ensures on { RunsOn D.trace (config_of opened.old.log) (config_of opened.new.log) }
 {
@@ -27,8 +27,8 @@ pub(crate) fn write<D: CrashDevice, C: Checksum>(opened: &mut Opened<D, C>, i: u
 }
 
 /// Writes all that was reserved, and syncs it.
-pub(crate) fn flush<D: CrashDevice, C: Checksum>(opened: &mut Opened<D, C>) -> Reply
-    ensures step { opened.old.due ≡ None → CarriesHere (view_by D.trace D.faults D.is_stopped) C.sum_of
+pub(crate) fn flush<D: Device, C: Checksum>(opened: &mut Opened<D, C>) -> Reply
+    ensures step { (stopped : D → Bool) → opened.old.due ≡ None → CarriesHere (view_by D.trace D.faults stopped) C.sum_of
         (Phase.Open opened.old) told.Flush (Phase.Open opened.new, result) }
     ensures on { RunsOn D.trace (config_of opened.old.log) (config_of opened.new.log) }
 {
@@ -39,8 +39,8 @@ pub(crate) fn flush<D: CrashDevice, C: Checksum>(opened: &mut Opened<D, C>) -> R
 }
 
 /// Makes the message at a place durable, and all before it.
-pub(crate) fn stabilize<D: CrashDevice, C: Checksum>(opened: &mut Opened<D, C>, place: Lsn) -> Reply
-    ensures step { opened.old.due ≡ None → CarriesHere (view_by D.trace D.faults D.is_stopped) C.sum_of
+pub(crate) fn stabilize<D: Device, C: Checksum>(opened: &mut Opened<D, C>, place: Lsn) -> Reply
+    ensures step { (stopped : D → Bool) → opened.old.due ≡ None → CarriesHere (view_by D.trace D.faults stopped) C.sum_of
         (Phase.Open opened.old) (told.Stable place) (Phase.Open opened.new, result) }
     ensures on { RunsOn D.trace (config_of opened.old.log) (config_of opened.new.log) }
 {

@@ -7,12 +7,12 @@ use Rattle.sled_log.proofs.session.Session.end.Goals as goal
 
 pub returns : goal.returns
 returns g c = record {
-  device = λ a at.
-      let view = view_by g.D.Device.trace g.D.Device.faults g.D.CrashDevice.is_stopped in
+  device = λ stopped a at.
+      let view = view_by g.D.Device.trace g.D.Device.faults stopped in
       device_at view g.C.Checksum.sum_of c.args.self a c.unwrap-phase.result c.unwrap-phase.ensures at
       ∙ sym (ap view c.into_device.ensures ∙ ap (λ x. view x.device) c.close.ensures);
-  over = λ on device over.
-      let view = view_by g.D.Device.trace g.D.Device.faults g.D.CrashDevice.is_stopped in
+  over = λ stopped on device over.
+      let view = view_by g.D.Device.trace g.D.Device.faults stopped in
       (over_in view g.C.Checksum.sum_of c.args.self c.unwrap-phase.result c.unwrap-phase.ensures on device over).1
       ∙ sym (ap view c.into_device.ensures ∙ ap (λ x. view x.device) c.close.ensures);
 }

@@ -14,8 +14,8 @@ pub returns-clause-size : goal.returns-clause-size
 returns-clause-size g c = ap (λ (x : Config). x.segment_size) c.new-config.ensures.config
 
 pub returns-clause-begins : goal.returns-clause-begins
-returns-clause-begins g c = λ none.
-    let view = view_by g.D.Device.trace g.D.Device.faults g.D.CrashDevice.is_stopped in
+returns-clause-begins g c = λ stopped none.
+    let view = view_by g.D.Device.trace g.D.Device.faults stopped in
     let sum = g.C.Checksum.sum_of in
     let trace = g.D.Device.trace in
     let made = c.new-config.result in
@@ -26,6 +26,6 @@ returns-clause-begins g c = λ none.
     stands_at view sum _ _ _ refl (k, ap (λ x. begins_on (view x)) (sym same), fresh_closed sum config.segment_size config.least (let most = config.most in omega (arith, most)) (trace made.device) fresh_yet)
 
 pub returns-clause-over : goal.returns-clause-over
-returns-clause-over g c =
-    let view = view_by g.D.Device.trace g.D.Device.faults g.D.CrashDevice.is_stopped in
+returns-clause-over g c = λ stopped.
+    let view = view_by g.D.Device.trace g.D.Device.faults stopped in
     over_begun view _ _ c.new-config.result refl (ap view c.new-config.ensures.device)

@@ -11,15 +11,15 @@ use Rattle.sled_log.proofs.session.Session.pages.Goals as goal
 
 pub returns-in-Open : goal.returns-in-Open
 returns-in-Open g c = record {
-  table = λ a at.
-      let view = view_by g.D.Device.trace g.D.Device.faults g.D.CrashDevice.is_stopped in
+  table = λ stopped a at.
+      let view = view_by g.D.Device.trace g.D.Device.faults stopped in
       subst (λ (l : List PageState). IsSome a.log × IsTable (map page_of l) a.history top) (sym c.deref.ensures.value)
       (stands_open view g.C.Checksum.sum_of c.args.self.now a c.in-Open.opened (sym c.in_ok-opened.ensures.value ∙ ap Some c.in-Open.is) at);
 }
 
 pub returns-in-Closed : goal.returns-in-Closed
 returns-in-Closed g c = record {
-  table = λ a at.
-      let view = view_by g.D.Device.trace g.D.Device.faults g.D.CrashDevice.is_stopped in
+  table = λ stopped a at.
+      let view = view_by g.D.Device.trace g.D.Device.faults stopped in
       stands_closed view g.C.Checksum.sum_of c.args.self.now a c.in-Closed.field-0 (sym c.in_ok-opened.ensures.value ∙ ap Some c.in-Closed.is) at;
 }

@@ -15,16 +15,16 @@ use Rattle.sled_log.proofs.Sessions.EndedTickets.{GivesUp, abort_fails, aborts, 
 use Rattle.sled_log.proofs.session.ending.abort.Goals as goal
 
 pub returns-in_default-clause-step : goal.returns-in_default-clause-step
-returns-in_default-clause-step g c = λ none k at asked.
-    let view = view_by g.D.Device.trace g.D.Device.faults g.D.CrashDevice.is_stopped in
+returns-in_default-clause-step g c = λ stopped. λ none k at asked.
+    let view = view_by g.D.Device.trace g.D.Device.faults stopped in
     let old = c.args.opened.now in
     let its = open_there (view old.log.config.device).is_stopped c.args.number k.tickets asked in
     let taken = takes_it view g.C.Checksum.sum_of old k at c.args.number its.0 its.1 c.take_open.new.opened c.take_open.result c.take_open.ensures in
     absurd (c.in_default.not-Some _ taken)
 
 pub returns-in-Err-clause-step : goal.returns-in-Err-clause-step
-returns-in-Err-clause-step g c = λ none k at asked.
-    let view = view_by g.D.Device.trace g.D.Device.faults g.D.CrashDevice.is_stopped in
+returns-in-Err-clause-step g c = λ stopped. λ none k at asked.
+    let view = view_by g.D.Device.trace g.D.Device.faults stopped in
     let sum = g.C.Checksum.sum_of in
     let old = c.args.opened.now in
     let mid = c.take_open.new.opened in
@@ -42,8 +42,8 @@ returns-in-Err-clause-step g c = λ none k at asked.
     (subst (λ x. GivesUp {T = ℤ × DiskPtr} view sum (Err c.in-Err.e) own x new) takes.log did) (c.abort-aborted.ensures.ends.machine ∙ ap (λ x. machine_at x) takes.log) (ap (λ x. map page_of x.items) takes.pages))
 
 pub returns-in-Ok-clause-step : goal.returns-in-Ok-clause-step
-returns-in-Ok-clause-step g c = λ none k at asked.
-    let view = view_by g.D.Device.trace g.D.Device.faults g.D.CrashDevice.is_stopped in
+returns-in-Ok-clause-step g c = λ stopped. λ none k at asked.
+    let view = view_by g.D.Device.trace g.D.Device.faults stopped in
     let old = c.args.opened.now in
     let mid = c.take_open.new.opened in
     let new = c.abort-aborted.new.self in

@@ -1,5 +1,5 @@
 -- The message of a ticket is completed and marked.
-use Rattle.std.proofs.Common.{◌≡◌, ◌≢◌, ◌∙◌, ap, sym, subst, refl, ◌<◌, ℕ, List, is_err, None, Some, Err, map, ℤ}
+use Rattle.std.proofs.Common.{Bool, ◌≡◌, ◌≢◌, ◌∙◌, ap, sym, subst, refl, ◌<◌, ℕ, List, is_err, None, Some, Err, map, ℤ}
 use Rattle.sled_codec.specs.History.{Message}
 use Rattle.sled_codec.specs.Snapshots.{Entry, page_of}
 use Rattle.std.specs.List.{slice_get}
@@ -35,27 +35,27 @@ use Rattle.sled_log.proofs.session.ending.complete.Goals.{In-Some}
 use Rattle.sled_log.proofs.session.ending.complete.Goals as goal
 
 -- how a run sees a device
-abbrev seen_by : (g : Over) → g.row.D.Denot → DeviceView
-seen_by g = view_by g.D.Device.trace g.D.Device.faults g.D.CrashDevice.is_stopped
+abbrev seen_by : (g : Over) → (g.row.D.Denot → Bool) → g.row.D.Denot → DeviceView
+seen_by g stopped = view_by g.D.Device.trace g.D.Device.faults stopped
 
 pub returns-then-is_err-clause-step : goal.returns-then-is_err-clause-step
-returns-then-is_err-clause-step g c = λ none k at asked.
-    room_fails (seen_by g) g.C.Checksum.sum_of c.args.opened.now c.room_for.new.opened c.room_for.ensures.kept k c.args.number (on_failure c.room_for.result _ (sym c.is_err.ensures.value ∙ c.if-is_err.true) c.room_for.ensures.whole) at
+returns-then-is_err-clause-step g c = λ stopped. λ none k at asked.
+    room_fails (seen_by g stopped) g.C.Checksum.sum_of c.args.opened.now c.room_for.new.opened c.room_for.ensures.kept k c.args.number (on_failure c.room_for.result _ (sym c.is_err.ensures.value ∙ c.if-is_err.true) c.room_for.ensures.whole) at
 
 -- The list of what it takes the place of found no memory.
 pub returns-in_default-clause-step : goal.returns-in_default-clause-step
-returns-in_default-clause-step g c = λ none k at asked.
-    room_fails (seen_by g) g.C.Checksum.sum_of c.args.opened.now c.room_for.new.opened c.room_for.ensures.kept k c.args.number
+returns-in_default-clause-step g c = λ stopped. λ none k at asked.
+    room_fails (seen_by g stopped) g.C.Checksum.sum_of c.args.opened.now c.room_for.new.opened c.room_for.ensures.kept k c.args.number
     (sym (ap (λ x. fault_of x) c.room_for.ensures.kept.log) ∙ on_failure c.former_for.result _ (ap is_err c.in_default.is) c.former_for.ensures.whole) at
 
 pub returns-in_default-take_open-clause-step : goal.returns-in_default-take_open-clause-step
-returns-in_default-take_open-clause-step g c = λ none k at asked.
+returns-in_default-take_open-clause-step g c = λ stopped. λ none k at asked.
     let sum = g.C.Checksum.sum_of in
     let given = c.args.opened.now in
     let old = c.room_for.new.opened in
-    let its = message_open (seen_by g given.log.config.device).is_stopped c.args.number k.tickets asked in
-    let roomy = room_open (seen_by g) sum given old c.room_for.ensures.kept k at in
-    absurd (c.in_default-take_open.not-Some _ (takes_it (seen_by g) sum old k roomy c.args.number its.0 its.1 c.take_open.new.opened c.take_open.result c.take_open.ensures))
+    let its = message_open (seen_by g stopped given.log.config.device).is_stopped c.args.number k.tickets asked in
+    let roomy = room_open (seen_by g stopped) sum given old c.room_for.ensures.kept k at in
+    absurd (c.in_default-take_open.not-Some _ (takes_it (seen_by g stopped) sum old k roomy c.args.number its.0 its.1 c.take_open.new.opened c.take_open.result c.take_open.ensures))
 
 -- The ticket was taken.
 module _ (g : Over) (c : In-Some g) where
@@ -74,21 +74,21 @@ module _ (g : Over) (c : In-Some g) where
   takes : TakesTicket old c.args.number mid (Some ticket)
   takes = subst (TakesTicket old c.args.number mid) c.in-Some.is c.take_open.ensures
 
-  module _ (k : Unstored) (at : IsOpenAt (traces (seen_by g)) sum c.args.opened.now k) (asked : refusal_for (stands (seen_by g) (Open c.args.opened.now) k) (Complete c.args.number) ≡ None) where
+  module _ (stopped : g.row.D.Denot → Bool) (k : Unstored) (at : IsOpenAt (traces (seen_by g stopped)) sum c.args.opened.now k) (asked : refusal_for (stands (seen_by g stopped) (Open c.args.opened.now) k) (Complete c.args.number) ≡ None) where
     -- it was open, for a message that is no manifest
     its : (m : Message) × (slice_get k.tickets c.args.number ≡ Some (Some m)) × (m.page ≢ manifest_page)
-    its = message_open (seen_by g c.args.opened.now.log.config.device).is_stopped c.args.number k.tickets asked
+    its = message_open (seen_by g stopped c.args.opened.now.log.config.device).is_stopped c.args.number k.tickets asked
 
     -- only room was made before
-    roomy : IsOpenAt (traces (seen_by g)) sum old k
-    roomy = room_open (seen_by g) sum c.args.opened.now old c.room_for.ensures.kept k at
+    roomy : IsOpenAt (traces (seen_by g stopped)) sum old k
+    roomy = room_open (seen_by g stopped) sum c.args.opened.now old c.room_for.ensures.kept k at
 
 -- A manifest's ticket was refused before.
 pub returns-then-is_manifest-clause-step : goal.returns-then-is_manifest-clause-step
-returns-then-is_manifest-clause-step g c = λ none k at asked.
+returns-then-is_manifest-clause-step g c = λ stopped. λ none k at asked.
     let taken = (goal.at.returns-then-is_manifest-clause-step g c).In-Some in
-    let one = its g taken k at asked in
-    absurd (false≢true (sym (is_message (seen_by g) (sum g taken) (old g taken) k (roomy g taken k at asked) c.args.number one.0 one.1 (mid g taken) (ticket g taken) (takes g taken) one.2) ∙ sym c.is_manifest.ensures ∙ c.if-is_manifest.true))
+    let one = its g taken stopped k at asked in
+    absurd (false≢true (sym (is_message (seen_by g stopped) (sum g taken) (old g taken) k (roomy g taken stopped k at asked) c.args.number one.0 one.1 (mid g taken) (ticket g taken) (takes g taken) one.2) ∙ sym c.is_manifest.ensures ∙ c.if-is_manifest.true))
 
 pub apply-requires : goal.apply-requires
 apply-requires g c =
@@ -99,16 +99,16 @@ apply-requires g c =
     subst (λ x. HasRoomToApply x c.in-Some.field-0.kind c.in-Some.field-0.page) (sym took.pages) (room c.in-Some.field-0 took.there)
 
 pub returns-in-Err-clause-step : goal.returns-in-Err-clause-step
-returns-in-Err-clause-step g c = λ none k at asked.
+returns-in-Err-clause-step g c = λ stopped. λ none k at asked.
     let taken = (goal.at.returns-in-Err-clause-step g c).In-Some in
-    let view = seen_by g in
+    let view = seen_by g stopped in
     let sum = g.C.Checksum.sum_of in
     let given = c.args.opened.now in
     let old = c.room_for.new.opened in
     let mid = c.take_open.new.opened in
     let new = c.complete.new.self in
-    let one = its g taken k at asked in
-    let open_there = roomy g taken k at asked in
+    let one = its g taken stopped k at asked in
+    let open_there = roomy g taken stopped k at asked in
     let none_due = c.room_for.ensures.kept.due ∙ none in
     let took = takes g taken in
     let back = c.unpin.ensures in
@@ -119,17 +119,17 @@ returns-in-Err-clause-step g c = λ none k at asked.
     (subst (λ x. FaultAnswers {T = ℤ × DiskPtr} (Err c.in-Err.e) (fault_of x)) took.log c.in-Err.ensures.answers) (c.in-Err.ensures.err ∙ took.log) (ap (λ x. map page_of x.items) took.pages)))
 
 pub returns-in-Ok-complete-clause-step : goal.returns-in-Ok-complete-clause-step
-returns-in-Ok-complete-clause-step g c = λ none k at asked.
+returns-in-Ok-complete-clause-step g c = λ stopped. λ none k at asked.
     let taken = (goal.at.returns-in-Ok-complete-clause-step g c).In-Some in
-    let view = seen_by g in
+    let view = seen_by g stopped in
     let sum = g.C.Checksum.sum_of in
     let trace = g.D.Device.trace in
     let given = c.args.opened.now in
     let old = c.room_for.new.opened in
     let mid = c.take_open.new.opened in
     let new = c.complete.new.self in
-    let one = its g taken k at asked in
-    let open_there = roomy g taken k at asked in
+    let one = its g taken stopped k at asked in
+    let open_there = roomy g taken stopped k at asked in
     let none_due = c.room_for.ensures.kept.due ∙ none in
     let took = takes g taken in
     let ticket = c.in-Some.field-0.reservation in

@@ -1,5 +1,5 @@
 -- The batch that is begun ends with the greatest place that was reserved.
-use Rattle.std.proofs.Common.{◌≡◌, ◌∙◌, ◌-ℤ◌, ◌<ℤ◌, ℤ, pos, to_z, of_z, w64, ap, sym, subst, Some, Err}
+use Rattle.std.proofs.Common.{Bool, ◌≡◌, ◌∙◌, ◌-ℤ◌, ◌<ℤ◌, ℤ, pos, to_z, of_z, w64, ap, sym, subst, Some, Err}
 use Rattle.std.specs.Prelude.{FitsSigned}
 use Rattle.std.specs.List.{slice_get}
 use Rattle.std.proofs.lemmas.Bool.{false≢true}
@@ -33,8 +33,8 @@ peg_read : {D C : Type 0} (z : ℤ) (mid old : Log D C) → z ≡ pos (reserved_
 peg_read z mid old is same fits = to_z-of_z w64 z fits ∙ is ∙ ap (λ l. pos (reserved_end l) -ℤ pos 1) same
 
 -- how a run sees a device
-abbrev seen_by : (g : Over) → g.row.D.Denot → DeviceView
-seen_by g = view_by g.D.Device.trace g.D.Device.faults g.D.CrashDevice.is_stopped
+abbrev seen_by : (g : Over) → (g.row.D.Denot → Bool) → g.row.D.Denot → DeviceView
+seen_by g stopped = view_by g.D.Device.trace g.D.Device.faults stopped
 
 -- The ticket of a batch's manifest was taken, and the greatest place that was reserved was read.
 module _ (g : Over) (c : After-reserved_offset-peg g) where
@@ -47,40 +47,40 @@ module _ (g : Over) (c : After-reserved_offset-peg g) where
   peg_is = peg_read c.reserved_offset-peg.result c.take_open.new.opened.log c.args.opened.now.log c.reserved_offset-peg.ensures takes.log (record { sfits = c.reserved_offset-peg.type_inv })
 
   -- in the history, the ticket was for a message of the page of manifests
-  its_batch : (k : Unstored) → IsOpenAt (traces (seen_by g)) g.C.Checksum.sum_of c.args.opened.now k → (m : Message) × (slice_get k.tickets c.in-Some.number ≡ Some (Some m)) × (m.page ≡ manifest_page)
-  its_batch k at = subst (HasBatch k.tickets) c.in-Some.is at.tickets.batch
+  its_batch : (stopped : g.row.D.Denot → Bool) (k : Unstored) → IsOpenAt (traces (seen_by g stopped)) g.C.Checksum.sum_of c.args.opened.now k → (m : Message) × (slice_get k.tickets c.in-Some.number ≡ Some (Some m)) × (m.page ≡ manifest_page)
+  its_batch stopped k at = subst (HasBatch k.tickets) c.in-Some.is at.tickets.batch
 
 pub returns-in_default-clause-step : goal.returns-in_default-clause-step
-returns-in_default-clause-step g c = λ none k at asked.
+returns-in_default-clause-step g c = λ stopped. λ none k at asked.
     let old = c.args.opened.now in
-    let batch = batch_there (seen_by g old.log.config.device).is_stopped k.tickets old.batch at.tickets.batch asked in
+    let batch = batch_there (seen_by g stopped old.log.config.device).is_stopped k.tickets old.batch at.tickets.batch asked in
     absurd (c.in_default.not-Some _ batch.1)
 
 pub returns-in_default-take_open-clause-step : goal.returns-in_default-take_open-clause-step
-returns-in_default-take_open-clause-step g c = λ none k at asked.
+returns-in_default-take_open-clause-step g c = λ stopped. λ none k at asked.
     let its = subst (HasBatch k.tickets) c.in-Some.is at.tickets.batch in
-    absurd (c.in_default-take_open.not-Some _ (takes_it (seen_by g) g.C.Checksum.sum_of c.args.opened.now k at c.in-Some.number its.0 its.1 c.take_open.new.opened c.take_open.result c.take_open.ensures))
+    absurd (c.in_default-take_open.not-Some _ (takes_it (seen_by g stopped) g.C.Checksum.sum_of c.args.opened.now k at c.in-Some.number its.0 its.1 c.take_open.new.opened c.take_open.result c.take_open.ensures))
 
 pub returns-then-not-may_end_at-clause-step : goal.returns-then-not-may_end_at-clause-step
-returns-then-not-may_end_at-clause-step g c = λ none k at asked.
+returns-then-not-may_end_at-clause-step g c = λ stopped. λ none k at asked.
     let sum = g.C.Checksum.sum_of in
     let old = c.args.opened.now in
     let mid = c.take_open.new.opened in
     let ticket = c.in-Some-take_open.field-0 in
     let read = (goal.at.returns-then-not-may_end_at-clause-step g c).After-reserved_offset-peg in
-    let its = its_batch g read k at in
+    let its = its_batch g read stopped k at in
     let took = takes g read in
-    let manifest = is_batch (seen_by g) sum old k at c.in-Some.number its.0 its.1 its.2 mid ticket took in
+    let manifest = is_batch (seen_by g stopped) sum old k at c.in-Some.number its.0 its.1 its.2 mid ticket took in
     let peg : ℤ = to_z w64 (of_z w64 c.reserved_offset-peg.result) in
     let ends : MayEndAt mid.log ticket.reservation peg =
-    subst (λ l. MayEndAt l ticket.reservation peg) (sym took.log) (subst (MayEndAt old.log ticket.reservation) (sym (peg_is g read)) (may_end (seen_by g) sum old k at c.in-Some.number its.0 its.1 its.2 mid ticket took)) in
+    subst (λ l. MayEndAt l ticket.reservation peg) (sym took.log) (subst (MayEndAt old.log ticket.reservation) (sym (peg_is g read)) (may_end (seen_by g stopped) sum old k at c.in-Some.number its.0 its.1 its.2 mid ticket took)) in
     elim c.if-is_manifest.branch [
       | then-is_manifest w ↦ absurd (false≢true (sym c.if-not-may_end_at.true ∙ w.value-is ∙ w.may_end_at.ensures.1 ends))
       | else-is_manifest w ↦ absurd (false≢true (sym w.if-is_manifest.false ∙ c.is_manifest.ensures ∙ manifest))
     ]
 
 pub returns-in-Ok-clause-step : goal.returns-in-Ok-clause-step
-returns-in-Ok-clause-step g c = λ none k at asked.
+returns-in-Ok-clause-step g c = λ stopped. λ none k at asked.
     let sum = g.C.Checksum.sum_of in
     let trace = g.D.Device.trace in
     let old = c.args.opened.now in
@@ -89,34 +89,34 @@ returns-in-Ok-clause-step g c = λ none k at asked.
     let n = c.in-Some.number in
     let ticket = c.in-Some-take_open.field-0 in
     let read = (goal.at.returns-in-Ok-clause-step g c).After-reserved_offset-peg in
-    let its = its_batch g read k at in
+    let its = its_batch g read stopped k at in
     let m = its.0 in
     let took = takes g read in
     let fits : Fits trace sum mid.log k.history k.acknowledged k.floor at.unmarked = subst (λ x. Fits trace sum x k.history k.acknowledged k.floor at.unmarked) (sym took.log) at.fits in
-    let awaits : Awaits old.log ticket.reservation m = awaits_it (seen_by g) sum old k at n m its.1 mid ticket took in
+    let awaits : Awaits old.log ticket.reservation m = awaits_it (seen_by g stopped) sum old k at n m its.1 mid ticket took in
     let says = awaited old.log ticket.reservation m awaits in
     let done = c.in-Ok.ensures in
     let gives = done.fits k.history k.acknowledged k.floor at.unmarked fits in
     let notes : NotesBatchOf ticket.reservation (pos (reserved_end old.log) -ℤ pos 1) old.log new =
     subst (λ x. NotesBatchOf ticket.reservation (pos (reserved_end old.log) -ℤ pos 1) x new) took.log (subst (λ z. NotesBatchOf ticket.reservation z mid.log new) (peg_is g read) done.same) in
     let back = c.unpin.ensures in
-    does_back (seen_by g) sum old k at n m its.1 mid ticket took none new mid.pages c.unpin.new.log back.given _ _
-    (ends_batch (seen_by g) sum old k at n m its.1 its.2 mid ticket took none new notes (c.mark_writebatch-ended.ensures.ends.machine ∙ ap (λ x. machine_at x) took.log)
+    does_back (seen_by g stopped) sum old k at n m its.1 mid ticket took none new mid.pages c.unpin.new.log back.given _ _
+    (ends_batch (seen_by g stopped) sum old k at n m its.1 its.2 mid ticket took none new notes (c.mark_writebatch-ended.ensures.ends.machine ∙ ap (λ x. machine_at x) took.log)
     (subst (λ x. SamePosition x new) took.log c.mark_writebatch-ended.ensures.ends.position) (subst (λ x. KeepsBuffers x new) took.log c.mark_writebatch-ended.ensures.ends.buffers)
     (sym (ap (λ x. fault_of x) took.log) ∙ done.answers)
     (λ t x holds ne. c.mark_writebatch-ended.ensures.ends.others k.history t x (fits_holds trace sum mid.log k.history k.acknowledged k.floor at.unmarked fits) (subst (λ y. Awaits y t x) (sym took.log) holds) ne)
     (λ j x apart had. safe_on trace sum mid.log new x c.mark_writebatch-ended.ensures.goes_on (subst (λ y. IsSafe trace sum y x) (sym took.log) had.stored))
     (subst (λ x. TakesOut m.place (open_places x) (open_places new)) took.log (done.ends.opens m.place says.0))
-    (subst (λ x. AreAmong (given_up_of new) (given_up_of x)) took.log (c.mark_writebatch-ended.ensures.ended (subst (λ z. place_of ticket.reservation <ℤ z) (sym (peg_is g read)) (behind (seen_by g) sum old k at n m its.1 its.2 mid ticket took))))
+    (subst (λ x. AreAmong (given_up_of new) (given_up_of x)) took.log (c.mark_writebatch-ended.ensures.ended (subst (λ z. place_of ticket.reservation <ℤ z) (sym (peg_is g read)) (behind (seen_by g stopped) sum old k at n m its.1 its.2 mid ticket took))))
     (subst (λ x. HasNoOther x new) took.log (record { heads = c.mark_writebatch-ended.ensures.ends.heads; fillings = c.mark_writebatch-ended.ensures.ends.fillings }))
     _ c.in-Ok.pointer (sym (place_back c.in-Ok.low m.place (done.place.0 ∙ sym says.0) (awaited_small old.log ticket.reservation m awaits)), done.place.1 ∙ sym says.1)
     gives.0 (subst (λ z. EndsBatch k.history ticket.reservation z gives.0) (peg_is g read) gives.1)
-    (back_from (seen_by g) sum old k at n m its.1 mid ticket took none new mid.pages c.unpin.new.log back.given back.fits gives.0 gives.2))
+    (back_from (seen_by g stopped) sum old k at n m its.1 mid ticket took none new mid.pages c.unpin.new.log back.given back.fits gives.0 gives.2))
 
 pub returns-in-Err-clause-step : goal.returns-in-Err-clause-step
-returns-in-Err-clause-step g c = λ none k at asked.
+returns-in-Err-clause-step g c = λ stopped. λ none k at asked.
     let read = (goal.at.returns-in-Err-clause-step g c).After-reserved_offset-peg in
-    let its = its_batch g read k at in
+    let its = its_batch g read stopped k at in
     let took = takes g read in
     let sum = g.C.Checksum.sum_of in
     let old = c.args.opened.now in
@@ -125,7 +125,7 @@ returns-in-Err-clause-step g c = λ none k at asked.
     let ticket = c.in-Some-take_open.field-0 in
     let new = c.mark_writebatch-ended.new.self in
     let back = c.unpin.ensures in
-    does_back (seen_by g) sum old k at n its.0 its.1 mid ticket took none new mid.pages c.unpin.new.log back.given _ _
-    (end_fails (seen_by g) sum old k at n its.0 its.1 its.2 mid ticket took none new (ℤ × DiskPtr) c.in-Err.e
-    (back_from (seen_by g) sum old k at n its.0 its.1 mid ticket took none new mid.pages c.unpin.new.log back.given back.fits)
+    does_back (seen_by g stopped) sum old k at n its.0 its.1 mid ticket took none new mid.pages c.unpin.new.log back.given _ _
+    (end_fails (seen_by g stopped) sum old k at n its.0 its.1 its.2 mid ticket took none new (ℤ × DiskPtr) c.in-Err.e
+    (back_from (seen_by g stopped) sum old k at n its.0 its.1 mid ticket took none new mid.pages c.unpin.new.log back.given back.fits)
     (subst (λ x. FaultAnswers {T = ℤ × DiskPtr} (Err c.in-Err.e) (fault_of x)) took.log c.in-Err.ensures.answers) (c.in-Err.ensures.err ∙ took.log))

@@ -70,10 +70,10 @@ still_good sum size some old new s (reply.Failed e) starts H A f good = start_go
 still_good sum size some old new s _ starts H A f good = absurd starts
 
 pub returns-in-Ok-clause-step : goal.returns-in-Ok-clause-step
-returns-in-Ok-clause-step g c = λ k at free.
+returns-in-Ok-clause-step g c = λ stopped. λ k at free.
     let trace = g.D.Device.trace in
     let sum = g.C.Checksum.sum_of in
-    let view = view_by g.D.Device.trace g.D.Device.faults g.D.CrashDevice.is_stopped in
+    let view = view_by g.D.Device.trace g.D.Device.faults stopped in
     let given = c.args.config.config in
     let size : ℕ = given.segment_size in
     let config = c.read_snapshot_or_default.new.config in
@@ -85,7 +85,7 @@ returns-in-Ok-clause-step g c = λ k at free.
     let a : RunState = record { device = old; history = k.history; acknowledged = k.acknowledged; floor = k.floor; log = None; due = None } in
     let sizes : config.config.segment_size ≡ size = ap (λ (x : Config). x.segment_size) c.read_snapshot_or_default.ensures.config.config in
     let has : HasRecovered sum size old mid s = record { conclusion = ok.conclusion; recovers = ok.recovers; shown = ok.model; written = ok.done; failures = c.in-Ok.ensures.answers } in
-    let starts = subst (λ n. HasStarted n c.start.result.1 mid s new) sizes c.start.ensures.acts in
+    let starts = subst (λ n. HasStarted n c.start.result.1 mid s new) sizes (c.start.ensures.acts stopped) in
     let not_refused = not_refusing size mid s c.start.result.1 new starts in
     let cut : ℕ = stable_place s.stable in
     let H' : History = below k.history cut in
@@ -106,7 +106,7 @@ returns-in-Ok-clause-step g c = λ k at free.
       table = table_below k.history cut s.pages (low_place c.in-Ok.snapshot.stable_lsn (λ z is. search rules)) good.table;
       ends = all_from_in (λ m. m.place + m.size ≤ cut) H'.messages (λ m there. let found = from_below k.history cut m there in good.fits.messages m found.0 found.1);
     } in
-    let started = c.start.ensures.starts H' k.acknowledged cut recovered in
+    let started = (c.start.ensures.starts stopped) H' k.acknowledged cut recovered in
     let log = subst (λ n. log_in c.start.result.0 [] [] l.heads ≡ log_opened n (length_of mid) s c.start.result.1) sizes started.log in
     let why = subst (λ n. SaysWhy c.start.result.1 n new.failures) c.in-Ok.ensures.answers started.why in (
       record {
@@ -150,8 +150,8 @@ recovery_fails sum size _ old new answers calls damage = absurd answers
 
 -- The last two can be of what was recoverable.
 pub returns-in-Err-clause-step : goal.returns-in-Err-clause-step
-returns-in-Err-clause-step g c = λ k at free.
-    let view = view_by g.D.Device.trace g.D.Device.faults g.D.CrashDevice.is_stopped in
+returns-in-Err-clause-step g c = λ stopped. λ k at free.
+    let view = view_by g.D.Device.trace g.D.Device.faults stopped in
     let trace = g.D.Device.trace in
     let sum = g.C.Checksum.sum_of in
     let size : ℕ = c.args.config.config.segment_size in
@@ -185,9 +185,9 @@ device_acts sum size old mid new s (reply.Failed e) has starts = inr (record { s
 device_acts sum size old mid new s _ has starts = absurd starts
 
 pub returns-in-Ok-clause-device : goal.returns-in-Ok-clause-device
-returns-in-Ok-clause-device g c =
+returns-in-Ok-clause-device g c = λ stopped.
     let sum = g.C.Checksum.sum_of in
-    let view = view_by g.D.Device.trace g.D.Device.faults g.D.CrashDevice.is_stopped in
+    let view = view_by g.D.Device.trace g.D.Device.faults stopped in
     let size : ℕ = c.args.config.config.segment_size in
     let config = c.read_snapshot_or_default.new.config in
     let old : DeviceView = view c.args.config.device in
@@ -197,12 +197,12 @@ returns-in-Ok-clause-device g c =
     let ok = c.in-Ok.ensures.ok in
     let sizes : config.config.segment_size ≡ size = ap (λ (x : Config). x.segment_size) c.read_snapshot_or_default.ensures.config.config in
     let has : HasRecovered sum size old mid s = record { conclusion = ok.conclusion; recovers = ok.recovers; shown = ok.model; written = ok.done; failures = c.in-Ok.ensures.answers } in
-    let starts = subst (λ n. HasStarted n c.start.result.1 mid s new) sizes c.start.ensures.acts in
+    let starts = subst (λ n. HasStarted n c.start.result.1 mid s new) sizes (c.start.ensures.acts stopped) in
     record { touches = device_acts sum size old mid new s c.start.result.1 has starts; opens = c.start.ensures.opens }
 
 pub returns-in-Err-clause-device : goal.returns-in-Err-clause-device
-returns-in-Err-clause-device g c =
-    let view = view_by g.D.Device.trace g.D.Device.faults g.D.CrashDevice.is_stopped in
+returns-in-Err-clause-device g c = λ stopped.
+    let view = view_by g.D.Device.trace g.D.Device.faults stopped in
     let new : DeviceView = view c.read_snapshot_or_default.new.config.device in
     record {
       touches = inl (recovery_fails g.C.Checksum.sum_of c.args.config.config.segment_size c.in-Err.e (view c.args.config.device) new c.in-Err.ensures.answers c.read_snapshot_or_default.ensures.calls c.in-Err.ensures.corrupt);

@@ -23,7 +23,7 @@ use Rattle.sled_log.proofs.session.opening.start.Goals as goal
 use Rattle.sled_core.specs.Fillings.{FillingAt}
 
 pub returns-in-Ok-clause-acts : goal.returns-in-Ok-clause-acts
-returns-in-Ok-clause-acts g c = (
+returns-in-Ok-clause-acts g c = λ stopped. (
   record {
     stable_is = refl;
     active_is = refl;
@@ -36,7 +36,7 @@ returns-in-Ok-clause-acts g c = (
 )
 
 pub returns-in-Ok-clause-starts : goal.returns-in-Ok-clause-starts
-returns-in-Ok-clause-starts g c = λ H A f at.
+returns-in-Ok-clause-starts g c = λ stopped. λ H A f at.
     let trace = g.D.Device.trace in
     let sum = g.C.Checksum.sum_of in
     let size : ℕ = c.args.config.config.segment_size in
@@ -113,7 +113,7 @@ returns-in-Ok-clause-starts g c = λ H A f at.
 
 -- a start that was refused left what can be recovered
 pub returns-in-Err-clause-starts : goal.returns-in-Err-clause-starts
-returns-in-Err-clause-starts g c = λ H A f at.
+returns-in-Err-clause-starts g c = λ stopped. λ H A f at.
     let trace = g.D.Device.trace in
     let sum = g.C.Checksum.sum_of in
     let size : ℕ = c.args.config.config.segment_size in

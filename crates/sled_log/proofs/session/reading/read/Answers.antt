@@ -12,8 +12,8 @@ use Rattle.sled_log.proofs.session.reading.read.Goals as goal
 
 -- src/session/reading.rt:20:1
 pub returns-in-Ok-clause-step : goal.returns-in-Ok-clause-step
-returns-in-Ok-clause-step g c = λ none k at free.
-    let view = view_by g.D.Device.trace g.D.Device.faults g.D.CrashDevice.is_stopped in
+returns-in-Ok-clause-step g c = λ stopped. λ none k at free.
+    let view = view_by g.D.Device.trace g.D.Device.faults stopped in
     let sum = g.C.Checksum.sum_of in
     let opened = c.args.opened.now in
     let new = c.read_entries.new.log in
@@ -21,7 +21,7 @@ returns-in-Ok-clause-step g c = λ none k at free.
     let frags : List Entry = c.in-Present.frags.items in
     let look = c.in-Some.ensures.lookup in
     let has = page_found opened.pages.items c.deref.result.now c.args.page c.in-Some.state.now (Present base frags) c.deref.ensures.value look.3.0 look.1 (ap page_of c.in-Present.is) in
-    let reads = subst (λ l. ReadsEntries view sum opened.log c.args.page (base ∷ l) new (Ok c.in-Ok.items)) c.deref-in-Present.ensures.value c.in-Ok.ensures.reads in
+    let reads = subst (λ l. ReadsEntries view sum opened.log c.args.page (base ∷ l) new (Ok c.in-Ok.items)) c.deref-in-Present.ensures.value (c.in-Ok.ensures.reads stopped) in
     let read = page_read view sum opened c.args.page k at none new base frags (Ok c.in-Ok.items) has reads in
     record {
       not_refused = refl;
@@ -33,8 +33,8 @@ returns-in-Ok-clause-step g c = λ none k at free.
 
 -- src/session/reading.rt:20:1
 pub returns-in-Err-clause-step : goal.returns-in-Err-clause-step
-returns-in-Err-clause-step g c = λ none k at free.
-    let view = view_by g.D.Device.trace g.D.Device.faults g.D.CrashDevice.is_stopped in
+returns-in-Err-clause-step g c = λ stopped. λ none k at free.
+    let view = view_by g.D.Device.trace g.D.Device.faults stopped in
     let sum = g.C.Checksum.sum_of in
     let opened = c.args.opened.now in
     let new = c.read_entries.new.log in
@@ -42,7 +42,7 @@ returns-in-Err-clause-step g c = λ none k at free.
     let frags : List Entry = c.in-Present.frags.items in
     let look = c.in-Some.ensures.lookup in
     let has = page_found opened.pages.items c.deref.result.now c.args.page c.in-Some.state.now (Present base frags) c.deref.ensures.value look.3.0 look.1 (ap page_of c.in-Present.is) in
-    let reads = subst (λ l. ReadsEntries view sum opened.log c.args.page (base ∷ l) new (Err c.in-Err.e)) c.deref-in-Present.ensures.value c.in-Err.ensures.reads in
+    let reads = subst (λ l. ReadsEntries view sum opened.log c.args.page (base ∷ l) new (Err c.in-Err.e)) c.deref-in-Present.ensures.value (c.in-Err.ensures.reads stopped) in
     let read = page_read view sum opened c.args.page k at none new base frags (Err c.in-Err.e) has reads in
     record {
       not_refused = refl;
@@ -54,7 +54,7 @@ returns-in-Err-clause-step g c = λ none k at free.
 
 -- src/session/reading.rt:20:1
 pub returns-in-Free-clause-step : goal.returns-in-Free-clause-step
-returns-in-Free-clause-step g c = λ none k at free.
+returns-in-Free-clause-step g c = λ stopped. λ none k at free.
     let opened = c.args.opened.now in
     let look = c.in-Some.ensures.lookup in
     let page : Page = Free c.in-Free.field-0 c.in-Free.field-1 in
@@ -70,7 +70,7 @@ returns-in-Free-clause-step g c = λ none k at free.
 
 -- src/session/reading.rt:20:1
 pub returns-in-Uninitialized-clause-step : goal.returns-in-Uninitialized-clause-step
-returns-in-Uninitialized-clause-step g c = λ none k at free.
+returns-in-Uninitialized-clause-step g c = λ stopped. λ none k at free.
     let opened = c.args.opened.now in
     let look = c.in-Some.ensures.lookup in
     let has = page_found opened.pages.items c.deref.result.now c.args.page c.in-Some.state.now Uninitialized c.deref.ensures.value look.3.0 look.1 (ap page_of c.in-Uninitialized.is) in

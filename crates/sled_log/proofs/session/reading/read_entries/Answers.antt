@@ -1,5 +1,5 @@
 -- One more message is read.
-use Rattle.std.proofs.Common.{rules, ◌≡◌, ◌∙◌, ◌∷◌, ◌++◌, length, drop, drop-cons, get_or, ℕ, suc, ◌+◌, ◌<◌, pos, List, [], Err, ap, sym, subst, arith, refl}
+use Rattle.std.proofs.Common.{Bool, false, rules, ◌≡◌, ◌∙◌, ◌∷◌, ◌++◌, length, drop, drop-cons, get_or, ℕ, suc, ◌+◌, ◌<◌, pos, List, [], Err, ap, sym, subst, arith, refl}
 use Rattle.std.specs.Prelude.{Vec}
 use Rattle.std.specs.declared.alloc.Global.{Global}
 use Rattle.std.proofs.lemmas.List.{drop_all}
@@ -14,35 +14,34 @@ use Rattle.sled_log.proofs.session.reading.read_entries.Goals as goal
 
 -- The log keeps a failure.
 pub returns-in-Some-clause-reads : goal.returns-in-Some-clause-reads
-returns-in-Some-clause-reads g c =
-    let view = view_by g.D.Device.trace g.D.Device.faults g.D.CrashDevice.is_stopped in
+returns-in-Some-clause-reads g c = λ stopped.
+    let view = view_by g.D.Device.trace g.D.Device.faults stopped in
     kept_unread view g.C.Checksum.sum_of c.args.log.now c.args.page (c.args.base.now ∷ c.args.frags.now) c.in-Some.e (sym c.failure.ensures ∙ c.in-Some.is)
 
 -- src/session/reading.rt:47:21
 pub returns-in_err-items-clause-reads : goal.returns-in_err-items-clause-reads
-returns-in_err-items-clause-reads g c =
-    let view = view_by g.D.Device.trace g.D.Device.faults g.D.CrashDevice.is_stopped in
+returns-in_err-items-clause-reads g c = λ stopped.
+    let view = view_by g.D.Device.trace g.D.Device.faults stopped in
     let gives = err_from_is_err_and c.from_residual.result c.from_residual.ensures.1 in
     rw (gives.1, gives.2) (unread view g.C.Checksum.sum_of c.args.log.now c.args.page (c.args.base.now ∷ c.args.frags.now) (sym c.failure.ensures ∙ c.in_default.is))
 
 -- src/session/reading.rt:48:25
 pub returns-in_err-read_item-clause-reads : goal.returns-in_err-read_item-clause-reads
-returns-in_err-read_item-clause-reads g c =
-    let view = view_by g.D.Device.trace g.D.Device.faults g.D.CrashDevice.is_stopped in
+returns-in_err-read_item-clause-reads g c = λ stopped.
+    let view = view_by g.D.Device.trace g.D.Device.faults stopped in
     let old = c.args.log.now in
     let entries : List Entry = c.args.base.now ∷ c.args.frags.now in
     let gives = err_from_is_err_and c.from_residual-in_err-read_item.result c.from_residual-in_err-read_item.ensures.1 in
-    rw (gives.1, gives.2) (one_failed view g.C.Checksum.sum_of old c.args.page entries old [] c.read_item.new.log c.args.base.now c.args.frags.now c.in_err-read_item.field-0.0 (none_read view g.C.Checksum.sum_of old c.args.page entries (sym c.failure.ensures ∙ c.in_default.is)) c.in_err-read_item.ensures.reads)
+    rw (gives.1, gives.2) (one_failed view g.C.Checksum.sum_of old c.args.page entries old [] c.read_item.new.log c.args.base.now c.args.frags.now c.in_err-read_item.field-0.0 (none_read view g.C.Checksum.sum_of old c.args.page entries (sym c.failure.ensures ∙ c.in_default.is)) (c.in_err-read_item.ensures.reads stopped))
 
 -- src/session/reading.rt:49:5
 pub loop-frag-init : goal.loop-frag-init
 loop-frag-init g c =
-    let view = view_by g.D.Device.trace g.D.Device.faults g.D.CrashDevice.is_stopped in
     let old = c.args.log.now in
     let entries : List Entry = c.args.base.now ∷ c.args.frags.now in
     record {
-      some = subst (λ (l : List (Vec ℕ Global)). HasReadSome view g.C.Checksum.sum_of old c.args.page entries c.read_item.new.log l c.args.frags.now) (sym {A = List (Vec ℕ Global)} (c.push_reserved.ensures.items ∙ ap (λ (l : List (Vec ℕ Global)). l ++ c.in_ok-read_item.field-0 ∷ []) c.in_ok-items.ensures.items))
-          (one_more view g.C.Checksum.sum_of old c.args.page entries old [] c.read_item.new.log c.args.base.now c.args.frags.now c.in_ok-read_item.field-0 (none_read view g.C.Checksum.sum_of old c.args.page entries (sym c.failure.ensures ∙ c.in_default.is)) c.in_ok-read_item.ensures.reads);
+      some = λ stopped. let view = view_by g.D.Device.trace g.D.Device.faults stopped in subst (λ (l : List (Vec ℕ Global)). HasReadSome view g.C.Checksum.sum_of old c.args.page entries c.read_item.new.log l c.args.frags.now) (sym {A = List (Vec ℕ Global)} (c.push_reserved.ensures.items ∙ ap (λ (l : List (Vec ℕ Global)). l ++ c.in_ok-read_item.field-0 ∷ []) c.in_ok-items.ensures.items))
+          (one_more view g.C.Checksum.sum_of old c.args.page entries old [] c.read_item.new.log c.args.base.now c.args.frags.now c.in_ok-read_item.field-0 (none_read view g.C.Checksum.sum_of old c.args.page entries (sym c.failure.ensures ∙ c.in_default.is)) (c.in_ok-read_item.ensures.reads stopped));
       len = search rules;
       room = search rules;
     }
@@ -53,24 +52,24 @@ left xs i lt = let next : i + 1 ≡ suc i = omega arith in drop-cons xs i (pos 0
 
 -- src/session/reading.rt:50:29
 -- what came of the next message, where that was not read
-failed : (g : given.Over) (c : goal.After-drop-items-in_err-read_item-2 g)
-    → ReadsEntries (view_by g.D.Device.trace g.D.Device.faults g.D.CrashDevice.is_stopped) g.C.Checksum.sum_of c.args.log.now c.args.page (c.args.base.now ∷ c.args.frags.now) c.read_item-in-loop-frag.new.log (Err c.in_err-read_item-2.field-0.0)
-failed g c =
-    let view = view_by g.D.Device.trace g.D.Device.faults g.D.CrashDevice.is_stopped in
+failed : (g : given.Over) (c : goal.After-drop-items-in_err-read_item-2 g) (stopped : g.row.D.Denot → Bool)
+    → ReadsEntries (view_by g.D.Device.trace g.D.Device.faults stopped) g.C.Checksum.sum_of c.args.log.now c.args.page (c.args.base.now ∷ c.args.frags.now) c.read_item-in-loop-frag.new.log (Err c.in_err-read_item-2.field-0.0)
+failed g c stopped =
+    let view = view_by g.D.Device.trace g.D.Device.faults stopped in
     let old = c.args.log.now in
     let entries : List Entry = c.args.base.now ∷ c.args.frags.now in
     let now = c.loop-frag in
     let i : ℕ = now.frag-index in
     let e : Entry = get_or c.args.frags.now i (pos 0, Inline 0, 0) in
-    let some = subst (λ (l : List Entry). HasReadSome view g.C.Checksum.sum_of old c.args.page entries now.log now.items.items l) (left c.args.frags.now i c.loop-frag-test.true) now.invariant.some in
-    one_failed view g.C.Checksum.sum_of old c.args.page entries now.log now.items.items c.read_item-in-loop-frag.new.log e (drop (i + 1) c.args.frags.now) c.in_err-read_item-2.field-0.0 some c.in_err-read_item-2.ensures.reads
+    let some = subst (λ (l : List Entry). HasReadSome view g.C.Checksum.sum_of old c.args.page entries now.log now.items.items l) (left c.args.frags.now i c.loop-frag-test.true) (now.invariant.some stopped) in
+    one_failed view g.C.Checksum.sum_of old c.args.page entries now.log now.items.items c.read_item-in-loop-frag.new.log e (drop (i + 1) c.args.frags.now) c.in_err-read_item-2.field-0.0 some (c.in_err-read_item-2.ensures.reads stopped)
 
 pub returns-in_err-read_item-2-clause-reads : goal.returns-in_err-read_item-2-clause-reads
-returns-in_err-read_item-2-clause-reads g c = let gives = err_from_is_err_and c.from_residual-in_err-read_item-2.result c.from_residual-in_err-read_item-2.ensures.1 in rw (gives.1, gives.2) (failed g c)
+returns-in_err-read_item-2-clause-reads g c = λ stopped. let gives = err_from_is_err_and c.from_residual-in_err-read_item-2.result c.from_residual-in_err-read_item-2.ensures.1 in rw (gives.1, gives.2) (failed g c stopped)
 
 -- src/session/reading.rt:50:29
 pub returns-in_err-read_item-2-clause-on : goal.returns-in_err-read_item-2-clause-on
-returns-in_err-read_item-2-clause-on g c = let keeps = (failed g c).only.preserves in record { later = keeps.goes_on.later; kept = keeps.goes_on.config }
+returns-in_err-read_item-2-clause-on g c = let keeps = (failed g c (λ d. false)).only.preserves in record { later = keeps.goes_on.later; kept = keeps.goes_on.config }
 
 -- src/session/reading.rt:50:9
 pub push_reserved-requires-in-loop-frag : goal.push_reserved-requires-in-loop-frag
@@ -79,7 +78,6 @@ push_reserved-requires-in-loop-frag g c = let len = c.loop-frag.invariant.len in
 -- src/session/reading.rt:49:5
 pub loop-frag-preserved : goal.loop-frag-preserved
 loop-frag-preserved g c =
-    let view = view_by g.D.Device.trace g.D.Device.faults g.D.CrashDevice.is_stopped in
     let old = c.args.log.now in
     let entries : List Entry = c.args.base.now ∷ c.args.frags.now in
     let now = c.loop-frag in
@@ -87,30 +85,30 @@ loop-frag-preserved g c =
     let e : Entry = get_or c.args.frags.now i (pos 0, Inline 0, 0) in
     let rest : List Entry = drop (i + 1) c.args.frags.now in
     let new = c.read_item-in-loop-frag.new.log in
-    let some = subst (λ (l : List Entry). HasReadSome view g.C.Checksum.sum_of old c.args.page entries now.log now.items.items l) (left c.args.frags.now i c.loop-frag-test.true) now.invariant.some in
+    let some = λ (stopped : g.row.D.Denot → Bool). subst (λ (l : List Entry). HasReadSome (view_by g.D.Device.trace g.D.Device.faults stopped) g.C.Checksum.sum_of old c.args.page entries now.log now.items.items l) (left c.args.frags.now i c.loop-frag-test.true) (now.invariant.some stopped) in
     let len = now.invariant.len in
     let room = now.invariant.room in
     let pushed = c.push_reserved-in-loop-frag.ensures in
     record {
-      some = subst (λ (l : List (Vec ℕ Global)). HasReadSome view g.C.Checksum.sum_of old c.args.page entries new l rest) (sym pushed.items)
-          (one_more view g.C.Checksum.sum_of old c.args.page entries now.log now.items.items new e rest c.in_ok-read_item-2.field-0 some c.in_ok-read_item-2.ensures.reads);
+      some = λ stopped. let view = view_by g.D.Device.trace g.D.Device.faults stopped in subst (λ (l : List (Vec ℕ Global)). HasReadSome view g.C.Checksum.sum_of old c.args.page entries new l rest) (sym pushed.items)
+          (one_more view g.C.Checksum.sum_of old c.args.page entries now.log now.items.items new e rest c.in_ok-read_item-2.field-0 (some stopped) (c.in_ok-read_item-2.ensures.reads stopped));
       len = (let more = pushed.len in omega (arith, len, more));
       room = (let same = pushed.capacity in omega (arith, room, same));
     }
 
 -- src/session/reading.rt:37:1
 pub returns-clause-reads : goal.returns-clause-reads
-returns-clause-reads g c =
-    let view = view_by g.D.Device.trace g.D.Device.faults g.D.CrashDevice.is_stopped in
+returns-clause-reads g c = λ stopped.
+    let view = view_by g.D.Device.trace g.D.Device.faults stopped in
     let old = c.args.log.now in
     let now = c.loop-frag in
     let end = c.loop-frag-test.false in
     let none : drop now.frag-index c.args.frags.now ≡ [] = drop_all now.frag-index c.args.frags.now (omega (arith, end)) in
     all_read view g.C.Checksum.sum_of old c.args.page (c.args.base.now ∷ c.args.frags.now) now.log now.items.items now.items refl
-    (subst (λ (l : List Entry). HasReadSome view g.C.Checksum.sum_of old c.args.page (c.args.base.now ∷ c.args.frags.now) now.log now.items.items l) none now.invariant.some)
+    (subst (λ (l : List Entry). HasReadSome view g.C.Checksum.sum_of old c.args.page (c.args.base.now ∷ c.args.frags.now) now.log now.items.items l) none (now.invariant.some stopped))
 
 -- src/session/reading.rt:37:1
 pub returns-clause-on : goal.returns-clause-on
 returns-clause-on g c =
-    let keeps = c.loop-frag.invariant.some.only.preserves in
+    let keeps = (c.loop-frag.invariant.some (λ d. false)).only.preserves in
     record { later = keeps.goes_on.later; kept = keeps.goes_on.config }

@@ -15,10 +15,10 @@ use Rattle.sled_log.proofs.session.reading.read_item.Goals as goal
 
 -- src/session/reading.rt:69:11
 pub returns-in_err-item-clause-reads : goal.returns-in_err-item-clause-reads
-returns-in_err-item-clause-reads g c =
+returns-in_err-item-clause-reads g c = λ stopped.
     let trace = g.D.Device.trace in
     let sum = g.C.Checksum.sum_of in
-    let view = view_by g.D.Device.trace g.D.Device.faults g.D.CrashDevice.is_stopped in
+    let view = view_by g.D.Device.trace g.D.Device.faults stopped in
     let old = c.args.log.now in
     let new = c.read.new.self in
     let blobs = (state_of (trace (device_of new))).blobs.file in
@@ -40,10 +40,10 @@ returns-in_err-item-clause-reads g c =
 
 -- src/session/reading.rt:60:1
 pub returns-in-Inline-clause-reads : goal.returns-in-Inline-clause-reads
-returns-in-Inline-clause-reads g c =
+returns-in-Inline-clause-reads g c = λ stopped.
     let trace = g.D.Device.trace in
     let sum = g.C.Checksum.sum_of in
-    let view = view_by g.D.Device.trace g.D.Device.faults g.D.CrashDevice.is_stopped in
+    let view = view_by g.D.Device.trace g.D.Device.faults stopped in
     let old = c.args.log.now in
     let new = c.read.new.self in
     let blobs = (state_of (trace (device_of new))).blobs.file in
@@ -77,7 +77,7 @@ returns-in-Canceled g c =
     let came = c.in_ok-item.ensures in
     let place : ℤ = to_z w64 (of_z w64 c.args.place) in
     record {
-      reads = record {
+      reads = λ stopped. record {
         only = c.read.ensures.keeps;
         marked = c.read.ensures.buffers.1.marked;
         item = λ k m begun is of here points.

@@ -16,8 +16,8 @@ manifest_written log = subst (λ (b : Bool). kind_for does.Skip manifest_page b 
 
 -- Without room for a ticket nothing is done.
 pub returns-in-Err-clause-step : goal.returns-in-Err-clause-step
-returns-in-Err-clause-step g c = λ none k at asked.
-    let view = view_by g.D.Device.trace g.D.Device.faults g.D.CrashDevice.is_stopped in
+returns-in-Err-clause-step g c = λ stopped. λ none k at asked.
+    let view = view_by g.D.Device.trace g.D.Device.faults stopped in
     let sum = g.C.Checksum.sum_of in
     let old = c.args.opened.now in
     let mid = c.room_for_ticket.new.opened in
@@ -26,9 +26,9 @@ returns-in-Err-clause-step g c = λ none k at asked.
 
 -- The place that the log kept has a ticket.
 pub returns-in-Ok-clause-step : goal.returns-in-Ok-clause-step
-returns-in-Ok-clause-step g c = λ none k at asked.
+returns-in-Ok-clause-step g c = λ stopped. λ none k at asked.
     let trace = g.D.Device.trace in
-    let view = view_by g.D.Device.trace g.D.Device.faults g.D.CrashDevice.is_stopped in
+    let view = view_by g.D.Device.trace g.D.Device.faults stopped in
     let sum = g.C.Checksum.sum_of in
     let old = c.args.opened.now in
     let mid = c.room_for_ticket.new.opened in
@@ -57,9 +57,9 @@ returns-in-Ok-clause-step g c = λ none k at asked.
 
 -- A log that kept no place is as it was, and the pin went back.
 pub returns-in-Err-reserve-clause-step : goal.returns-in-Err-reserve-clause-step
-returns-in-Err-reserve-clause-step g c = λ none k at asked.
+returns-in-Err-reserve-clause-step g c = λ stopped. λ none k at asked.
     let trace = g.D.Device.trace in
-    let view = view_by g.D.Device.trace g.D.Device.faults g.D.CrashDevice.is_stopped in
+    let view = view_by g.D.Device.trace g.D.Device.faults stopped in
     let sum = g.C.Checksum.sum_of in
     let old = c.args.opened.now in
     let mid = c.room_for_ticket.new.opened in

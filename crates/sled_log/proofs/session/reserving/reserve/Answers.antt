@@ -7,8 +7,8 @@ use Rattle.sled_log.proofs.session.reserving.reserve.Goals as goal
 
 -- Without room for a ticket nothing is done.
 pub returns-in-Err-clause-step : goal.returns-in-Err-clause-step
-returns-in-Err-clause-step g c = λ none k at may.
-    roomless_tried (view_by g.D.Device.trace g.D.Device.faults g.D.CrashDevice.is_stopped) g.C.Checksum.sum_of c.args.opened.now c.room_for.new.opened c.args.kind c.args.page
+returns-in-Err-clause-step g c = λ stopped. λ none k at may.
+    roomless_tried (view_by g.D.Device.trace g.D.Device.faults stopped) g.C.Checksum.sum_of c.args.opened.now c.room_for.new.opened c.args.kind c.args.page
     (g.T.Serialize.short (g.T.Serialize.meaning c.args.item.now)) k c.in-Err.e c.room_for.ensures.room c.in-Err.ensures.whole at
 
 pub hold-requires-clause-message : goal.hold-requires-clause-message
@@ -16,9 +16,9 @@ hold-requires-clause-message g c = noted_page c.room_for.new.opened.busy c.args.
 
 -- The place that the log kept has a ticket.
 pub returns-in-Ok-clause-step : goal.returns-in-Ok-clause-step
-returns-in-Ok-clause-step g c = λ none k at may.
+returns-in-Ok-clause-step g c = λ stopped. λ none k at may.
     let trace = g.D.Device.trace in
-    let view = view_by g.D.Device.trace g.D.Device.faults g.D.CrashDevice.is_stopped in
+    let view = view_by g.D.Device.trace g.D.Device.faults stopped in
     let sum = g.C.Checksum.sum_of in
     let bytes = g.T.Serialize.short (g.T.Serialize.meaning c.args.item.now) in
     let old = c.args.opened.now in
@@ -49,9 +49,9 @@ returns-in-Ok-clause-step g c = λ none k at may.
 
 -- A log that kept no place is as it was, or ready for a record that it has none of, and the pin went back.
 pub returns-in-Err-reserve-clause-step : goal.returns-in-Err-reserve-clause-step
-returns-in-Err-reserve-clause-step g c = λ none k at may.
+returns-in-Err-reserve-clause-step g c = λ stopped. λ none k at may.
     let trace = g.D.Device.trace in
-    let view = view_by g.D.Device.trace g.D.Device.faults g.D.CrashDevice.is_stopped in
+    let view = view_by g.D.Device.trace g.D.Device.faults stopped in
     let sum = g.C.Checksum.sum_of in
     let bytes = g.T.Serialize.short (g.T.Serialize.meaning c.args.item.now) in
     let old = c.args.opened.now in

@@ -10,8 +10,8 @@ use Rattle.sled_log.proofs.session.reserving.rewrite.Goals as goal
 
 -- Without room for a ticket nothing is done.
 pub returns-in-Err-clause-step : goal.returns-in-Err-clause-step
-returns-in-Err-clause-step g c = λ none k at asked.
-    let view = view_by g.D.Device.trace g.D.Device.faults g.D.CrashDevice.is_stopped in
+returns-in-Err-clause-step g c = λ stopped. λ none k at asked.
+    let view = view_by g.D.Device.trace g.D.Device.faults stopped in
     let old = c.args.opened.now in
     let mid = c.room_for.new.opened in
     rewrite_does view g.C.Checksum.sum_of old c.args.page mid _ k at (roomless_again view g.C.Checksum.sum_of old mid k c.args.page c.room_for.ensures.room at c.in-Err.e c.in-Err.ensures.whole)
@@ -21,8 +21,8 @@ hold-requires-clause-message g c = noted_page c.room_for.new.opened.busy c.args.
 
 -- The place that the log kept has a ticket.
 pub returns-in-Ok-clause-step : goal.returns-in-Ok-clause-step
-returns-in-Ok-clause-step g c = λ none k at asked.
-    let view = view_by g.D.Device.trace g.D.Device.faults g.D.CrashDevice.is_stopped in
+returns-in-Ok-clause-step g c = λ stopped. λ none k at asked.
+    let view = view_by g.D.Device.trace g.D.Device.faults stopped in
     let sum = g.C.Checksum.sum_of in
     let old = c.args.opened.now in
     let mid = c.room_for.new.opened in
@@ -38,8 +38,8 @@ returns-in-Ok-clause-step g c = λ none k at asked.
 
 -- A log that kept no place is as it was, and the pin went back.
 pub returns-in-Err-rewrite_blob_pointer-clause-step : goal.returns-in-Err-rewrite_blob_pointer-clause-step
-returns-in-Err-rewrite_blob_pointer-clause-step g c = λ none k at asked.
-    let view = view_by g.D.Device.trace g.D.Device.faults g.D.CrashDevice.is_stopped in
+returns-in-Err-rewrite_blob_pointer-clause-step g c = λ stopped. λ none k at asked.
+    let view = view_by g.D.Device.trace g.D.Device.faults stopped in
     let sum = g.C.Checksum.sum_of in
     let old = c.args.opened.now in
     let mid = c.room_for.new.opened in

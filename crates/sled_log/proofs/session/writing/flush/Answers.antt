@@ -20,10 +20,10 @@ use Rattle.sled_log.proofs.session.writing.flush.Goals as goal
 use Rattle.sled_log.proofs.Sessions.BegunHeads.{only_begun}
 
 pub returns-in-Ok-clause-step : goal.returns-in-Ok-clause-step
-returns-in-Ok-clause-step g c = λ none k at free.
+returns-in-Ok-clause-step g c = λ stopped. λ none k at free.
     let trace = g.D.Device.trace in
     let sum = g.C.Checksum.sum_of in
-    let view = view_by g.D.Device.trace g.D.Device.faults g.D.CrashDevice.is_stopped in
+    let view = view_by g.D.Device.trace g.D.Device.faults stopped in
     let opened = c.args.opened.now in
     let old = opened.log in
     let new = c.flush.new.self in
@@ -66,10 +66,10 @@ returns-in-Ok-clause-step g c = λ none k at free.
 
 -- a flush that failed changes nothing of the history
 pub returns-in-Err-clause-step : goal.returns-in-Err-clause-step
-returns-in-Err-clause-step g c = λ none k at free.
+returns-in-Err-clause-step g c = λ stopped. λ none k at free.
     let trace = g.D.Device.trace in
     let sum = g.C.Checksum.sum_of in
-    let view = view_by g.D.Device.trace g.D.Device.faults g.D.CrashDevice.is_stopped in
+    let view = view_by g.D.Device.trace g.D.Device.faults stopped in
     let opened = c.args.opened.now in
     let old = opened.log in
     let new = c.flush.new.self in

@@ -19,10 +19,10 @@ use Rattle.sled_log.proofs.session.writing.stabilize.Goals as goal
 use Rattle.sled_log.proofs.Sessions.BegunHeads.{only_begun}
 
 pub returns-in-Ok-clause-step : goal.returns-in-Ok-clause-step
-returns-in-Ok-clause-step g c = λ none k at free.
+returns-in-Ok-clause-step g c = λ stopped. λ none k at free.
     let trace = g.D.Device.trace in
     let sum = g.C.Checksum.sum_of in
-    let view = view_by g.D.Device.trace g.D.Device.faults g.D.CrashDevice.is_stopped in
+    let view = view_by g.D.Device.trace g.D.Device.faults stopped in
     let opened = c.args.opened.now in
     let place : ℤ = to_z w64 (of_z w64 c.args.place) in
     let old = opened.log in
@@ -58,10 +58,10 @@ returns-in-Ok-clause-step g c = λ none k at free.
 
 -- where it fails nothing of the history is another
 pub returns-in-Err-clause-step : goal.returns-in-Err-clause-step
-returns-in-Err-clause-step g c = λ none k at free.
+returns-in-Err-clause-step g c = λ stopped. λ none k at free.
     let trace = g.D.Device.trace in
     let sum = g.C.Checksum.sum_of in
-    let view = view_by g.D.Device.trace g.D.Device.faults g.D.CrashDevice.is_stopped in
+    let view = view_by g.D.Device.trace g.D.Device.faults stopped in
     let opened = c.args.opened.now in
     let old = opened.log in
     let new = c.make_stable.new.self in

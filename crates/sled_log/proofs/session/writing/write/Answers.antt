@@ -20,19 +20,19 @@ use Rattle.sled_log.proofs.session.writing.write.Goals as goal
 
 -- an index that isn't refused fits
 pub returns-then-i-pending-clause-step : goal.returns-then-i-pending-clause-step
-returns-then-i-pending-clause-step g c = λ none k at free.
+returns-then-i-pending-clause-step g c = λ stopped. λ none k at free.
     let opened = c.args.opened.now in
     let l : LogView = seen opened k.tickets k.given_up k.heads in
-    let fits : nat_le (pending_in_view l) c.args.i ≡ false = index_fits (g.D.CrashDevice.is_stopped opened.log.config.device && true) (nat_le (pending_in_view l) c.args.i) why.Stopped why.Index free in
+    let fits : nat_le (pending_in_view l) c.args.i ≡ false = index_fits (stopped opened.log.config.device && true) (nat_le (pending_in_view l) c.args.i) why.Stopped why.Index free in
     let same = pending_seen opened.log g.C.Checksum.sum_of (length opened.pages.items) k.tickets k.given_up k.heads in
     let high : pending_in_view l ≤ c.args.i = let high = c.if-i-pending.true in let is = c.pending.ensures in omega (arith, high, is, same) in
     absurd (grind (arith, nat_tests, fits, high))
 
 pub returns-in-Ok-clause-step : goal.returns-in-Ok-clause-step
-returns-in-Ok-clause-step g c = λ none k at free.
+returns-in-Ok-clause-step g c = λ stopped. λ none k at free.
     let trace = g.D.Device.trace in
     let sum = g.C.Checksum.sum_of in
-    let view = view_by g.D.Device.trace g.D.Device.faults g.D.CrashDevice.is_stopped in
+    let view = view_by g.D.Device.trace g.D.Device.faults stopped in
     let opened = c.args.opened.now in
     let old = opened.log in
     let new = c.write_to_log.new.self in
@@ -56,10 +56,10 @@ returns-in-Ok-clause-step g c = λ none k at free.
 
 -- It isn't written, or it is, and the step behind it failed.
 pub returns-in-Err-clause-step : goal.returns-in-Err-clause-step
-returns-in-Err-clause-step g c = λ none k at free.
+returns-in-Err-clause-step g c = λ stopped. λ none k at free.
     let trace = g.D.Device.trace in
     let sum = g.C.Checksum.sum_of in
-    let view = view_by g.D.Device.trace g.D.Device.faults g.D.CrashDevice.is_stopped in
+    let view = view_by g.D.Device.trace g.D.Device.faults stopped in
     let opened = c.args.opened.now in
     let old = opened.log in
     let new = c.write_to_log.new.self in
