@@ -1,3 +1,4 @@
+pub mod CopyLemmas
 pub mod CrcLemmas
 pub mod CrcTables
 pub mod FileLemmas

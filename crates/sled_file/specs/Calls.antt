@@ -36,6 +36,18 @@ abbrev pub has_failure : List Call → Bool
 has_failure [] = false
 has_failure (c ∷ calls) = not c.succeeded || has_failure calls
 
+-- whether a snapshot is there to be published behind a call that did this, if it was before
+abbrev pub filled_by : Event → Bool → Bool
+filled_by (SnapshotFilled asked now) before = true
+filled_by (SnapshotPublished number done) before = false
+filled_by event before = before
+
+-- A snapshot was written since the opening, and since the last publish: of the calls of these two that succeeded the newest is a write. Behind a
+-- failed call this says nothing, since none is made any more.
+abbrev pub is_filled : List Call → Bool
+is_filled [] = false
+is_filled (c ∷ calls) = if c.succeeded then filled_by c.asked (is_filled calls) else is_filled calls
+
 -- the files under names in memory, each with its bytes
 abbrev pub files_in : BTreeMap ℤ (Vec ℕ Global) → List (ℤ × List ℕ)
 files_in files = map (λ f. (f.0, f.1.items)) files.entries
@@ -64,19 +76,19 @@ event_of asked.NamesSynced = NamesSynced
 abbrev pub call_of : Note → Call
 call_of note = record { asked = event_of note.asked; succeeded = note.succeeded }
 
--- a snapshot is published, and none was written for it
-abbrev pub IsUnwritten : Bool → Event → Type 0
-IsUnwritten false (SnapshotPublished number done) = Unit {0}
-IsUnwritten has_snapshot event = ⊥
+-- a snapshot is published, and by the calls before none was written for it
+abbrev pub IsUnwritten : Event → List Call → Type 0
+IsUnwritten (SnapshotPublished number done) old = is_filled old ≡ false
+IsUnwritten event old = ⊥
 
 -- How a call of a device stands to the calls on its files: by its event, if it changes or syncs, the kind of its error, if any, and the calls before
 -- and after. It makes the one call that it means, or none where it is refused; and it fails only where a call on the files failed, now or before.
--- A publish of no snapshot fails by itself (the flag says whether one was written).
-abbrev pub Makes : Bool → Option Event → Option ErrorKind → List Call → List Call → Type 0
-Makes has_snapshot None None old new = new ≡ old
-Makes has_snapshot None (Some kind) old new = (new ≡ old) × MatchBool (is_fault_kind kind) (IsTrue (has_failure old)) (Unit {0})
-Makes has_snapshot (Some event) None old new = new ≡ record { asked = event; succeeded = true } ∷ old
-Makes has_snapshot (Some event) (Some kind) old new =
+-- A publish of no snapshot fails by itself.
+abbrev pub Makes : Option Event → Option ErrorKind → List Call → List Call → Type 0
+Makes None None old new = new ≡ old
+Makes None (Some kind) old new = (new ≡ old) × MatchBool (is_fault_kind kind) (IsTrue (has_failure old)) (Unit {0})
+Makes (Some event) None old new = new ≡ record { asked = event; succeeded = true } ∷ old
+Makes (Some event) (Some kind) old new =
     MatchBool (is_fault_kind kind)
-    (((new ≡ old) × (IsTrue (has_failure old) ⊎ IsUnwritten has_snapshot event)) ⊎ (new ≡ record { asked = event; succeeded = false } ∷ old))
+    (((new ≡ old) × (IsTrue (has_failure old) ⊎ IsUnwritten event old)) ⊎ (new ≡ record { asked = event; succeeded = false } ∷ old))
     (new ≡ old)

@@ -1,4 +1,6 @@
 pub mod CallRecords
 pub mod Calls
+pub mod Copies
 pub mod Crc
+pub mod Failures
 pub mod Mirrors

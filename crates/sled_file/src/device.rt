@@ -3,11 +3,13 @@
 //! Each call looks whether one on the files failed before, changes what is kept in memory where that wants memory, and then
 //! makes its one call on the files. So a refusal comes before any file is touched, and a call on the files that failed leaves
 //! the device failing from then on: a folder is opened anew after that.
-ghost use Rattle.std.specs.Prelude.{◌≡◌};
+ghost use Rattle.std.specs.Prelude.{◌≡◌, is_some, false};
 ghost use Rattle.sled_store.specs.Device.{state_of};
-ghost use Rattle.sled_file.specs.Calls.{trace_after, has_failure};
+ghost use Rattle.sled_file.specs.Calls.{trace_after, has_failure, is_filled};
+ghost use Rattle.sled_file.specs.Failures.{doing_in, first_failed};
 ghost use Rattle.sled_file.specs.Mirrors.{Mirrors};
 
+use crate::failure::{Doing, Failure};
 use crate::faults::Faults;
 use crate::folder::Folder;
 use crate::mirror::Mirror;
@@ -26,7 +28,9 @@ pub struct FileDevice<F: Folder, S: Start> {
     alloc: Global,
     start: PhantomData<S>,
     ghost mirrors: { Mirrors mirror (state_of (trace_after (F.Folder.made folder) S.Start.past)) },
-    ghost failed: { faults.has_failed ≡ has_failure (F.Folder.made folder) },
+    ghost failed: { is_some faults.first ≡ has_failure (F.Folder.made folder) },
+    ghost told: { doing_in faults.first ≡ first_failed (F.Folder.made folder) },
+    ghost filled: { has_failure (F.Folder.made folder) ≡ false → is_some mirror.temporary ≡ is_filled (F.Folder.made folder) },
 }
 
 impl<F: Folder, S: Start> FileDevice<F, S> {
@@ -61,15 +65,29 @@ impl<F: Folder, S: Start> FileDevice<F, S> {
     }
 }
 
+impl<F: Folder, S: Start> FileDevice<F, S> {
+    ghost use Rattle.std.specs.Prelude.{◌≡◌, is_some};
+    ghost use Rattle.sled_file.specs.Calls.{has_failure};
+    ghost use Rattle.sled_file.specs.Failures.{doing_in, first_failed};
+
+    /// Returns the first call on the files that failed, with the error that was answered for it. It is `None` exactly as
+    /// long as no call on the files failed; a call of the device that was refused is no such call.
+    pub fn failure(&self) -> Option<Failure>
+        ensures failed { is_some result ≡ has_failure (F.Folder.made self.now.folder) }
+        ensures doing { doing_in result ≡ first_failed (F.Folder.made self.now.folder) }
+    {
+        self.faults.first
+    }
+}
+
 impl<F: Folder, S: Start> Device for FileDevice<F, S> {
-    ghost use Rattle.std.specs.Prelude.{is_some};
     ghost use Rattle.sled_file.specs.Calls.{Makes};
 
     ghost trace = { λ device. trace_after (F.Folder.made device.folder) S.Start.past };
 
     ghost faults = { λ device. device.faults.count };
 
-    ghost Obeys = { λ event error old new. Makes (is_some old.mirror.temporary) event error (F.Folder.made old.folder) (F.Folder.made new.folder) };
+    ghost Obeys = { λ event error old new. Makes event error (F.Folder.made old.folder) (F.Folder.made new.folder) };
 
     fn len(&mut self) -> io::Result<u64> {
         self.faults.begin()?;
@@ -89,20 +107,20 @@ impl<F: Folder, S: Start> Device for FileDevice<F, S> {
         self.faults.begin()?;
         self.mirror.write(at as usize, bytes)?;
         let answer = self.folder.write_log(at, bytes);
-        self.faults.end(answer)
+        self.faults.end(Doing::WriteLog, answer)
     }
 
     fn cut(&mut self, len: u64) -> io::Result<()> {
         self.faults.begin()?;
         self.mirror.cut(len as usize);
         let answer = self.folder.cut_log(len);
-        self.faults.end(answer)
+        self.faults.end(Doing::CutLog, answer)
     }
 
     fn sync(&mut self) -> io::Result<()> {
         self.faults.begin()?;
         let answer = self.folder.sync_log();
-        self.faults.end(answer)
+        self.faults.end(Doing::SyncLog, answer)
     }
 
     fn blob_create(&mut self, place: i64, bytes: &[u8]) -> io::Result<()> {
@@ -112,7 +130,7 @@ impl<F: Folder, S: Start> Device for FileDevice<F, S> {
         }
         self.mirror.make_blob(self.alloc, place, bytes)?;
         let answer = self.folder.make_blob(place, bytes);
-        self.faults.end(answer)
+        self.faults.end(Doing::MakeBlob(place), answer)
     }
 
     fn blob_sync(&mut self, place: i64) -> io::Result<()> {
@@ -121,7 +139,7 @@ impl<F: Folder, S: Start> Device for FileDevice<F, S> {
             return Err(io::Error::new(io::ErrorKind::NotFound, "no blob is at that place"));
         }
         let answer = self.folder.sync_blob(place);
-        self.faults.end(answer)
+        self.faults.end(Doing::SyncBlob(place), answer)
     }
 
     fn blob_read(&mut self, place: i64) -> io::Result<Vec<u8>> {
@@ -133,7 +151,7 @@ impl<F: Folder, S: Start> Device for FileDevice<F, S> {
         self.faults.begin()?;
         self.mirror.remove_blob(place);
         let answer = self.folder.remove_blob(place);
-        self.faults.end(answer)
+        self.faults.end(Doing::RemoveBlob(place), answer)
     }
 
     fn blobs(&mut self) -> io::Result<Vec<i64>> {
@@ -145,7 +163,7 @@ impl<F: Folder, S: Start> Device for FileDevice<F, S> {
         self.faults.begin()?;
         self.mirror.write_snapshot(self.alloc, bytes)?;
         let answer = self.folder.write_snapshot(bytes);
-        self.faults.end(answer)
+        self.faults.end(Doing::WriteSnapshot, answer)
     }
 
     fn snapshot_publish(&mut self, number: i64) -> io::Result<()> {
@@ -155,7 +173,7 @@ impl<F: Folder, S: Start> Device for FileDevice<F, S> {
         }
         self.mirror.publish_snapshot(number)?;
         let answer = self.folder.publish_snapshot(number);
-        self.faults.end(answer)
+        self.faults.end(Doing::PublishSnapshot(number), answer)
     }
 
     fn snapshot_read(&mut self, number: i64) -> io::Result<Vec<u8>> {
@@ -167,7 +185,7 @@ impl<F: Folder, S: Start> Device for FileDevice<F, S> {
         self.faults.begin()?;
         self.mirror.remove_snapshot(number);
         let answer = self.folder.remove_snapshot(number);
-        self.faults.end(answer)
+        self.faults.end(Doing::RemoveSnapshot(number), answer)
     }
 
     fn snapshots(&mut self) -> io::Result<Vec<i64>> {
@@ -178,7 +196,7 @@ impl<F: Folder, S: Start> Device for FileDevice<F, S> {
     fn sync_names(&mut self) -> io::Result<()> {
         self.faults.begin()?;
         let answer = self.folder.sync_names();
-        self.faults.end(answer)
+        self.faults.end(Doing::SyncNames, answer)
     }
 
     fn failures(&self) -> u64 {

@@ -1,56 +1,61 @@
-//! The failures of a device over files: how many there were, and that one ends it.
-ghost use Rattle.std.specs.Prelude.{◌≡◌, ◌||◌, ◌+◌, ◌%◌, ◌^◌, not, is_ok, true, false, OnOk, IfErr, IsErr, IsTrue, is_err};
+//! The failures of a device over files: how many there were, the first one of the files, and that this one ends it.
+ghost use Rattle.std.specs.Prelude.{◌≡◌, ◌||◌, ◌+◌, ◌%◌, ◌^◌, not, is_ok, is_some, true, None, Err, IfErr, IsTrue};
 ghost use Rattle.std.specs.IoError.{error_kind};
 ghost use Rattle.std.specs.declared.io.ErrorKind.TheVariants.{Other};
 ghost use Rattle.sled_store.specs.Answers.{Counts, Fails, is_fault};
+ghost use Rattle.sled_file.specs.Failures.{kept_by};
 
+use crate::failure::{Doing, Failure};
 use std::io;
 
-// The count, and whether a call on the files failed.
+// The count, and the first call on the files that failed, if one did.
 #[derive(Drop)]
 pub(crate) struct Faults {
     pub(crate) count: u64,
-    pub(crate) has_failed: bool,
+    pub(crate) first: Option<Failure>,
 }
 
 impl Faults {
     // None yet.
     pub(crate) fn new() -> Faults
         ensures count { result.count ≡ 0 }
-        ensures failed { result.has_failed ≡ false }
+        ensures first { result.first ≡ None }
     {
         Faults {
             count: 0,
-            has_failed: false,
+            first: None,
         }
     }
 
     // A call came. It goes on where no call on the files failed so far.
     pub(crate) fn begin(&mut self) -> io::Result<()>
-        ensures goes_on { is_ok result ≡ not self.old.has_failed }
+        ensures goes_on { is_ok result ≡ not (is_some self.old.first) }
         ensures count { Counts result self.old.count self.new.count }
         ensures error { Fails result }
-        ensures failed { self.new.has_failed ≡ self.old.has_failed }
+        ensures first { self.new.first ≡ self.old.first }
     {
-        if self.has_failed {
+        if self.first.is_some() {
             return Err(self.fail("an earlier call on the files failed"));
         }
         Ok(())
     }
 
-    // A call on the files answered. Where it failed, no other one is made.
-    pub(crate) fn end(&mut self, answer: io::Result<()>) -> io::Result<()>
+    // A call on the files answered that was to do this. If it failed, no other one is made, and the failure is kept.
+    pub(crate) fn end(&mut self, doing: Doing, answer: io::Result<()>) -> io::Result<()>
         ensures same { is_ok result ≡ is_ok answer }
         ensures count { Counts result self.old.count self.new.count }
         ensures error { Fails result }
-        ensures failed { self.new.has_failed ≡ (self.old.has_failed || not (is_ok answer)) }
+        ensures told { IfErr answer (λ e. IsTrue (is_fault e) → result ≡ Err e) }
+        ensures failed { is_some self.new.first ≡ (is_some self.old.first || not (is_ok answer)) }
+        ensures kept { self.new.first ≡ kept_by self.old.first doing result }
     {
         match answer {
             Ok(()) => Ok(()),
             Err(error) => {
-                self.has_failed = true;
+                let error = answered(error);
+                self.first = self.first.or(Some(Failure { doing, error }));
                 self.count = self.count.wrapping_add(1);
-                Err(failure(error))
+                Err(error)
             }
         }
     }
@@ -67,8 +72,9 @@ impl Faults {
 
 // What a device answers where the files answered this. Of the system's errors those three kinds are told as others that
 // mean a refusal of the device (`docs/DEVICE.md`, "Errors").
-fn failure(error: io::Error) -> io::Error
-    ensures { is_fault result ≡ true }
+fn answered(error: io::Error) -> io::Error
+    ensures fault { is_fault result ≡ true }
+    ensures same { IsTrue (is_fault error) → result ≡ error }
 {
     match error.kind() {
         io::ErrorKind::NotFound => io::Error::other("a file or a folder is missing"),

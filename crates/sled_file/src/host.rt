@@ -10,9 +10,10 @@ mod names;
 use crate::calls::{Asked, GhostCalls, Note};
 use crate::folder::Folder;
 use crate::mirror::Mirror;
-pub(crate) use names::Names;
+pub(crate) use names::{Names, name_of};
 use std::fs::{self, File};
 use std::io::{self, ErrorKind, Write};
+use std::os::fd::AsRawFd;
 use std::os::unix::fs::FileExt;
 
 /// The open files of a folder, which is locked as long as this lives.
@@ -21,39 +22,48 @@ pub struct HostFolder {
     rt: HostRuntime,
     handles: Handles,
     names: Names,
+    // Whether the names of blobs, or those of snapshots, changed since their folder was synced last.
+    has_changed_blobs: bool,
+    has_changed_snapshots: bool,
     pub(crate) ghost_calls: GhostCalls,
 }
 
-// What is open of a folder: the log file, the folders of blobs and of snapshots, and the file whose lock is held.
+// What is open of a folder: the log file, whose lock is held, the folders of blobs and of snapshots, and the file that
+// older programs lock, where it is there.
 #[derive(Drop)]
 pub(crate) struct Handles {
     pub(crate) log: File,
     pub(crate) blobs: File,
     pub(crate) snapshots: File,
-    pub(crate) lock: File,
+    pub(crate) lock: Option<File>,
 }
 
 impl HostFolder {
     ghost use Rattle.sled_file.specs.Calls.{opened, called, event_of};
 
-    // A folder that was opened and synced, with what was found in it.
+    // A folder that was opened and synced, and what was found in it, which is given back as it was noted.
     pub(crate) fn new(
         rt: &HostRuntime,
         handles: Handles,
         names: Names,
-        found: &Mirror,
-    ) -> HostFolder
-        ensures { result.ghost_calls.made ≡ opened found.now }
+        found: Mirror,
+    ) -> (HostFolder, Mirror)
+        ensures noted { result.0.ghost_calls.made ≡ opened result.1 }
+        ensures found { result.1 ≡ found }
     {
-        HostFolder {
+        let ghost_calls = GhostCalls::new().then(&Note {
+            asked: Asked::Opened { found: &found },
+            succeeded: true,
+        });
+        let folder = HostFolder {
             rt: *rt,
             handles,
             names,
-            ghost_calls: GhostCalls::new().then(&Note {
-                asked: Asked::Opened { found },
-                succeeded: true,
-            }),
-        }
+            has_changed_blobs: false,
+            has_changed_snapshots: false,
+            ghost_calls,
+        };
+        (folder, found)
     }
 
     // Notes a call with its answer.
@@ -79,7 +89,8 @@ impl HostFolder {
         ensures { self.new.ghost_calls ≡ self.old.ghost_calls }
     {
         self.names.name_blob(place)?;
-        File::create_new(&self.rt, self.names.path.as_str())?.write_all(bytes)
+        self.has_changed_blobs = true;
+        made(&self.rt, self.names.path.as_str())?.write_all(bytes)
     }
 
     // Syncs the file of a blob.
@@ -87,7 +98,7 @@ impl HostFolder {
         ensures { self.new.ghost_calls ≡ self.old.ghost_calls }
     {
         self.names.name_blob(place)?;
-        File::open(&self.rt, self.names.path.as_str())?.sync_all()
+        apart(File::open(&self.rt, self.names.path.as_str())?)?.sync_all()
     }
 
     // Removes the file of a blob.
@@ -95,6 +106,7 @@ impl HostFolder {
         ensures { self.new.ghost_calls ≡ self.old.ghost_calls }
     {
         self.names.name_blob(place)?;
+        self.has_changed_blobs = true;
         remove(&self.rt, self.names.path.as_str())
     }
 
@@ -103,12 +115,14 @@ impl HostFolder {
         ensures { self.new.ghost_calls ≡ self.old.ghost_calls }
     {
         self.names.name_snapshot(number)?;
+        self.has_changed_snapshots = true;
         remove(&self.rt, self.names.path.as_str())
     }
 
-    // Begins the temporary snapshot from empty, writes it and syncs it.
+    // Makes the temporary snapshot anew, writes it and syncs it. What had its name goes first, so that a link isn't followed.
     fn fill(&self, bytes: &[u8]) -> io::Result<()> {
-        let mut file = File::create(&self.rt, self.names.temporary.as_str())?;
+        remove(&self.rt, self.names.temporary.as_str())?;
+        let mut file = made(&self.rt, self.names.temporary.as_str())?;
         file.write_all(bytes)?;
         file.sync_all()
     }
@@ -118,6 +132,7 @@ impl HostFolder {
         ensures { self.new.ghost_calls ≡ self.old.ghost_calls }
     {
         self.names.name_snapshot(number)?;
+        self.has_changed_snapshots = true;
         fs::rename(
             &self.rt,
             self.names.temporary.as_str(),
@@ -125,11 +140,34 @@ impl HostFolder {
         )
     }
 
-    // Syncs both folders.
-    fn sync_folders(&self) -> io::Result<()> {
-        self.handles.blobs.sync_all()?;
-        self.handles.snapshots.sync_all()
+    // Syncs both folders, but not one whose names are as they were when it was synced last.
+    fn sync_folders(&mut self) -> io::Result<()>
+        ensures { self.new.ghost_calls ≡ self.old.ghost_calls }
+    {
+        if self.has_changed_blobs {
+            self.handles.blobs.sync_all()?;
+            self.has_changed_blobs = false;
+        }
+        if self.has_changed_snapshots {
+            self.handles.snapshots.sync_all()?;
+            self.has_changed_snapshots = false;
+        }
+        Ok(())
     }
+}
+
+// A file that isn't there is made. No link is followed.
+fn made(rt: &HostRuntime, path: &str) -> io::Result<File> {
+    apart(File::create_new(rt, path)?)
+}
+
+// A file under a descriptor above 2. Those up to 2 are the standard streams: where one of these is closed, the next file
+// that is opened gets its descriptor, and all would be written into it that is meant for the stream.
+pub(crate) fn apart(file: File) -> io::Result<File> {
+    if file.as_raw_fd() > 2 {
+        return Ok(file);
+    }
+    file.try_clone()
 }
 
 // Removes a file, where there is one.

@@ -6,19 +6,20 @@
 #![tactic(auto)]
 
 mod calls;
+pub mod copy;
 mod crc32;
 pub mod device;
+mod failure;
 mod faults;
 mod folder;
 mod host;
 mod mirror;
 mod opening;
 mod start;
-#[cfg(test)]
-mod tests;
 
 pub use crc32::Crc32;
 pub use device::FileDevice;
+pub use failure::{Doing, Failure};
 pub use folder::Folder;
 pub use host::HostFolder;
 pub use opening::{OpenError, Progress, Untold, open, open_told, read};

@@ -1,5 +1,5 @@
 //! What is read of a folder, kept in memory: what was found at the opening, and what was written since.
-ghost use Rattle.std.specs.Prelude.{◌≡◌, ◌+◌, ◌≤◌, ◌-◌, ◌++◌, length, take, drop, replicate, OnOk, OnErr, IsSome, true};
+ghost use Rattle.std.specs.Prelude.{◌≡◌, ◌+◌, ◌≤◌, ◌-◌, ◌++◌, length, take, drop, replicate, OnOk, OnErr, IsSome, None, true};
 ghost use Rattle.sled_store.specs.Device.{State, step, Wrote, Cut, BlobMade, BlobRemoved, SnapshotFilled, SnapshotPublished, SnapshotRemoved};
 ghost use Rattle.sled_file.specs.Mirrors.{Mirrors};
 
@@ -63,6 +63,7 @@ impl Mirror {
     ) -> Result<(), AllocError>
         ensures ok { (s : State) → Mirrors self.old s → OnOk result (Mirrors self.new (step (BlobMade place bytes.now bytes.now true) s)) }
         ensures err { (s : State) → Mirrors self.old s → OnErr result (Mirrors self.new s) }
+        ensures temporary { self.new.temporary ≡ self.old.temporary }
     {
         let copy = bytes.to_vec(alloc)?;
         self.blobs.put(place, copy)?;
@@ -71,7 +72,8 @@ impl Mirror {
 
     // Removes a blob.
     pub(crate) fn remove_blob(&mut self, place: i64)
-        ensures { (s : State) → Mirrors self.old s → Mirrors self.new (step (BlobRemoved place true) s) }
+        ensures removed { (s : State) → Mirrors self.old s → Mirrors self.new (step (BlobRemoved place true) s) }
+        ensures temporary { self.new.temporary ≡ self.old.temporary }
     {
         self.blobs.remove(place);
     }
@@ -80,6 +82,8 @@ impl Mirror {
     pub(crate) fn write_snapshot(&mut self, alloc: Global, bytes: &[u8]) -> Result<(), AllocError>
         ensures ok { (s : State) → Mirrors self.old s → OnOk result (Mirrors self.new (step (SnapshotFilled bytes.now bytes.now) s)) }
         ensures err { (s : State) → Mirrors self.old s → OnErr result (Mirrors self.new s) }
+        ensures kept { OnOk result (IsSome self.new.temporary) }
+        ensures same { OnErr result (self.new.temporary ≡ self.old.temporary) }
     {
         self.temporary = Some(bytes.to_vec(alloc)?);
         Ok(())
@@ -90,6 +94,8 @@ impl Mirror {
         requires { IsSome self.old.temporary }
         ensures ok { (s : State) → Mirrors self.old s → OnOk result (Mirrors self.new (step (SnapshotPublished number true) s)) }
         ensures err { (s : State) → Mirrors self.old s → OnErr result (Mirrors self.new s) }
+        ensures gone { OnOk result (self.new.temporary ≡ None) }
+        ensures same { OnErr result (self.new.temporary ≡ self.old.temporary) }
     {
         let Some(bytes) = self.temporary.take() else {
             unreachable!()
@@ -105,7 +111,8 @@ impl Mirror {
 
     // Removes a snapshot.
     pub(crate) fn remove_snapshot(&mut self, number: i64)
-        ensures { (s : State) → Mirrors self.old s → Mirrors self.new (step (SnapshotRemoved number true) s) }
+        ensures removed { (s : State) → Mirrors self.old s → Mirrors self.new (step (SnapshotRemoved number true) s) }
+        ensures temporary { self.new.temporary ≡ self.old.temporary }
     {
         self.snapshots.remove(number);
     }

@@ -1,26 +1,30 @@
 //! How a folder is opened: it is locked, what is missing is made, all that is there is synced, and then read.
+//!
+//! All in the folder is named below the handle of the folder that was opened (`place.rt`), so that it stays one folder
+//! whatever becomes of the path meanwhile.
 ghost use Rattle.std.specs.Prelude.{◌≡◌, ◌∷◌, ℕ, ℤ, List, IfOk};
 ghost use Rattle.std.specs.List.Sorted.{IsStrictlySortedBy};
 ghost use Rattle.std.specs.Map.{keys_of};
 ghost use Rattle.std.specs.Ordering.{int_cmp};
 ghost use Rattle.sled_store.specs.Device.{Crashed, Given};
 
+mod place;
 mod reading;
+mod settling;
 
 use crate::device::FileDevice;
 use crate::host::{Handles, HostFolder, Names};
-use crate::mirror::Mirror;
+use crate::opening::place::{Holding, Place};
 use crate::start::Start;
 use sled_store::{Device, Offer};
-use std::alloc::{AllocError, AllocFailed, Global};
-use std::fs::{self, File, OpenOptions, TryLockError};
-use std::io::{self, ErrorKind};
+use std::alloc::{AllocError, AllocFailed};
+use std::io;
 use thiserror::Error;
 
 /// Why a folder could not be opened.
 #[derive(Debug, Drop, Error)]
 pub enum OpenError {
-    /// Another process, or another device of this one, has it open.
+    /// Another process, or another device of this one, has it open, or reads it while it is to be opened.
     #[error("{path}: the folder is open elsewhere")]
     Locked {
         /// The file whose lock is held.
@@ -101,29 +105,29 @@ pub fn open_told<S: Start, P: Progress>(
     ensures faults { IfOk result (λ device. ⟦<FileDevice<HostFolder, S> as Device>⟧.faults device ≡ 0) }
 {
     let alloc = rt.alloc();
-    let handles = prepare(rt, path)?;
-    let names = Names::new(alloc, path)?;
-    let mut found = Mirror::new(alloc);
-    reading::read_all(rt, path, &handles.log, &mut found, progress)?;
-    let folder = HostFolder::new(rt, handles, names, &found);
+    let place = Place::make(rt, path)?;
+    let handles = prepare(&place)?;
+    let names = Names::new(alloc, &handles)?;
+    let found = reading::read_all(&place, &handles, &names, Holding::Alone, progress)?;
+    let (folder, found) = HostFolder::new(rt, handles, names, found);
     Ok(FileDevice::new(alloc, folder, found))
 }
 
-/// Reads what is in a folder, which is changed in nothing, and is locked meanwhile. Tells how far it came. Blobs and
-/// snapshots are in ascending order, each once.
+/// Reads what is in a folder, which is changed in nothing and synced in nothing. Others may read it meanwhile, and nobody
+/// has it open. Tells how far it came. Blobs and snapshots are in ascending order, each once.
 ///
 /// # Errors
 ///
-/// As `open`; `Io` also where the folder, its log file or its lock is missing.
+/// As `open`; `Io` also where the folder, its log file, or that of blobs or of snapshots is missing.
 pub fn read<P: Progress>(rt: &HostRuntime, path: &str, progress: &mut P) -> Result<Offer, OpenError>
     ensures blobs { IfOk result (λ found. IsStrictlySortedBy int_cmp (keys_of found.blobs.items)) }
     ensures snapshots { IfOk result (λ found. IsStrictlySortedBy int_cmp (keys_of found.snapshots.items)) }
 {
     let alloc = rt.alloc();
-    let _lock = locked(rt, &reading_only(), format!(in alloc; "{path}/lock")?)?;
-    let log = open_file(rt, &reading_only(), format!(in alloc; "{path}/log")?)?;
-    let mut found = Mirror::new(alloc);
-    reading::read_all(rt, path, &log, &mut found, progress)?;
+    let place = Place::open(rt, path)?;
+    let handles = look(&place)?;
+    let names = Names::new(alloc, &handles)?;
+    let found = reading::read_all(&place, &handles, &names, Holding::Shared, progress)?;
     Ok(Offer {
         bytes: found.log,
         blobs: found.blobs.into_list(alloc)?,
@@ -131,21 +135,20 @@ pub fn read<P: Progress>(rt: &HostRuntime, path: &str, progress: &mut P) -> Resu
     })
 }
 
-// Locks the folder, makes what is missing of it, and syncs what stands in it by name.
-fn prepare(rt: &HostRuntime, path: &str) -> Result<Handles, OpenError> {
-    let alloc = rt.alloc();
-    make_folder(rt, path)?;
-    let how = changing();
-    let lock = locked(rt, &how, format!(in alloc; "{path}/lock")?)?;
-    make_folder(rt, format!(in alloc; "{path}/blobs")?.as_str())?;
-    make_folder(rt, format!(in alloc; "{path}/snapshots")?.as_str())?;
-    let log = open_file(rt, &how, format!(in alloc; "{path}/log")?)?;
-    let blobs = open_folder(rt, format!(in alloc; "{path}/blobs")?)?;
-    let snapshots = open_folder(rt, format!(in alloc; "{path}/snapshots")?)?;
-    let _ = open_folder(rt, String::from_str(alloc, path)?)?;
-    if is_unused(alloc, path, &log)? {
-        let _ = open_folder(rt, format!(in alloc; "{path}/..")?)?;
-    }
+// Locks the folder, makes what is missing of it, and syncs the log file and what stands in the folder by name.
+fn prepare(place: &Place<'_>) -> Result<Handles, OpenError> {
+    let log = place.log()?;
+    place.lock(&log, "log", Holding::Alone)?;
+    let lock = place.lock_of_old(Holding::Alone)?;
+    place.sync(&log, "log")?;
+    place.settle_log()?;
+    place.make_folder("blobs")?;
+    place.make_folder("snapshots")?;
+    let blobs = place.open_folder("blobs")?;
+    place.sync(&blobs, "blobs")?;
+    let snapshots = place.open_folder("snapshots")?;
+    place.sync(&snapshots, "snapshots")?;
+    place.sync_names(&log)?;
     Ok(Handles {
         log,
         blobs,
@@ -154,97 +157,15 @@ fn prepare(rt: &HostRuntime, path: &str) -> Result<Handles, OpenError> {
     })
 }
 
-// Makes a folder, unless it is there.
-fn make_folder(rt: &HostRuntime, path: &str) -> Result<(), OpenError> {
-    match fs::create_dir(rt, path) {
-        Ok(()) => Ok(()),
-        Err(error) if error.kind() == ErrorKind::AlreadyExists => Ok(()),
-        Err(error) => Err(failed(rt.alloc(), path, "the folder can't be made", error)),
-    }
-}
-
-// Whether the log file has no bytes. Then the name of the folder may not be on the disk: who made it may have been ended
-// before that was synced, also an earlier opening.
-fn is_unused(alloc: Global, path: &str, log: &File) -> Result<bool, OpenError> {
-    match log.metadata() {
-        Ok(found) => Ok(found.len() == 0),
-        Err(error) => Err(failed(alloc, path, "the log file can't be looked at", error)),
-    }
-}
-
-// The file whose lock is the folder's, with its lock held.
-fn locked(rt: &HostRuntime, how: &OpenOptions, path: String) -> Result<File, OpenError> {
-    let file = open_file(rt, how, path.clone()?)?;
-    match file.try_lock() {
-        Ok(()) => Ok(file),
-        Err(TryLockError::WouldBlock) => Err(OpenError::Locked { path }),
-        Err(TryLockError::Error(error)) => Err(OpenError::Io {
-            path,
-            doing: "the file can't be locked",
-            error,
-        }),
-    }
-}
-
-// How a file is opened that is only read.
-fn reading_only() -> OpenOptions {
-    let mut how = OpenOptions::new();
-    how.read(true);
-    how
-}
-
-// How a file is opened that is to be changed: it is made where it is missing.
-fn changing() -> OpenOptions {
-    let mut how = OpenOptions::new();
-    how.read(true).write(true).create(true);
-    how
-}
-
-// A file with its bytes synced.
-fn open_file(rt: &HostRuntime, how: &OpenOptions, path: String) -> Result<File, OpenError> {
-    match opened(rt, how, path.as_str()) {
-        Ok(file) => Ok(file),
-        Err(error) => Err(OpenError::Io {
-            path,
-            doing: "the file can't be opened and synced",
-            error,
-        }),
-    }
-}
-
-fn opened(rt: &HostRuntime, how: &OpenOptions, path: &str) -> io::Result<File> {
-    let file = how.open(rt, path)?;
-    file.sync_all()?;
-    Ok(file)
-}
-
-// A folder, opened and synced.
-fn open_folder(rt: &HostRuntime, path: String) -> Result<File, OpenError> {
-    match opened_folder(rt, path.as_str()) {
-        Ok(file) => Ok(file),
-        Err(error) => Err(OpenError::Io {
-            path,
-            doing: "the folder can't be opened and synced",
-            error,
-        }),
-    }
-}
-
-fn opened_folder(rt: &HostRuntime, path: &str) -> io::Result<File> {
-    let folder = File::open(rt, path)?;
-    folder.sync_all()?;
-    Ok(folder)
-}
-
-// The error of a call on a file, with the path.
-pub(crate) fn failed(
-    alloc: Global,
-    path: &str,
-    doing: &'static str,
-    error: io::Error,
-) -> OpenError {
-    match String::from_str(alloc, path) {
-        Ok(path) => OpenError::Io { path, doing, error },
-        Err(_) => OpenError::OutOfMemory,
-    }
+// Locks a folder that is only read.
+fn look(place: &Place<'_>) -> Result<Handles, OpenError> {
+    let log = place.log_to_read()?;
+    place.lock(&log, "log", Holding::Shared)?;
+    let lock = place.lock_of_old(Holding::Shared)?;
+    Ok(Handles {
+        log,
+        blobs: place.open_folder("blobs")?,
+        snapshots: place.open_folder("snapshots")?,
+        lock,
+    })
 }

@@ -1,7 +1,9 @@
 //! What is found in a folder.
 
+use crate::host::{Handles, Names, apart};
 use crate::mirror::Mirror;
-use crate::opening::{OpenError, Progress, failed};
+use crate::opening::place::{Holding, Place};
+use crate::opening::{OpenError, Progress};
 use std::alloc::{AllocError, Global};
 use std::fs::{self, File};
 use std::io::{self, ErrorKind, Read};
@@ -9,32 +11,38 @@ use std::io::{self, ErrorKind, Read};
 // How many bytes are read at a time.
 const CHUNK: usize = 65536;
 
-// Reads all files of the folder.
+// Reads all files of the folder. Where it is held alone, each blob and each snapshot is synced before it is read: what is
+// found counts as durable then.
 pub(crate) fn read_all<P: Progress>(
-    rt: &HostRuntime,
-    path: &str,
-    log: &File,
-    found: &mut Mirror,
+    place: &Place<'_>,
+    handles: &Handles,
+    names: &Names,
+    holding: Holding,
     progress: &mut P,
-) -> Result<(), OpenError> {
-    let alloc = rt.alloc();
-    if let Err(error) = read_log(alloc, log, &mut found.log, progress) {
-        let path = format!(in alloc; "{path}/log")?;
-        return Err(failed(alloc, path.as_str(), "the file can't be read", error));
+) -> Result<Mirror, OpenError> {
+    let mut found = Mirror::new(place.rt.alloc());
+    if let Err(error) = read_log(place.rt.alloc(), &handles.log, &mut found.log, progress) {
+        return Err(place.failed("log", "the file can't be read", error));
     }
-    let blobs = format!(in alloc; "{path}/blobs")?;
-    for place in numbers(rt, blobs.as_str())? {
-        found
-            .blobs
-            .put(place, read_numbered(rt, blobs.as_str(), place)?)?;
+    let blobs = Numbered {
+        place,
+        name: names.blobs.as_str(),
+        told: "blobs",
+        holding,
+    };
+    for number in blobs.numbers()? {
+        found.blobs.put(number, blobs.read(number)?)?;
     }
-    let snapshots = format!(in alloc; "{path}/snapshots")?;
-    for number in numbers(rt, snapshots.as_str())? {
-        found
-            .snapshots
-            .put(number, read_numbered(rt, snapshots.as_str(), number)?)?;
+    let snapshots = Numbered {
+        place,
+        name: names.snapshots.as_str(),
+        told: "snapshots",
+        holding,
+    };
+    for number in snapshots.numbers()? {
+        found.snapshots.put(number, snapshots.read(number)?)?;
     }
-    Ok(())
+    Ok(found)
 }
 
 // Reads the log file.
@@ -48,22 +56,78 @@ fn read_log<P: Progress>(
     let mut chunk = vec![in alloc; 0u8; CHUNK]?;
     let mut reader = file;
     for _ in 0..u64::MAX {
-        let count = reader.read(&mut chunk)?;
-        if count == 0 {
-            return Ok(());
+        match reader.read(&mut chunk) {
+            Ok(0) => return Ok(()),
+            Ok(count) => {
+                bytes.extend_from_slice(&chunk[..count])?;
+                progress.has_read(bytes.len() as u64, of);
+            }
+            // A signal came.
+            Err(error) if error.kind() == ErrorKind::Interrupted => {}
+            Err(error) => return Err(error),
         }
-        bytes.extend_from_slice(&chunk[..count])?;
-        progress.has_read(bytes.len() as u64, of);
     }
     Err(io::Error::other("the file doesn't end"))
 }
 
-// The numbers that are names of files in a folder. Other names are left alone.
-fn numbers(rt: &HostRuntime, folder: &str) -> Result<Vec<i64>, OpenError> {
-    match listed(rt, folder) {
-        Ok(numbers) => Ok(numbers),
-        Err(error) => Err(failed(rt.alloc(), folder, "the folder can't be listed", error)),
+// One of the two folders whose files have numbers for names.
+#[derive(Clone, Copy)]
+struct Numbered<'a> {
+    place: &'a Place<'a>,
+    // What names the folder.
+    name: &'a str,
+    // What errors call it.
+    told: &'a str,
+    holding: Holding,
+}
+
+impl Numbered<'_> {
+    // The numbers that are names of files in it. Other names are left alone.
+    fn numbers(&self) -> Result<Vec<i64>, OpenError> {
+        match listed(self.place.rt, self.name) {
+            Ok(numbers) => Ok(numbers),
+            Err(error) => {
+                Err(
+                    self.place
+                        .failed(self.told, "the folder can't be listed", error),
+                )
+            }
+        }
     }
+
+    // The bytes of the file of a number.
+    fn read(&self, number: i64) -> Result<Vec<u8>, OpenError> {
+        let alloc = self.place.rt.alloc();
+        let name = self.name;
+        let name = format!(in alloc; "{name}/{number}")?;
+        let mut file = match opened(self.place.rt, name.as_str()) {
+            Ok(file) => file,
+            Err(error) => return Err(self.failed(number, "the file can't be opened", error)),
+        };
+        if let Holding::Alone = self.holding {
+            if let Err(error) = file.sync_all() {
+                return Err(self.failed(number, "the file can't be synced", error));
+            }
+        }
+        let mut bytes = Vec::new(alloc);
+        match file.read_to_end(&mut bytes) {
+            Ok(_) => Ok(bytes),
+            Err(error) => Err(self.failed(number, "the file can't be read", error)),
+        }
+    }
+
+    // The error of a call on the file of a number.
+    fn failed(&self, number: i64, doing: &'static str, error: io::Error) -> OpenError {
+        let told = self.told;
+        match format!(in self.place.rt.alloc(); "{told}/{number}") {
+            Ok(file) => self.place.failed(file.as_str(), doing, error),
+            Err(_) => OpenError::OutOfMemory,
+        }
+    }
+}
+
+fn opened(rt: &HostRuntime, name: &str) -> io::Result<File> {
+    apart(File::open(rt, name)?)
 }
 
 fn listed(rt: &HostRuntime, folder: &str) -> io::Result<Vec<i64>> {
@@ -94,25 +158,4 @@ fn number_of(alloc: Global, name: &str) -> Result<Option<i64>, AllocError> {
     } else {
         Ok(None)
     }
-}
-
-// The bytes of the file of a number, which is synced first.
-fn read_numbered(rt: &HostRuntime, folder: &str, number: i64) -> Result<Vec<u8>, OpenError> {
-    let path = format!(in rt.alloc(); "{folder}/{number}")?;
-    match read_file(rt, path.as_str()) {
-        Ok(bytes) => Ok(bytes),
-        Err(error) => Err(OpenError::Io {
-            path,
-            doing: "the file can't be read",
-            error,
-        }),
-    }
-}
-
-fn read_file(rt: &HostRuntime, path: &str) -> io::Result<Vec<u8>> {
-    let mut file = File::open(rt, path)?;
-    file.sync_all()?;
-    let mut bytes = Vec::new(rt.alloc());
-    file.read_to_end(&mut bytes)?;
-    Ok(bytes)
 }
