@@ -1,24 +1,61 @@
 //! The arguments of the program.
 
-use anyhow::{Result, bail};
+use anyhow::{Context, Result, bail};
 use clap::error::ErrorKind;
 use clap::{Arg, ArgAction, ArgMatches, Command, Error, value_parser};
-use sled_log::result::Lsn;
+use sled_log::result::{Lsn, PageId};
 use std::alloc::{AllocError, Global};
+
+/// The program's version.
+const VERSION: &str = "0.1.0";
 
 /// What the program is asked for.
 #[derive(Debug, Drop)]
 pub(crate) enum Asked {
     /// Run the lines of standard input over a folder.
-    Run { folder: String },
+    Run {
+        folder: String,
+    },
     /// Show the pages that a recovery finds.
-    Pages { folder: String, is_json: bool },
+    Pages {
+        folder: String,
+        is_json: bool,
+    },
     /// Show all that the files hold.
-    Dump { folder: String, is_json: bool },
+    Dump {
+        folder: String,
+        is_json: bool,
+    },
     /// Show the messages from a place on.
-    Iter { folder: String, from: Lsn },
-    /// Say what a recovery would do.
-    Check { folder: String },
+    Iter {
+        folder: String,
+        from: Lsn,
+        is_json: bool,
+    },
+    /// Say what a recovery would do, and what can't be read.
+    Check {
+        folder: String,
+        is_json: bool,
+    },
+    /// Print the items of a page.
+    Get {
+        folder: String,
+        page: PageId,
+    },
+    /// Print the items of all pages, as lines of JSON.
+    Export {
+        folder: String,
+    },
+    /// Write such lines from standard input into a folder.
+    Import {
+        folder: String,
+        size: Option<u64>,
+    },
+    /// Count what the files hold.
+    Stat {
+        folder: String,
+        is_json: bool,
+    },
 }
 
 /// What the words of the command line come to.
@@ -39,7 +76,11 @@ pub(crate) fn read_words(rt: &HostRuntime, words: &[String]) -> Result<Wish> {
         Ok(None) => Ok(Wish::Misread),
         Err(error) if error.kind() == ErrorKind::OutOfMemory => bail!("out of memory"),
         Err(error) => {
-            error.print(rt)?;
+            error.print(rt).context(if error.use_stderr() {
+                "standard error"
+            } else {
+                "standard output"
+            })?;
             Ok(if error.use_stderr() {
                 Wish::Misread
             } else {
@@ -60,22 +101,68 @@ fn parse(alloc: Global, words: &[String]) -> std::result::Result<Option<Asked>, 
 
 // The command line, of which each subcommand takes a folder.
 fn command<'a>(alloc: Global) -> std::result::Result<Command<'a>, AllocError> {
+    let command = Command::new(alloc, "slog_file")
+        .about("A segment log in a folder, run by lines of text, or looked at")
+        .version(VERSION)
+        .subcommand_required(true)
+        .subcommand(over(alloc, "run", "Run the lines of standard input")?)?
+        .subcommand(get(alloc)?)?
+        .subcommand(over(
+            alloc,
+            "export",
+            "Print the items of all pages as lines of JSON",
+        )?)?
+        .subcommand(import(alloc)?)?;
+    with_views(alloc, command)
+}
+
+// The same with the subcommands that show how the files are laid out.
+fn with_views<'a>(
+    alloc: Global,
+    command: Command<'a>,
+) -> std::result::Result<Command<'a>, AllocError> {
+    command
+        .subcommand(over_json(alloc, "pages", "Show the pages that a recovery finds")?)?
+        .subcommand(over_json(alloc, "dump", "Show all that the files hold")?)?
+        .subcommand(iter(alloc)?)?
+        .subcommand(over_json(
+            alloc,
+            "check",
+            "Say what a recovery would do, and what can't be read",
+        )?)?
+        .subcommand(over_json(alloc, "stat", "Count what the files hold")?)
+}
+
+fn get<'a>(alloc: Global) -> std::result::Result<Command<'a>, AllocError> {
+    let page = Arg::new(alloc, "page")
+        .required(true)
+        .value_parser(value_parser!(u64))
+        .help("the number of the page");
+    over(alloc, "get", "Print the items of a page")?.arg(page)
+}
+
+fn import<'a>(alloc: Global) -> std::result::Result<Command<'a>, AllocError> {
+    let size = Arg::new(alloc, "size")
+        .long("size")
+        .value_parser(value_parser!(u64))
+        .help(
+            "the size of segments of a new folder: a power of two from 256 to 8388608, 65536 if it is left out",
+        );
+    over(
+        alloc,
+        "import",
+        "Write the lines of an export into a folder without pages",
+    )?
+    .arg(size)
+}
+
+fn iter<'a>(alloc: Global) -> std::result::Result<Command<'a>, AllocError> {
     let from = Arg::new(alloc, "from")
         .required(true)
         .allow_negative_numbers(true)
         .value_parser(value_parser!(i64))
         .help("the place that the messages begin from");
-    Command::new(alloc, "slog_file")
-        .about("A segment log in a folder, run by lines of text, or looked at")
-        .subcommand_required(true)
-        .subcommand(over(alloc, "run", "Run the lines of standard input")?)?
-        .subcommand(with_json(
-            alloc,
-            over(alloc, "pages", "Show the pages that a recovery finds")?,
-        )?)?
-        .subcommand(with_json(alloc, over(alloc, "dump", "Show all that the files hold")?)?)?
-        .subcommand(over(alloc, "iter", "Show the messages from a place on")?.arg(from)?)?
-        .subcommand(over(alloc, "check", "Say what a recovery would do")?)
+    over_json(alloc, "iter", "Show the messages from a place on")?.arg(from)
 }
 
 // A subcommand over a folder.
@@ -91,15 +178,16 @@ fn over<'a>(
 }
 
 // The same, which may print JSON.
-fn with_json<'a>(
+fn over_json<'a>(
     alloc: Global,
-    command: Command<'a>,
+    name: &'a str,
+    about: &'a str,
 ) -> std::result::Result<Command<'a>, AllocError> {
     let json = Arg::new(alloc, "json")
         .long("json")
         .action(ArgAction::SetTrue)
         .help("print JSON");
-    command.arg(json)
+    over(alloc, name, about)?.arg(json)
 }
 
 // What a subcommand asks for.
@@ -117,8 +205,19 @@ fn asked_of(
         "iter" => Asked::Iter {
             folder,
             from: found.get_one::<i64>("from").unwrap_or(0),
+            is_json,
         },
-        "check" => Asked::Check { folder },
+        "check" => Asked::Check { folder, is_json },
+        "get" => Asked::Get {
+            folder,
+            page: found.get_one::<u64>("page").unwrap_or(0),
+        },
+        "export" => Asked::Export { folder },
+        "import" => Asked::Import {
+            folder,
+            size: found.get_one::<u64>("size"),
+        },
+        "stat" => Asked::Stat { folder, is_json },
         _ => return Ok(None),
     };
     Ok(Some(asked))

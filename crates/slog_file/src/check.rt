@@ -1,105 +1,64 @@
-//! What a recovery and an opening of the log would do to a folder.
+//! What a recovery and an opening of the log would do to a folder, and whether each message of its pages can be read.
 
-use crate::content::{filled, found};
-use crate::noted_device::{Change, NotedDevice};
-use crate::words::Optional;
-use crate::{Ended, damage, size};
-use anyhow::{Context, Result};
+mod findings;
+mod print;
+
+use crate::check::findings::{Findings, find_all};
+use crate::check::print::{print_json, print_text};
+use crate::content::{copied, found};
+use crate::json::Json;
+use crate::noted_device::NotedDevice;
+use crate::output::printed;
+use crate::progress::{Stage, Told};
+use crate::{Ended, size};
+use anyhow::{Error, Result, anyhow};
 use sled_file::Crc32;
-use sled_log::config::RunningConfig;
-use sled_log::logger::Log;
-use sled_log::snapshot::{Snapshot, read_snapshot_or_default};
+use sled_log::config::{Config, RunningConfig};
+use sled_log::device::Offer;
+use std::alloc::Global;
 use std::io::{self, BufWriter, Write};
 
-type Noted = RunningConfig<NotedDevice, Crc32>;
+/// What is checked: a copy of a folder in memory, which notes its changes.
+pub(crate) type Noted = RunningConfig<NotedDevice, Crc32>;
 
-// Where the changes are printed that come of a log file.
-#[derive(Drop)]
-struct Report<'a, W> {
-    log: &'a [u8],
-    writer: &'a mut W,
-}
-
-/// Recovers a copy in memory and opens a log on it, and prints each change that this would make.
-pub(crate) fn show(rt: &HostRuntime, folder: &str) -> Result<Ended> {
+/// Recovers a copy in memory, opens a log on it, reads all messages of its pages, and prints what it finds.
+pub(crate) fn show(rt: &HostRuntime, folder: &str, is_json: bool) -> Result<Ended> {
     let alloc = rt.alloc();
     let size = size::of(rt, folder)?;
-    let content = found(rt, folder)?;
-    let memory = filled(alloc, size, &content).context("the copy in memory can't be made")?;
-    let device = NotedDevice::new(alloc, memory);
-    let config = RunningConfig::new(alloc, size, device, Crc32);
+    let mut told = Told::begin(rt, folder);
+    let content = found(rt, folder, &mut told)?;
+    told.enter(Stage::Copying);
+    let config = noted(alloc, folder, size, &content)?;
+    told.enter(Stage::Recovering);
+    let mut findings = Findings::new(alloc);
+    let outcome = find_all(alloc, folder, config, &content.bytes, &mut findings);
     let mut writer = BufWriter::new(alloc, io::writer(rt))?;
-    let mut report = Report {
-        log: &content.bytes,
-        writer: &mut writer,
-    };
-    let outcome = check(rt, folder, config, &mut report);
-    writer.flush()?;
+    if is_json {
+        printed(print_json(alloc, folder, &findings, &mut Json::new(&mut writer)))?;
+    } else {
+        printed(print_text(&findings, &mut writer))?;
+    }
+    printed(writer.flush())?;
     outcome?;
-    Ok(Ended::Well)
+    ended(folder, &findings)
 }
 
-fn check<W: Write>(
-    rt: &HostRuntime,
-    folder: &str,
-    config: Noted,
-    report: &mut Report<'_, W>,
-) -> Result<()> {
-    let mut config = config;
-    match read_snapshot_or_default(&mut config) {
-        Ok(snapshot) => {
-            report.recovered(&snapshot)?;
-            report.changes("recovery", &config.device)?;
-            start(config, &snapshot, report)
-        }
-        Err(error) => Err(damage::explained(rt.alloc(), folder, &mut config, error)),
+// How the program ends that found this.
+fn ended(folder: &str, findings: &Findings) -> Result<Ended> {
+    match findings.unread.len() {
+        0 if findings.dropped > 0 => Ok(Ended::Drops),
+        0 => Ok(Ended::Well),
+        1 => Err(unread(folder, anyhow!("a message of a page can't be read"))),
+        count => Err(unread(folder, anyhow!("{count} messages of pages can't be read"))),
     }
 }
 
-// Opens a log on what was recovered.
-fn start<W: Write>(config: Noted, snapshot: &Snapshot, report: &mut Report<'_, W>) -> Result<()> {
-    let mut config = config;
-    config.device.forget();
-    match Log::start(config, snapshot) {
-        Ok(log) => report.changes("opening", &log.halt().device),
-        Err((error, _)) => { Err(error).context("no log can begin on what a recovery finds") }
-    }
+fn unread(folder: &str, error: Error) -> Error {
+    error.context(folder)
 }
 
-impl<W: Write> Report<'_, W> {
-    // Where the log goes on, and how many pages it has.
-    fn recovered(&mut self, snapshot: &Snapshot) -> Result<()> {
-        let stable = Optional(snapshot.stable_lsn);
-        let active = Optional(snapshot.active_segment);
-        let pages = snapshot.pt.len();
-        Ok(writeln!(self.writer, "stable {stable} active {active} pages {pages}")?)
-    }
-
-    // The changes of a step, a line for each; of zeros also how many of the bytes are something else now.
-    fn changes(&mut self, step: &str, device: &NotedDevice) -> Result<()> {
-        for change in &device.changes {
-            write!(self.writer, "{step} {change}")?;
-            if let Change::Zeros { at, len } = change {
-                let nonzero = self.count_nonzero(*at, *len);
-                write!(self.writer, " nonzero {nonzero}")?;
-            }
-            writeln!(self.writer)?;
-        }
-        if device.changes.is_empty() {
-            writeln!(self.writer, "{step} changes nothing")?;
-        }
-        if !device.is_complete {
-            anyhow::bail!("out of memory for all of the changes");
-        }
-        Ok(())
-    }
-
-    // How many bytes of the log file in a range aren't zeros.
-    fn count_nonzero(&self, at: u64, len: u64) -> usize {
-        let Some((_, behind)) = self.log.split_at_checked(at as usize) else {
-            return 0;
-        };
-        let count = behind.len().min(len as usize);
-        behind.iter().take(count).filter(|byte| **byte != 0).count()
-    }
+// A copy of a folder, of which nothing was changed yet.
+fn noted(alloc: Global, folder: &str, size: Config, content: &Offer) -> Result<Noted> {
+    let device = NotedDevice::new(alloc, copied(alloc, folder, size, content)?);
+    Ok(RunningConfig::new(alloc, size, device, Crc32))
 }

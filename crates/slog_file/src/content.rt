@@ -1,32 +1,69 @@
 //! What a folder holds, as a device in memory.
-ghost use Rattle.std.specs.Prelude.{◌≡◌, ◌<◌, [], length, OnOk, IfOk};
-ghost use Rattle.sled_store.specs.Device.{state_of};
-ghost use Rattle.slog_file.specs.Copies.{HasSlots, IsOwnCopy, LogStays};
 
-use crate::progress::Told;
-use crate::size;
-use anyhow::{Context, Error, Result, anyhow};
+use crate::progress::{Stage, Told};
+use crate::{damage, size};
+use anyhow::{Error, Result, anyhow};
+use sled_file::copy::filled;
 use sled_file::{Crc32, OpenError, read};
 use sled_log::config::{Config, RunningConfig};
-use sled_log::device::{Device, MemDevice, Offer};
+use sled_log::device::{MemDevice, Offer};
+use sled_log::snapshot::{Snapshot, read_snapshot_or_default};
 use std::alloc::Global;
-use std::io;
 
 /// What the subcommands look at: a copy of a folder in memory.
 pub(crate) type Copied = RunningConfig<MemDevice, Crc32>;
 
 /// Reads a folder, which is locked meanwhile, and is changed in nothing.
 pub(crate) fn load(rt: &HostRuntime, folder: &str) -> Result<Copied> {
+    load_told(rt, folder, &mut Told::begin(rt, folder))
+}
+
+fn load_told(rt: &HostRuntime, folder: &str, told: &mut Told<'_>) -> Result<Copied> {
     let alloc = rt.alloc();
     let config = size::of(rt, folder)?;
-    let found = found(rt, folder)?;
-    let device = filled(alloc, config, &found).context("the copy in memory can't be made")?;
+    let found = found(rt, folder, told)?;
+    told.enter(Stage::Copying);
+    let device = copied(alloc, folder, config, &found)?;
     Ok(RunningConfig::new(alloc, config, device, Crc32))
 }
 
+/// Reads a folder in the same way, and recovers its pages from the copy.
+pub(crate) fn load_pages(rt: &HostRuntime, folder: &str) -> Result<(Copied, Snapshot)> {
+    let mut told = Told::begin(rt, folder);
+    let mut config = load_told(rt, folder, &mut told)?;
+    told.enter(Stage::Recovering);
+    let snapshot = recovered(rt.alloc(), folder, &mut config)?;
+    Ok((config, snapshot))
+}
+
+/// What a recovery of the copy in memory gives.
+pub(crate) fn recovered(alloc: Global, folder: &str, config: &mut Copied) -> Result<Snapshot> {
+    match read_snapshot_or_default(config) {
+        Ok(snapshot) => Ok(snapshot),
+        Err(error) => Err(damage::explained(alloc, folder, config, error)),
+    }
+}
+
+/// A device in memory with what a folder holds.
+pub(crate) fn copied(
+    alloc: Global,
+    folder: &str,
+    config: Config,
+    found: &Offer,
+) -> Result<MemDevice> {
+    match filled(alloc, config, found) {
+        Ok(device) => Ok(device),
+        Err(error) => Err(
+            Error::from(error)
+                .context("the copy in memory can't be made")
+                .context(folder),
+        ),
+    }
+}
+
 /// All that the files of a folder hold.
-pub(crate) fn found(rt: &HostRuntime, folder: &str) -> Result<Offer> {
-    match read(rt, folder, &mut Told::begin(rt, folder)) {
+pub(crate) fn found(rt: &HostRuntime, folder: &str, told: &mut Told<'_>) -> Result<Offer> {
+    match read(rt, folder, told) {
         Ok(found) => Ok(found),
         Err(error) => Err(opening_error(error)),
     }
@@ -39,83 +76,4 @@ pub(crate) fn opening_error(error: OpenError) -> Error {
         OpenError::Io { path, doing, error } => anyhow!("{doing}: {error}").context(path),
         OpenError::OutOfMemory => anyhow!("out of memory"),
     }
-}
-
-/// All that a device holds.
-pub(crate) fn contents_of<D: Device>(alloc: Global, device: &mut D) -> io::Result<Offer> {
-    let len = device.len()?;
-    let mut bytes = vec![in alloc; 0u8; len as usize]?;
-    device.read_at(0, &mut bytes)?;
-    let mut blobs = Vec::new(alloc);
-    for place in device.blobs()? {
-        blobs.push((place, device.blob_read(place)?))?;
-    }
-    let mut snapshots = Vec::new(alloc);
-    for number in device.snapshots()? {
-        snapshots.push((number, device.snapshot_read(number)?))?;
-    }
-    Ok(Offer {
-        bytes,
-        blobs,
-        snapshots,
-    })
-}
-
-/// A device in memory with this content, all of it settled.
-pub(crate) fn filled(alloc: Global, config: Config, content: &Offer) -> io::Result<MemDevice>
-    ensures { IfOk result (λ device. IsOwnCopy config.segment_size content.now.bytes.items (state_of (⟦<MemDevice as Device>⟧.trace device))) }
-{
-    let mut device = MemDevice::new(alloc);
-    fill(&mut device, config, content)?;
-    Ok(device)
-}
-
-/// Writes this content to a device that is empty, and settles it. Each slot of the log file has a write of its own: what
-/// stands in a slot counts as the log's own only where a write begins with its header (`docs/DEFINITIONS.md`, "NoForeign").
-pub(crate) fn fill<D: Device>(device: &mut D, config: Config, content: &Offer) -> io::Result<()>
-    requires { D.trace device.old ≡ [] }
-    ensures { OnOk result (IsOwnCopy config.segment_size content.now.bytes.items (state_of (D.trace device.new))) }
-{
-    write_slots(device, config.segment_size as usize, &content.bytes)?;
-    device.sync()?;
-    make_blobs(device, &content.blobs)?;
-    publish_snapshots(device, &content.snapshots)?;
-    device.sync_names()
-}
-
-// Writes the bytes of a log file, slot by slot.
-fn write_slots<D: Device>(device: &mut D, size: usize, bytes: &[u8]) -> io::Result<()>
-    requires size { 255 < size }
-    requires empty { D.trace device.old ≡ [] }
-    ensures { OnOk result (HasSlots size bytes.now (length bytes.now) (state_of (D.trace device.new))) }
-{
-    let mut at = 0;
-    while at < bytes.len() {
-        let count = size.min(bytes.len() - at);
-        device.write_at(at as u64, &bytes[at..at + count])?;
-        at += count;
-    }
-    Ok(())
-}
-
-// Makes blobs, each under its place, and settles their bytes.
-fn make_blobs<D: Device>(device: &mut D, blobs: &[(i64, Vec<u8>)]) -> io::Result<()>
-    ensures { OnOk result (LogStays (state_of (D.trace device.old)) (state_of (D.trace device.new))) }
-{
-    for (place, bytes) in blobs {
-        device.blob_create(*place, bytes)?;
-        device.blob_sync(*place)?;
-    }
-    Ok(())
-}
-
-// Publishes snapshots, each under its number.
-fn publish_snapshots<D: Device>(device: &mut D, snapshots: &[(i64, Vec<u8>)]) -> io::Result<()>
-    ensures { OnOk result (LogStays (state_of (D.trace device.old)) (state_of (D.trace device.new))) }
-{
-    for (number, bytes) in snapshots {
-        device.snapshot_write(bytes)?;
-        device.snapshot_publish(*number)?;
-    }
-    Ok(())
 }

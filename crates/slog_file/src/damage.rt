@@ -1,12 +1,15 @@
 //! Where the bytes of a folder are damaged, and how: what an error `Corruption` of a recovery doesn't say.
 //!
 //! It goes over the files in the order of a recovery: the newest snapshot, the headers of segments, the records and blobs of
-//! the tail, those of the segments before it, and the table of pages that comes of them (`docs/ARCHITECTURE.md`).
+//! the tail, those of the segments before it, and the table of pages that comes of them (`docs/ARCHITECTURE.md`). At last it
+//! looks whether the newest snapshot is one of this log file: if it isn't, no log can begin on it.
 
+mod fit;
 pub(crate) mod reading;
 mod table;
 
 use crate::damage::reading::{find, find_behind};
+use crate::entries::Why;
 use crate::named_files::Fault;
 use anyhow::{Error, anyhow};
 use sled_log::config::RunningConfig;
@@ -21,6 +24,17 @@ pub(crate) enum Damaged {
     Log,
     Blob(Lsn),
     Snapshot(i64),
+}
+
+/// Its name in the folder.
+impl fmt::Display for Damaged {
+    fn fmt<W: fmt::Write>(&self, f: &mut fmt::Formatter<W>) -> fmt::Result {
+        match *self {
+            Damaged::Log => write!(f, "log"),
+            Damaged::Blob(place) => write!(f, "blobs/{place}"),
+            Damaged::Snapshot(number) => write!(f, "snapshots/{number}"),
+        }
+    }
 }
 
 /// What is wrong there.
@@ -40,8 +54,14 @@ pub(crate) enum Kind {
     TooManyLinks(PageId),
     /// The log ends at the first place, below that of the newest snapshot.
     EndsBelow(u64, u64),
+    /// The log goes on at the place of the newest snapshot, which can't be in the segment at this offset.
+    NoActive(u64),
+    /// The newest snapshot has a message of the page at the place, and none can stand at this offset of the log file.
+    NotThere(PageId, Lsn),
     /// A blob or a snapshot with something wrong.
     File(Fault),
+    /// The table has a message of the page at the place, which can't be read.
+    Unread(PageId, Lsn, Why),
 }
 
 impl fmt::Display for Kind {
@@ -66,7 +86,22 @@ impl fmt::Display for Kind {
                     "the log ends at place {end}, and the snapshot at {stable}"
                 )
             }
+            Kind::NoActive(stable) => {
+                write!(
+                    f,
+                    "the snapshot goes on here at place {stable}, which can't be"
+                )
+            }
+            Kind::NotThere(page, place) => {
+                write!(
+                    f,
+                    "the snapshot has a message of page {page} here, of place {place}, which can't be"
+                )
+            }
             Kind::File(fault) => write!(f, "{fault}"),
+            Kind::Unread(page, place, why) => {
+                write!(f, "the message of page {page} at place {place}: {why}")
+            }
         }
     }
 }
@@ -87,10 +122,19 @@ pub(crate) fn explained<D: Device, C: Checksum>(
     error: LogError,
 ) -> Error {
     if is_damage(&error) {
-        told(alloc, folder, find(config))
+        located(alloc, folder, config)
     } else {
         named(alloc, folder, Error::from(error))
     }
+}
+
+/// What a recovery finds damaged, and where, as an error.
+pub(crate) fn located<D: Device, C: Checksum>(
+    alloc: Global,
+    folder: &str,
+    config: &mut RunningConfig<D, C>,
+) -> Error {
+    told(alloc, folder, find(config))
 }
 
 /// The same of an iteration from a place on.
@@ -108,7 +152,8 @@ pub(crate) fn explained_behind<D: Device, C: Checksum>(
     }
 }
 
-fn is_damage(error: &LogError) -> bool {
+/// Whether an error of the log says that bytes are damaged.
+pub(crate) fn is_damage(error: &LogError) -> bool {
     matches!(error, LogError::Corruption { at: _ })
 }
 
@@ -121,24 +166,19 @@ fn told(alloc: Global, folder: &str, found: Result<Option<Damage>, LogError>) ->
     }
 }
 
-// An error with the file that it is of.
-fn named(alloc: Global, path: &str, error: Error) -> Error {
+/// An error with the file or the folder that it is of.
+pub(crate) fn named(alloc: Global, path: &str, error: Error) -> Error {
     match String::from_str(alloc, path) {
         Ok(path) => error.context(path),
         Err(_) => error,
     }
 }
 
-// A damage as an error.
-fn in_file(alloc: Global, folder: &str, damage: &Damage) -> Error {
-    let (at, kind) = (damage.at, damage.kind);
+/// A damage as an error.
+pub(crate) fn in_file(alloc: Global, folder: &str, damage: &Damage) -> Error {
+    let (file, at, kind) = (damage.file, damage.at, damage.kind);
     let error = anyhow!("damaged at offset {at}: {kind}");
-    let path = match damage.file {
-        Damaged::Log => format!(in alloc; "{folder}/log"),
-        Damaged::Blob(place) => format!(in alloc; "{folder}/blobs/{place}"),
-        Damaged::Snapshot(number) => format!(in alloc; "{folder}/snapshots/{number}"),
-    };
-    match path {
+    match format!(in alloc; "{folder}/{file}") {
         Ok(path) => error.context(path),
         Err(_) => error,
     }

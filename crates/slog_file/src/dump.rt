@@ -8,6 +8,7 @@ use crate::content::{Copied, load};
 use crate::dump::as_json::JsonDump;
 use crate::dump::as_text::TextDump;
 use crate::named_files::{Faulty, blob_kind, snapshot_in};
+use crate::output::printed;
 use crate::records::{Slot, count_slots, read};
 use anyhow::Result;
 use sled_log::device::Device;
@@ -60,7 +61,7 @@ pub(crate) fn show(rt: &HostRuntime, folder: &str, is_json: bool) -> Result<Ende
     } else {
         tell(&mut config, &mut TextDump::new(&mut writer))?;
     }
-    writer.flush()?;
+    printed(writer.flush())?;
     Ok(Ended::Well)
 }
 
@@ -79,36 +80,36 @@ fn tell<P: Dump>(config: &mut Copied, dump: &mut P) -> Result<()> {
     tell_log(config, dump)?;
     tell_blobs(config, dump)?;
     tell_snapshots(config, dump)?;
-    Ok(dump.end()?)
+    printed(dump.end())
 }
 
 fn tell_log<P: Dump>(config: &mut Copied, dump: &mut P) -> Result<()> {
     let size = config.config.segment_size;
-    dump.log(config.device.len()?, size)?;
+    printed(dump.log(config.device.len()?, size))?;
     for index in 0..count_slots(config)? {
         let offset = index.saturating_mul(size);
         let slot = read(config, offset)?;
-        dump.slot(offset, &slot)?;
+        printed(dump.slot(offset, &slot))?;
     }
     Ok(())
 }
 
 fn tell_blobs<P: Dump>(config: &mut Copied, dump: &mut P) -> Result<()> {
-    dump.blobs()?;
+    printed(dump.blobs())?;
     for place in config.device.blobs()? {
         let bytes = config.device.blob_read(place)?;
         let kind = blob_kind(&config.checksum, &bytes);
-        dump.blob(place, bytes.len() as u64, &kind)?;
+        printed(dump.blob(place, bytes.len() as u64, &kind))?;
     }
     Ok(())
 }
 
 fn tell_snapshots<P: Dump>(config: &mut Copied, dump: &mut P) -> Result<()> {
-    dump.snapshots()?;
+    printed(dump.snapshots())?;
     for number in config.device.snapshots()? {
         let bytes = config.device.snapshot_read(number)?;
         let snapshot = snapshot_in(config.alloc(), &config.checksum, &bytes)?;
-        dump.snapshot(number, bytes.len() as u64, &snapshot)?;
+        printed(dump.snapshot(number, bytes.len() as u64, &snapshot))?;
     }
     Ok(())
 }

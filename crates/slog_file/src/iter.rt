@@ -1,19 +1,23 @@
 //! The messages of the log file by place.
 
 use crate::content::{Copied, load};
+use crate::json::Json;
+use crate::output::{output_error, printed};
 use crate::words::{Pointer, word_of_kind};
 use crate::{Ended, damage};
-use anyhow::{Error, Result};
+use anyhow::Result;
 use sled_log::iterator::raw_segment_iter_from;
-use sled_log::result::Lsn;
+use sled_log::logger::{DiskPtr, LogKind};
+use sled_log::result::{Lsn, PageId};
+use std::alloc::Global;
 use std::io::{self, BufWriter, Write};
 
 /// Prints the messages from the beginning of the segment that holds a place.
-pub(crate) fn show(rt: &HostRuntime, folder: &str, from: Lsn) -> Result<Ended> {
+pub(crate) fn show(rt: &HostRuntime, folder: &str, from: Lsn, is_json: bool) -> Result<Ended> {
     let mut config = load(rt, folder)?;
     let mut writer = BufWriter::new(rt.alloc(), io::writer(rt))?;
-    let outcome = print_all(&mut config, from, &mut writer);
-    writer.flush()?;
+    let outcome = print_all(rt.alloc(), &mut config, from, is_json, &mut writer);
+    printed(writer.flush())?;
     match outcome {
         Ok(()) => Ok(Ended::Well),
         Err(Stop::Log(error)) => Err(damage::explained_behind(
@@ -23,7 +27,7 @@ pub(crate) fn show(rt: &HostRuntime, folder: &str, from: Lsn) -> Result<Ended> {
             from,
             error,
         )),
-        Err(Stop::Output(error)) => Err(Error::from(error).context("standard output")),
+        Err(Stop::Output(error)) => Err(output_error(error)),
     }
 }
 
@@ -41,8 +45,10 @@ impl From<io::Error> for Stop {
 }
 
 fn print_all<W: Write>(
+    alloc: Global,
     config: &mut Copied,
     from: Lsn,
+    is_json: bool,
     writer: &mut W,
 ) -> std::result::Result<(), Stop> {
     let messages = match raw_segment_iter_from(from, config) {
@@ -51,12 +57,37 @@ fn print_all<W: Write>(
     };
     for message in messages {
         match message {
-            Ok((kind, page, place, pointer, len)) => {
-                let (word, at) = (word_of_kind(kind), Pointer(pointer));
-                writeln!(writer, "{word} {page} {place} {at} {len}")?;
+            Ok(message) => {
+                if is_json {
+                    as_json(alloc, message, &mut Json::new(writer))?;
+                } else {
+                    as_text(message, writer)?;
+                }
             }
             Err(error) => return Err(Stop::Log(error)),
         }
     }
     Ok(())
+}
+
+// What a message does, its page, its place, its pointer, and how long its record is.
+type Message = (LogKind, PageId, Lsn, DiskPtr, u64);
+
+fn as_text<W: Write>(message: Message, writer: &mut W) -> io::Result<()> {
+    let (kind, page, place, pointer, len) = message;
+    let (word, at) = (word_of_kind(kind), Pointer(pointer));
+    writeln!(writer, "{word} {page} {place} {at} {len}")
+}
+
+// A message as an object on a line of its own.
+fn as_json<W: Write>(alloc: Global, message: Message, json: &mut Json<'_, W>) -> io::Result<()> {
+    let (kind, page, place, pointer, len) = message;
+    json.open("{")?;
+    json.text(alloc, "kind", word_of_kind(kind))?;
+    json.number("page", page)?;
+    json.place("place", place)?;
+    json.pointer(pointer)?;
+    json.number("length", len)?;
+    json.close("}")?;
+    json.end_line()
 }

@@ -92,6 +92,20 @@ impl<'a, W: Write> Json<'a, W> {
         self.writer.write_all(&quoted)
     }
 
+    /// Writes a text as a value of a list.
+    pub(crate) fn item(&mut self, alloc: Global, text: &str) -> io::Result<()> {
+        self.begin()?;
+        let quoted = quoted(alloc, text)?;
+        self.writer.write_all(&quoted)
+    }
+
+    /// Writes a key and `true`.
+    pub(crate) fn flag(&mut self, key: &str) -> io::Result<()> {
+        self.key(key)?;
+        self.is_behind_value = true;
+        self.writer.write_all(b"true".as_slice())
+    }
+
     /// Writes a key and a number, or null.
     pub(crate) fn number_or_null(&mut self, key: &str, number: Option<u64>) -> io::Result<()> {
         match number {
@@ -121,8 +135,9 @@ impl<'a, W: Write> Json<'a, W> {
         self.number("pages", snapshot.pt.len() as u64)
     }
 
-    /// Ends the line.
+    /// Ends the line, behind which another value may begin.
     pub(crate) fn end_line(&mut self) -> io::Result<()> {
+        self.is_behind_value = false;
         self.writer.write_all(b"\n".as_slice())
     }
 }

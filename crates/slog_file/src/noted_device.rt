@@ -3,7 +3,7 @@ ghost use Rattle.std.specs.Prelude.{◌≡◌};
 
 use sled_log::device::{Device, MemDevice};
 use std::alloc::Global;
-use std::{fmt, io};
+use std::{fmt, io, mem};
 
 /// A change of the content.
 #[derive(Debug, Clone, Copy, PartialEq)]
@@ -24,16 +24,35 @@ pub(crate) enum Change {
     RemoveSnapshot { number: i64 },
 }
 
+impl Change {
+    /// The word for it.
+    pub(crate) fn word(&self) -> &'static str {
+        match self {
+            Change::Zeros { at: _, len: _ } => "zeros",
+            Change::Write { at: _, len: _ } => "write",
+            Change::Cut { len: _ } => "cut",
+            Change::MakeBlob { place: _ } => "make-blob",
+            Change::RemoveBlob { place: _ } => "remove-blob",
+            Change::Publish { number: _ } => "publish",
+            Change::RemoveSnapshot { number: _ } => "remove-snapshot",
+        }
+    }
+}
+
 impl fmt::Display for Change {
     fn fmt<W: fmt::Write>(&self, f: &mut fmt::Formatter<W>) -> fmt::Result {
+        let word = self.word();
         match *self {
-            Change::Zeros { at, len } => write!(f, "zeros {at} {len}"),
-            Change::Write { at, len } => write!(f, "write {at} {len}"),
-            Change::Cut { len } => write!(f, "cut {len}"),
-            Change::MakeBlob { place } => write!(f, "make-blob {place}"),
-            Change::RemoveBlob { place } => write!(f, "remove-blob {place}"),
-            Change::Publish { number } => write!(f, "publish {number}"),
-            Change::RemoveSnapshot { number } => write!(f, "remove-snapshot {number}"),
+            Change::Zeros { at, len } | Change::Write { at, len } => {
+                write!(f, "{word} {at} {len}")
+            }
+            Change::Cut { len } => write!(f, "{word} {len}"),
+            Change::MakeBlob { place } | Change::RemoveBlob { place } => {
+                write!(f, "{word} {place}")
+            }
+            Change::Publish { number } | Change::RemoveSnapshot { number } => {
+                write!(f, "{word} {number}")
+            }
         }
     }
 }
@@ -42,8 +61,8 @@ impl fmt::Display for Change {
 #[derive(Drop)]
 pub(crate) struct NotedDevice {
     memory: MemDevice,
-    /// The changes, in order.
-    pub(crate) changes: Vec<Change>,
+    // The changes, in order.
+    changes: Vec<Change>,
     /// Whether there was memory for all of them.
     pub(crate) is_complete: bool,
 }
@@ -60,11 +79,11 @@ impl NotedDevice {
         }
     }
 
-    /// What was noted so far is forgotten.
-    pub(crate) fn forget(&mut self)
+    /// What was noted so far, which is forgotten.
+    pub(crate) fn take_changes(&mut self, alloc: Global) -> Vec<Change>
         ensures { self.new.memory ≡ self.old.memory }
     {
-        self.changes.clear();
+        mem::replace(&mut self.changes, Vec::new(alloc))
     }
 
     // Notes a change.

@@ -1,35 +1,27 @@
 //! The pages that a recovery finds.
 
-use crate::content::{Copied, load};
+use crate::Ended;
+use crate::content::load_pages;
 use crate::json::Json;
+use crate::output::printed;
 use crate::words::{Optional, Pointer};
-use crate::{Ended, damage};
 use anyhow::Result;
-use sled_log::snapshot::{Entry, PageState, Snapshot, read_snapshot_or_default};
+use sled_log::snapshot::{Entry, PageState, Snapshot};
 use std::alloc::Global;
 use std::io::{self, BufWriter, Write};
 
 /// Prints where the log goes on, and each page with its messages.
 pub(crate) fn show(rt: &HostRuntime, folder: &str, is_json: bool) -> Result<Ended> {
     let alloc = rt.alloc();
-    let mut config = load(rt, folder)?;
-    let snapshot = recovered(rt, folder, &mut config)?;
+    let (_, snapshot) = load_pages(rt, folder)?;
     let mut writer = BufWriter::new(alloc, io::writer(rt))?;
     if is_json {
-        print_json(alloc, folder, &snapshot, &mut Json::new(&mut writer))?;
+        printed(print_json(alloc, folder, &snapshot, &mut Json::new(&mut writer)))?;
     } else {
-        as_text(&snapshot, &mut writer)?;
+        printed(as_text(&snapshot, &mut writer))?;
     }
-    writer.flush()?;
+    printed(writer.flush())?;
     Ok(Ended::Well)
-}
-
-// What a recovery of the copy in memory gives.
-fn recovered(rt: &HostRuntime, folder: &str, config: &mut Copied) -> Result<Snapshot> {
-    match read_snapshot_or_default(config) {
-        Ok(snapshot) => Ok(snapshot),
-        Err(error) => Err(damage::explained(rt.alloc(), folder, config, error)),
-    }
 }
 
 fn as_text<W: Write>(snapshot: &Snapshot, writer: &mut W) -> io::Result<()> {

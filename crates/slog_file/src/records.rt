@@ -177,6 +177,21 @@ pub(crate) fn walk_over<D: Device, C: Checksum>(
     })
 }
 
+/// Why no record of the segment of a number stands at an offset of the log file.
+pub(crate) fn ending_at<D: Device, C: Checksum>(
+    config: &mut RunningConfig<D, C>,
+    number: u64,
+    offset: LogOffset,
+) -> Result<Ending> {
+    let size = config.config.segment_size;
+    let within = offset % size;
+    let buf = read_slot(config, offset - within)?;
+    match step_at(config, &buf, number.saturating_mul(size), within)? {
+        Step::Ends(ending) => Ok(ending),
+        Step::Meets(_) => Ok(Ending::WrongSum),
+    }
+}
+
 // An offset of a slot, at which a record may stand.
 #[derive(Clone, Copy)]
 struct Spot<'b> {

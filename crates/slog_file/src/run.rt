@@ -1,24 +1,28 @@
-//! The lines of standard input, run over a folder.
-ghost use Rattle.std.specs.Prelude.{◌≡◌, ℕ, false};
-ghost use Rattle.sled_store.specs.declared.device.choice.Choice.{Choice};
-ghost use Rattle.sled_log.specs.declared.session.command.Command.TheVariants as asks;
+//! The lines of standard input, run over the files of a folder.
+ghost use Rattle.std.specs.Prelude.{◌≡◌, true};
+ghost use Rattle.sled_log.specs.Refusals.{is_for_log};
 
-use crate::content::{contents_of, filled, opening_error};
-use crate::double_device::DoubleDevice;
+use crate::bad_line::reason_of;
+use crate::content::opening_error;
+use crate::output::{output_error, printed};
 use crate::progress::Told;
-use crate::{Ended, size};
-use anyhow::{Context, Error, Result};
-use sled_file::{Crc32, Unknown, open_told};
-use sled_log::config::Config;
+use crate::{Ended, damage, size};
+use anyhow::{Error, Result, anyhow};
+use sled_file::{Crc32, FileDevice, HostFolder, Unknown, open_told};
+use sled_log::config::{Config, RunningConfig};
 use sled_log::device::Device;
+use sled_log::result::Error as LogError;
 use sled_log::session::{Command, Reply, Session};
 use slog_lines::line::{Asked, parse};
 use slog_lines::text::print;
 use std::alloc::{AllocError, AllocFailed, Global};
 use std::io::{self, BufRead, BufReader, BufWriter, Write};
 
-// A session over the folder, once the size of segments is known.
-type Running = Option<Session<DoubleDevice, Crc32>>;
+/// The files of a folder, as they are opened.
+type Files = FileDevice<HostFolder, Unknown>;
+
+// The size of segments, once it is known, and a session over the files of the folder.
+type Running = Option<(Config, Session<Files, Crc32>)>;
 
 // Why the lines end before the input does.
 #[derive(Drop)]
@@ -35,9 +39,10 @@ impl From<Error> for Stop {
     }
 }
 
+// What prints failed.
 impl From<io::Error> for Stop {
     fn from(error: io::Error) -> Stop {
-        Stop::Failed(Error::from(error).context("standard input or output"))
+        Stop::Failed(output_error(error))
     }
 }
 
@@ -53,11 +58,13 @@ impl<T: Drop> From<AllocFailed<T>> for Stop {
     }
 }
 
-// What a line is run with.
-struct Runner<'r, 'f> {
+/// What a line is run with.
+pub(crate) struct Runner<'r, 'f> {
     rt: &'r HostRuntime,
     folder: &'f str,
     running: Running,
+    // An opening of the log met damage, which was told.
+    is_damaged: bool,
 }
 
 /// Runs the lines of standard input over a folder, and prints a line for each on standard output.
@@ -65,18 +72,15 @@ pub(crate) fn run(rt: &HostRuntime, folder: &str) -> Result<Ended> {
     let alloc = rt.alloc();
     let mut reader = BufReader::new(alloc, rt.reader())?;
     let mut writer = BufWriter::new(alloc, io::writer(rt))?;
-    let mut runner = Runner {
-        rt,
-        folder,
-        running: None,
-    };
+    let mut runner = Runner::new(rt, folder);
     let outcome = runner.run_all(&mut reader, &mut writer);
+    let ended = runner.ended();
     let failure = runner.end();
-    writer.flush().context("standard output")?;
+    printed(writer.flush())?;
     match outcome {
         Err(Stop::Failed(error)) => Err(error),
         Err(Stop::BadLine) => unless_failed(Ended::Misread, failure, folder),
-        Ok(()) => unless_failed(Ended::Well, failure, folder),
+        Ok(()) => unless_failed(ended, failure, folder),
     }
 }
 
@@ -89,17 +93,36 @@ fn unless_failed(how: Ended, failure: Option<Error>, folder: &str) -> Result<End
 }
 
 impl Runner<'_, '_> {
-    // Ends the session, if one was begun. Returns the failure of the files, where one came.
-    fn end(self) -> Option<Error> {
+    /// One over a folder that isn't open yet.
+    pub(crate) fn new<'r, 'f>(rt: &'r HostRuntime, folder: &'f str) -> Runner<'r, 'f> {
+        Runner {
+            rt,
+            folder,
+            running: None,
+            is_damaged: false,
+        }
+    }
+
+    // How the program ends if all lines were read.
+    fn ended(&self) -> Ended {
+        if self.is_damaged {
+            Ended::Damaged
+        } else {
+            Ended::Well
+        }
+    }
+
+    /// Ends the session, if one was begun. Returns the failure of the files that came first, if one came.
+    pub(crate) fn end(self) -> Option<Error> {
         let Runner {
             rt: _,
             folder: _,
             running,
+            is_damaged: _,
         } = self;
-        match running {
-            Some(session) => session.end().end(),
-            None => None,
-        }
+        let (_, session) = running?;
+        let failure = session.end().failure()?;
+        Some(Error::from(failure))
     }
 
     // Opens the folder where it is kept already, and runs one line after another. Says which one is bad.
@@ -114,11 +137,13 @@ impl Runner<'_, '_> {
         let mut line = Vec::new(self.rt.alloc());
         for number in 1..u64::MAX {
             line.clear();
-            if reader.read_until(b'\n', &mut line)? == 0 {
-                return Ok(());
+            match reader.read_until(b'\n', &mut line) {
+                Ok(0) => return Ok(()),
+                Ok(_) => {}
+                Err(error) => return Err(unread(error)),
             }
             if let Err(stop) = self.run_line(number == 1, &line, writer) {
-                return Err(told(stop, writer, number));
+                return Err(told(self.rt, stop, writer, number, &line));
             }
         }
         Err(Stop::BadLine)
@@ -136,7 +161,11 @@ impl Runner<'_, '_> {
         match parse(alloc, line)? {
             Some(Asked::Size(size)) if is_first => self.take_size(size),
             Some(Asked::Command(command)) if is_for_files(&command) => {
-                let reply = self.run_command(command)?;
+                let is_open = matches!(command, Command::Open);
+                let reply = self.run_command(&command)?;
+                if is_open {
+                    self.hear_opening(&reply);
+                }
                 print(alloc, writer, &reply)?;
                 Ok(writer.flush()?)
             }
@@ -155,46 +184,104 @@ impl Runner<'_, '_> {
         Ok(self.open(config)?)
     }
 
-    // Opens the folder, and begins a session over it.
-    fn open(&mut self, config: Config) -> Result<()> {
-        let alloc = self.rt.alloc();
+    /// Opens the folder, and begins a session over its files.
+    pub(crate) fn open(&mut self, config: Config) -> Result<()> {
         let mut told = Told::begin(self.rt, self.folder);
         let mut files = match open_told(self.rt, self.folder, Unknown, &mut told) {
             Ok(files) => files,
             Err(error) => return Err(opening_error(error)),
         };
         size::agree(self.rt, self.folder, config, files.len()?)?;
-        let content = contents_of(alloc, &mut files)?;
-        let memory = filled(alloc, config, &content).context("the copy in memory can't be made")?;
-        let device = DoubleDevice::new(memory, files);
-        let session = Session::new(alloc, config, device, Crc32);
-        if let Some(before) = self.running.replace(session) {
-            let _ = before.end();
-        }
+        self.begin(config, files);
         Ok(())
     }
 
+    // Begins a session over the files.
+    fn begin(&mut self, config: Config, files: Files) {
+        let session = Session::new(self.rt.alloc(), config, files, Crc32);
+        if let Some((_, before)) = self.running.replace((config, session)) {
+            let _ = before.end();
+        }
+    }
+
+    // Tells on standard error where the folder is damaged, if that is why an opening of the log failed.
+    fn hear_opening(&mut self, reply: &Reply) {
+        match reply {
+            Reply::Failed(error) if damage::is_damage(error) => self.tell_damage(),
+            _ => {}
+        }
+    }
+
+    fn tell_damage(&mut self) {
+        self.is_damaged = true;
+        if let Some(error) = self.locate_damage() {
+            let _ = eprintln!(self.rt; "slog_file: {error:#}");
+        }
+    }
+
+    /// Runs a command, once the folder is open.
+    pub(crate) fn answer(&mut self, command: Command) -> Result<Reply>
+        requires { is_for_log command ≡ true }
+    {
+        match self.run_command(&command) {
+            Ok(reply) => Ok(reply),
+            Err(Stop::Failed(error)) => Err(error),
+            Err(Stop::BadLine) => Err(anyhow!("the folder isn't open").context(self.folder)),
+        }
+    }
+
+    /// The error of an opening of the log, with what is damaged and where, if that is what it says.
+    pub(crate) fn explained(&mut self, error: LogError) -> Error {
+        if damage::is_damage(&error)
+            && let Some(located) = self.locate_damage()
+        {
+            return located;
+        }
+        Error::from(error).context(self.folder)
+    }
+
+    // Where the folder is damaged. No log is open, so that the session ends, and another one begins on its device.
+    fn locate_damage(&mut self) -> Option<Error> {
+        let alloc = self.rt.alloc();
+        let (config, session) = self.running.take()?;
+        let mut config = RunningConfig::new(alloc, config, session.end(), Crc32);
+        let error = damage::located(alloc, self.folder, &mut config);
+        let size = config.config;
+        self.begin(size, config.into_device());
+        Some(error)
+    }
+
     // Runs a command. Before the size of segments it is a bad line.
-    fn run_command(&mut self, command: Command) -> std::result::Result<Reply, Stop> {
-        let Some(session) = &mut self.running else {
-            return Err(Stop::BadLine);
-        };
-        let commands = [command];
-        let mut replies = session.run(&commands)?;
-        replies.pop().ok_or(Stop::BadLine)
+    fn run_command(&mut self, command: &Command) -> std::result::Result<Reply, Stop>
+        requires { is_for_log command.now ≡ true }
+    {
+        match &mut self.running {
+            Some((_, session)) => Ok(session.carry_out(command)),
+            None => Err(Stop::BadLine),
+        }
     }
 }
 
 // Whether a command can be carried out over files: a stop and a crash are those of a device for tests.
 fn is_for_files(command: &Command) -> bool
-    ensures stop { (n : ℕ) → command.now ≡ asks.Stop n → result ≡ false }
-    ensures crash { (choice : Choice) → command.now ≡ asks.Crash choice → result ≡ false }
+    ensures { result ≡ is_for_log command.now }
 {
     !matches!(command, Command::Stop(_) | Command::Crash(_))
 }
 
-// Prints the number of a bad line.
-fn told<W: Write>(stop: Stop, writer: &mut W, number: u64) -> Stop {
+// The error of standard input.
+fn unread(error: io::Error) -> Stop {
+    Stop::Failed(Error::from(error).context("standard input"))
+}
+
+// Prints the number of a bad line, and tells on standard error why it is one.
+fn told<W: Write>(rt: &HostRuntime, stop: Stop, writer: &mut W, number: u64, line: &[u8]) -> Stop {
+    if let Stop::BadLine = stop {
+        let _ = eprintln!(rt;
+            "slog_file: line {number}: {}",
+            reason_of(line, number == 1)
+        );
+    }
     match stop {
         Stop::Failed(error) => Stop::Failed(error),
         Stop::BadLine => match writeln!(writer, "bad line {number}") {

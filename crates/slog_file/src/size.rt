@@ -1,9 +1,10 @@
 //! The size of a folder's segments, which its file `config` names: one line, as `size 256`.
 
-use anyhow::{Context, Result, anyhow, bail};
+use anyhow::{Result, anyhow};
 use sled_log::config::Config;
 use std::fs::{self, File};
 use std::io::{self, ErrorKind, Write};
+use std::os::fd::AsRawFd;
 
 /// The size that a folder was begun with; `None` where it was not begun.
 pub(crate) fn read(rt: &HostRuntime, folder: &str) -> Result<Option<Config>> {
@@ -52,19 +53,31 @@ pub(crate) fn agree(rt: &HostRuntime, folder: &str, config: Config, log_len: u64
             let path = format!(in rt.alloc(); "{folder}/config")?;
             Err(anyhow!("the file is missing, and the log has {log_len} bytes").context(path))
         }
-        None => {
-            keep(rt, folder, size).with_context(|| "the folder's file 'config' can't be made")
-        }
+        None => match keep(rt, folder, size) {
+            Ok(()) => Ok(()),
+            Err(error) => {
+                let path = format!(in rt.alloc(); "{folder}/config")?;
+                Err(anyhow!("the file can't be made: {error}").context(path))
+            }
+        },
     }
 }
 
-// Makes the file under another name, syncs it, names it and syncs the folder: so a crash leaves all of it or nothing.
+// Makes the file under another name, syncs it, names it and syncs the folder: so a crash leaves all of it or nothing. What
+// had the other name goes first, so that a link isn't followed; and the file takes none of the standard streams that is closed.
 fn keep(rt: &HostRuntime, folder: &str, size: u64) -> io::Result<()> {
     let alloc = rt.alloc();
     let path = format!(in alloc; "{folder}/config")?;
     let temporary = format!(in alloc; "{folder}/config.new")?;
     let text = format!(in alloc; "size {size}\n")?;
-    let mut file = File::create(rt, temporary.as_str())?;
+    match fs::remove_file(rt, temporary.as_str()) {
+        Err(error) if error.kind() != ErrorKind::NotFound => return Err(error),
+        _ => {}
+    }
+    let mut file = File::create_new(rt, temporary.as_str())?;
+    if file.as_raw_fd() <= 2 {
+        file = file.try_clone()?;
+    }
     file.write_all(text.as_bytes())?;
     file.sync_all()?;
     fs::rename(rt, temporary.as_str(), path.as_str())?;

@@ -1,6 +1,7 @@
 //! The search for what is damaged.
 ghost use Rattle.std.specs.Prelude.{◌<◌};
 
+use crate::damage::fit::unfit;
 use crate::damage::table::Table;
 use crate::damage::{Damage, Damaged, Kind};
 use crate::named_files::{Fault, Faulty, blob_kind, snapshot_in};
@@ -37,7 +38,10 @@ pub(crate) fn find<D: Device, C: Checksum>(
     let size = config.config.segment_size;
     let least = snapshot.stable_place() / size * size;
     let table = Table::of(config.alloc(), &snapshot)?;
-    Ok(find_from(config, least, Some(table))?.err())
+    match find_from(config, least, Some(table))? {
+        Ok(()) => unfit(config, &snapshot),
+        Err(damage) => Ok(Some(damage)),
+    }
 }
 
 /// The damage that the messages from a place on have. They make no table.
@@ -86,7 +90,8 @@ fn of_file(file: Damaged, faulty: Faulty) -> Damage {
     }
 }
 
-fn of_log(at: LogOffset, kind: Kind) -> Damage {
+/// A damage of the log file.
+pub(crate) fn of_log(at: LogOffset, kind: Kind) -> Damage {
     Damage {
         file: Damaged::Log,
         at,

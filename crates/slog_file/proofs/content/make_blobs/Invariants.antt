@@ -1,7 +1,0 @@
--- Nothing was asked of the log file.
-use Rattle.sled_store.specs.Device.{state_of}
-use Rattle.slog_file.specs.Copies.{LogStays}
-use Rattle.slog_file.proofs.content.make_blobs.Given as goal
-
-abbrev pub invariant-loop-place : goal.invariant-loop-place
-invariant-loop-place g l = LogStays (state_of (g.D.Device.trace l.fn.device)) (state_of (g.D.Device.trace l.device))
