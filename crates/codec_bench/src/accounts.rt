@@ -159,8 +159,17 @@ impl Work {
         ensures { OnOk result (IsAccountant self.new.config.config.segment_size self.new.accountant) }
     {
         let pages = self.latest.len() as u64;
+        self.replace_in_turn(pages)
+    }
+
+    /// Replaces so many pages in turn, each of them again where there are fewer.
+    fn replace_in_turn(&mut self, count: u64) -> io::Result<()>
+        requires { IsAccountant self.old.config.config.segment_size self.old.accountant }
+        ensures { OnOk result (IsAccountant self.new.config.config.segment_size self.new.accountant) }
+    {
+        let pages = self.latest.len() as u64;
         let mut page = 0;
-        for _ in 0..pages {
+        for _ in 0..count {
             self.replace(page)?;
             page = page_behind(page, pages);
         }
@@ -309,6 +318,13 @@ pub fn measure_marks(rt: &HostRuntime, name: &str, pages: u32) -> io::Result<()>
     }
     test.print(rt, name, "can_mark", pages)?;
     turn.print(rt, name, "can_mark and mark_replace", pages)
+}
+
+/// Marks so many messages, which replace so many pages in turn. Returns where the last one ends in its segment.
+pub fn repeat_marks(alloc: Global, pages: u32, count: u32) -> io::Result<u64> {
+    let mut work = at_work(alloc, SMALL, pages)?;
+    work.replace_in_turn(u64::from(count))?;
+    Ok(work.filled)
 }
 
 /// Measures what a segment takes, of so many, and prints the shortest runs.

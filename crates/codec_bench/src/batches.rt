@@ -55,7 +55,7 @@ fn note_all(log: &mut MemoryLog, item: &Vec<u8>, window: u32, guard: &Guard) -> 
 {
     let mut left = window;
     for _ in 0..BATCHES {
-        note(log, item, guard)?;
+        note(log, item, MESSAGES, guard)?;
         left = left.saturating_sub(1);
         if left == 0 {
             flush(log)?;
@@ -65,15 +65,15 @@ fn note_all(log: &mut MemoryLog, item: &Vec<u8>, window: u32, guard: &Guard) -> 
     flush(log)
 }
 
-/// Begins a batch, puts its messages, and ends it.
-fn note(log: &mut MemoryLog, item: &Vec<u8>, guard: &Guard) -> io::Result<()>
+/// Begins a batch, puts so many messages, and ends it.
+pub fn note(log: &mut MemoryLog, item: &Vec<u8>, messages: u64, guard: &Guard) -> io::Result<()>
     requires { length item.now.items < 2 ^ 63 }
 {
     let begun = log.reserve(LogKind::Skip, BATCH_MANIFEST_PID, &BatchManifest(0), guard);
     let Ok(manifest) = begun else {
         return Err(io::Error::other("a batch isn't begun"));
     };
-    match put_all(log, item, guard) {
+    match put_all(log, item, messages, guard) {
         Ok(()) => end(log, manifest),
         Err(e) => {
             manifest.abandon();
@@ -82,11 +82,11 @@ fn note(log: &mut MemoryLog, item: &Vec<u8>, guard: &Guard) -> io::Result<()>
     }
 }
 
-/// Replaces some pages by an item.
-fn put_all(log: &mut MemoryLog, item: &Vec<u8>, guard: &Guard) -> io::Result<()>
+/// Replaces so many pages by an item.
+fn put_all(log: &mut MemoryLog, item: &Vec<u8>, pages: u64, guard: &Guard) -> io::Result<()>
     requires { length item.now.items < 2 ^ 63 }
 {
-    for page in 0..MESSAGES {
+    for page in 0..pages {
         if !log.fits_inline(item) {
             return Err(io::Error::other("the item is too long for a record"));
         }

@@ -6,8 +6,8 @@ use crate::figure::Shortest;
 use crate::logs::{
     MANY_PAGES, MESSAGES, MemoryLog, Running, empty, flush, item, page_behind, recover, started,
 };
-use sled_log::device::Device;
-use sled_log::logger::{LogKind, PageId};
+use sled_log::device::{Checksum, Device, MemDevice};
+use sled_log::logger::{Log, LogKind, PageId};
 use sled_log::reservation::Guard;
 use sled_log::segment::CacheInfo;
 use std::alloc::Global;
@@ -103,7 +103,12 @@ impl Pages {
 }
 
 /// Replaces a page by an item. Returns where the message is.
-fn append(log: &mut MemoryLog, item: &Vec<u8>, page: PageId, guard: &Guard) -> io::Result<CacheInfo>
+pub fn append<C: Checksum>(
+    log: &mut Log<MemDevice, C>,
+    item: &Vec<u8>,
+    page: PageId,
+    guard: &Guard,
+) -> io::Result<CacheInfo>
     requires { length item.now.items < 2 ^ 63 }
 {
     let Ok(ticket) = log.reserve(LogKind::Replace, page, item, guard) else {
@@ -141,7 +146,7 @@ fn unpin(log: &mut MemoryLog, guard: Guard) {
 }
 
 /// Writes the lowest of the sealed buffers, where there is one.
-fn write_sealed(log: &mut MemoryLog) -> io::Result<()> {
+pub fn write_sealed<C: Checksum>(log: &mut Log<MemDevice, C>) -> io::Result<()> {
     if log.pending() == 0 {
         return Ok(());
     }
@@ -162,6 +167,9 @@ const ROUND_PAGES: u64 = 11;
 
 const ROUND_SIZE: u64 = 256;
 
+/// How many bytes the item of a message has in these rounds.
+const ROUND_ITEM: u32 = 11;
+
 /// How long the log file is in the end: the segments of six rounds.
 const ROUND_FILE: u64 = 1536;
 
@@ -170,7 +178,7 @@ const ROUND_RUNS: u32 = 1000;
 
 /// Measures sixty rounds over eleven pages, each flushed, which fills a segment of 256 bytes.
 pub fn measure_rounds(rt: &HostRuntime) -> io::Result<()> {
-    let item = item(rt.alloc(), 11)?;
+    let item = item(rt.alloc(), ROUND_ITEM)?;
     let mut rounds = Shortest::new();
     for _ in 0..ROUND_RUNS {
         time_rounds(rt, &item, &mut rounds)?;
@@ -186,7 +194,7 @@ fn time_rounds(rt: &HostRuntime, item: &Vec<u8>, rounds: &mut Shortest) -> io::R
     let mut log = started(rt.alloc(), config)?;
     let mut pages = Pages::new(rt.alloc());
     let start = Instant::now(rt);
-    let written = put_rounds(&mut log, item, &mut pages);
+    let written = put_rounds(&mut log, item, &mut pages, ROUNDS);
     let end = Instant::now(rt);
     let mut config = log.halt();
     written?;
@@ -194,11 +202,26 @@ fn time_rounds(rt: &HostRuntime, item: &Vec<u8>, rounds: &mut Shortest) -> io::R
     pages.check(&mut config, ROUND_FILE)
 }
 
-/// Replaces all pages in each round, and flushes them. Each flush settles a segment.
-fn put_rounds(log: &mut MemoryLog, item: &Vec<u8>, pages: &mut Pages) -> io::Result<()>
+/// Does so many of these rounds over an empty device, 241 at most: the numbers of these segments take one byte, and those of
+/// further ones two, by which the messages of a round outgrow a segment. Returns where the last message ends in the log file,
+/// of those that were ever written.
+pub fn repeat_rounds(alloc: Global, rounds: u32) -> io::Result<u64> {
+    let item = item(alloc, ROUND_ITEM)?;
+    let config = empty(alloc, ROUND_SIZE)?;
+    let mut log = started(alloc, config)?;
+    let mut pages = Pages::new(alloc);
+    let written = put_rounds(&mut log, &item, &mut pages, rounds);
+    let mut config = log.halt();
+    written?;
+    pages.check(&mut config, ROUND_FILE)?;
+    Ok(pages.end)
+}
+
+/// Replaces all pages in each of so many rounds, and flushes them. Each flush settles a segment.
+fn put_rounds(log: &mut MemoryLog, item: &Vec<u8>, pages: &mut Pages, rounds: u32) -> io::Result<()>
     requires { length item.now.items < 2 ^ 63 }
 {
-    for _ in 0..ROUNDS {
+    for _ in 0..rounds {
         pages.put_turn(log, item, ROUND_PAGES)?;
         match log.flush() {
             Ok(grown) if grown as u64 == ROUND_SIZE => {}

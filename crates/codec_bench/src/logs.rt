@@ -56,7 +56,7 @@ pub fn empty(alloc: Global, segment_size: u64) -> io::Result<Running> {
 }
 
 /// The same with another checksum.
-fn empty_with<C: Checksum + Drop>(
+pub fn empty_with<C: Checksum + Drop>(
     alloc: Global,
     segment_size: u64,
     checksum: C,

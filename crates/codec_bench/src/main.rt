@@ -2,7 +2,8 @@
 //! segments, the accountant for a segment, and the stable end for an interval that is synced (`docs/BENCHMARKS.md`).
 //!
 //! Without an argument it prints one fixed line. With the argument `time` it measures, and prints a line
-//! for each figure.
+//! for each figure. With the arguments `path NAME COUNT` it does the path of that name so many times, with no
+//! clock, and prints one line: `.ci/speed` counts the instructions that this takes (`paths`).
 #![tactic(auto)]
 
 mod accounts;
@@ -14,6 +15,7 @@ mod headers;
 mod identifiers;
 mod logs;
 mod numbers;
+mod paths;
 mod recoveries;
 mod sequence;
 mod sums;
@@ -28,61 +30,91 @@ use std::num::NonZeroU64;
 use std::{env, io};
 
 fn main(rt: HostRuntime) -> io::Result<()> {
-    if !is_asked(&rt)? {
-        println!(rt; "codec_bench: pass the argument time to measure")?;
-        return Ok(());
+    let mut words = env::args(&rt)?;
+    let _ = words.next();
+    let Some(word) = words.next() else {
+        return tell(&rt);
+    };
+    match (word.as_str(), words.next(), words.next()) {
+        ("time", _, _) => measure(&rt),
+        ("path", Some(name), Some(count)) => match count.as_str().parse() {
+            Ok(count) => paths::repeat(&rt, name.as_str(), count),
+            Err(_) => tell(&rt),
+        },
+        _ => tell(&rt),
     }
+}
+
+// Says how it is called.
+fn tell(rt: &HostRuntime) -> io::Result<()> {
+    println!(rt;
+        "codec_bench: pass the argument time to measure, or path NAME COUNT to do one path so many times"
+    )
+}
+
+// Measures all, and prints a line for each figure.
+fn measure(rt: &HostRuntime) -> io::Result<()> {
     let mut sequence = Sequence::new();
-    let small = numbers::below_241(rt.alloc(), &mut sequence)?;
-    numbers::measure(&rt, "u64 below 241", &small)?;
-    let any = numbers::of_any_size(rt.alloc(), &mut sequence)?;
-    numbers::measure(&rt, "u64 of 0 to 63 bits", &any)?;
+    measure_codecs(rt, &mut sequence)?;
+    measure_logs(rt)?;
+    logs::measure_start(rt)?;
+    blobs::measure(rt, "blobs of 200 KB", 200000)?;
+    blobs::measure(rt, "blobs of 2 MB", 2000000)?;
+    measure_recoveries(rt)?;
+    measure_accounts(rt)?;
+    measure_freeing(rt)?;
+    batches::measure(rt, "batches settled one by one", 1)?;
+    batches::measure(rt, "batches settled by hundreds", 100)?;
+    batches::measure(rt, "batches settled at once", u32::MAX)?;
+    syncs::measure_in_order(rt)?;
+    syncs::measure_shuffled(rt, "intervals in windows of 64", 64, &mut sequence)?;
+    syncs::measure_shuffled(rt, "intervals in windows of 4096", 4096, &mut sequence)?;
+    measure_identifiers(rt)
+}
+
+// Numbers and headers.
+fn measure_codecs(rt: &HostRuntime, sequence: &mut Sequence) -> io::Result<()> {
+    let small = numbers::below_241(rt.alloc(), sequence)?;
+    numbers::measure(rt, "u64 below 241", &small)?;
+    let any = numbers::of_any_size(rt.alloc(), sequence)?;
+    numbers::measure(rt, "u64 of 0 to 63 bits", &any)?;
     let sorted = numbers::sorted(rt.alloc(), &any)?;
-    numbers::measure(&rt, "u64 of 0 to 63 bits, ascending", &sorted)?;
-    let headers = headers::of_any_size(rt.alloc(), &mut sequence)?;
-    headers::measure(&rt, "header", &headers)?;
-    let alike = headers::of_one_size(rt.alloc(), &mut sequence)?;
-    headers::measure(&rt, "header of 14 bytes", &alike)?;
+    numbers::measure(rt, "u64 of 0 to 63 bits, ascending", &sorted)?;
+    let headers = headers::of_any_size(rt.alloc(), sequence)?;
+    headers::measure(rt, "header", &headers)?;
+    let alike = headers::of_one_size(rt.alloc(), sequence)?;
+    headers::measure(rt, "header of 14 bytes", &alike)
+}
+
+// Logs over one segment with each of the sums, the sums, and logs over many segments.
+fn measure_logs(rt: &HostRuntime) -> io::Result<()> {
     for (name, len) in [
         ("records of 11 bytes", 10),
         ("records of 200 bytes", 199),
         ("records of 4000 bytes", 3997),
     ] {
-        logs::measure(&rt, name, len, PlaceSum)?;
+        logs::measure(rt, name, len, PlaceSum)?;
     }
     for (name, len) in [
         ("records of 11 bytes, no sum", 10),
         ("records of 200 bytes, no sum", 199),
         ("records of 4000 bytes, no sum", 3997),
     ] {
-        logs::measure(&rt, name, len, NoSum)?;
+        logs::measure(rt, name, len, NoSum)?;
     }
     for (name, len) in [
         ("records of 11 bytes, Crc32", 10),
         ("records of 200 bytes, Crc32", 199),
         ("records of 4000 bytes, Crc32", 3997),
     ] {
-        logs::measure(&rt, name, len, Crc32)?;
+        logs::measure(rt, name, len, Crc32)?;
     }
-    sums::measure(&rt, "PlaceSum", &PlaceSum)?;
-    sums::measure(&rt, "Crc32", &Crc32)?;
-    logs::measure_segments(&rt, "segments of 8 KiB, 11 bytes", 8192, 10)?;
-    logs::measure_segments(&rt, "segments of 512 KiB, 11 bytes", 524288, 10)?;
-    logs::measure_segments(&rt, "segments of 512 KiB, 200 bytes", 524288, 199)?;
-    logs::measure_segments(&rt, "segments of 512 KiB, 4000 bytes", 524288, 3997)?;
-    logs::measure_start(&rt)?;
-    blobs::measure(&rt, "blobs of 200 KB", 200000)?;
-    blobs::measure(&rt, "blobs of 2 MB", 2000000)?;
-    measure_recoveries(&rt)?;
-    measure_accounts(&rt)?;
-    measure_freeing(&rt)?;
-    batches::measure(&rt, "batches settled one by one", 1)?;
-    batches::measure(&rt, "batches settled by hundreds", 100)?;
-    batches::measure(&rt, "batches settled at once", u32::MAX)?;
-    syncs::measure_in_order(&rt)?;
-    syncs::measure_shuffled(&rt, "intervals in windows of 64", 64, &mut sequence)?;
-    syncs::measure_shuffled(&rt, "intervals in windows of 4096", 4096, &mut sequence)?;
-    measure_identifiers(&rt)
+    sums::measure(rt, "PlaceSum", &PlaceSum)?;
+    sums::measure(rt, "Crc32", &Crc32)?;
+    logs::measure_segments(rt, "segments of 8 KiB, 11 bytes", 8192, 10)?;
+    logs::measure_segments(rt, "segments of 512 KiB, 11 bytes", 524288, 10)?;
+    logs::measure_segments(rt, "segments of 512 KiB, 200 bytes", 524288, 199)?;
+    logs::measure_segments(rt, "segments of 512 KiB, 4000 bytes", 524288, 3997)
 }
 
 // Identifiers with blocks of one, of a hundred and of ten thousand.
@@ -156,14 +188,4 @@ fn measure_freeing(rt: &HostRuntime) -> io::Result<()> {
     freeing::measure_marks(rt, "1000 pages", 1000)?;
     freeing::measure_marks(rt, "10000 pages", 10000)?;
     freeing::measure_marks(rt, "100000 pages", 100000)
-}
-
-// Whether `time` is among the arguments.
-fn is_asked(rt: &HostRuntime) -> io::Result<bool> {
-    for arg in env::args(rt)? {
-        if arg.as_str() == "time" {
-            return Ok(true);
-        }
-    }
-    Ok(false)
 }

@@ -1,15 +1,15 @@
 //! A first program on a segment log: it puts one message into a log, reads it back, and finds it again after a
-//! restart (`docs/USING.md`).
+//! restart; then it recovers an empty device of its own, under a checksum of its own (`docs/USING.md`).
 #![tactic(auto)]
 
 mod checksum;
 mod counting;
-#[cfg(test)]
-mod tests;
 
+use crate::checksum::Times31;
+use crate::counting::Counting;
 use anyhow::{Result, bail, ensure};
 use sled_log::config::{Config, RunningConfig};
-use sled_log::device::{MemDevice, PlaceSum};
+use sled_log::device::{Checksum, MemDevice, PlaceSum};
 use sled_log::logger::{Log, LogKind, LogRead, PageId};
 use sled_log::reservation::Guard;
 use sled_log::snapshot::read_snapshot_or_default;
@@ -40,7 +40,7 @@ fn main(rt: HostRuntime) -> Result<()> {
         snapshot.pt.len(),
         snapshot.stable_lsn
     )?;
-    Ok(())
+    count_calls(&rt, size)
 }
 
 // Replaces a page by an item, makes that durable, and returns what is then read: the item's encoding.
@@ -60,4 +60,20 @@ fn put(
         LogRead::Inline(_, bytes, _) => Ok(bytes),
         _ => bail!("no message is there"),
     }
+}
+
+// Recovers an empty device that counts its calls. The recovery syncs the log file and the names, asks for the length of the
+// file and for the snapshots, and reads the first slot: five calls. The sum is 31 * (31 * 1 + 2) + 3.
+fn count_calls(rt: &HostRuntime, size: Config) -> Result<()> {
+    let alloc = rt.alloc();
+    let device = Counting::new(MemDevice::new(alloc));
+    let mut config = RunningConfig::new(alloc, size, device, Times31);
+    let snapshot = read_snapshot_or_default(&mut config)?;
+    let calls = config.device.calls();
+    println!(rt;
+        "an empty device: {} pages, found by {calls} calls",
+        snapshot.pt.len()
+    )?;
+    println!(rt; "the sum over 1, 2, 3 is {}", Times31.sum(&[1, 2, 3]))?;
+    Ok(())
 }

@@ -1,7 +1,7 @@
 //! What a line of a file can't say: equality and conversion of errors, constants, functions over a format that answer
-//! no value of their own, and laws.
+//! no value of their own, folders of files, and laws.
 
-use crate::{batches, identifiers, laws, orders, sessions, sorted};
+use crate::{batches, copies, folders, identifiers, laws, orders, sessions, sorted};
 use case_lines::tally::Tally;
 use sled_codec::serialization::bytes::copy_in;
 use sled_log::config::{Config, RunningConfig};
@@ -22,8 +22,9 @@ use slog_lines::run_lines;
 use std::alloc::{AllocError, Global};
 use std::io::{self, BufRead, ErrorKind, Read, Write};
 
-/// Runs all of them.
-pub fn run(alloc: Global, tally: &mut Tally<'_>) {
+/// Runs all of them. Some make folders where the program runs, and remove them.
+pub fn run(rt: &HostRuntime, tally: &mut Tally<'_>) {
+    let alloc = rt.alloc();
     laws::cite_all();
     holds(tally, 1, "constants", has_constants());
     holds(tally, 2, "errors are equal", known(are_equal(alloc)));
@@ -43,6 +44,32 @@ pub fn run(alloc: Global, tally: &mut Tally<'_>) {
     holds(tally, 16, "a writer that fails", ends_with_writer(alloc));
     holds(tally, 17, "replies are flushed", flushes_replies(alloc));
     holds(tally, 18, "slots are handed out", known(hands_out(alloc)));
+    holds(
+        tally,
+        28,
+        "the file of a snapshot",
+        known(spells_snapshot(alloc)),
+    );
+    hold_keys(alloc, tally);
+    hold_sessions(alloc, tally);
+    hold_orders(alloc, tally);
+    hold_identifiers(alloc, tally);
+    hold_folders(rt, tally);
+}
+
+// Keys in sorted vectors.
+fn hold_keys(alloc: Global, tally: &mut Tally<'_>) {
+    holds(tally, 29, "keys are found", known(sorted::find_all(alloc)));
+    holds(
+        tally,
+        30,
+        "keys come and go",
+        known(sorted::move_keys(alloc)),
+    );
+}
+
+// What sessions and logs tell.
+fn hold_sessions(alloc: Global, tally: &mut Tally<'_>) {
     holds(tally, 19, "links", known(sessions::links_pages(alloc)));
     holds(tally, 20, "faults", known(sessions::keeps_failure(alloc)));
     holds(
@@ -53,19 +80,10 @@ pub fn run(alloc: Global, tally: &mut Tally<'_>) {
     );
     holds(
         tally,
-        28,
-        "the file of a snapshot",
-        known(spells_snapshot(alloc)),
+        37,
+        "one command at a time",
+        known(sessions::carries_out(alloc)),
     );
-    holds(tally, 29, "keys are found", known(sorted::find_all(alloc)));
-    holds(
-        tally,
-        30,
-        "keys come and go",
-        known(sorted::move_keys(alloc)),
-    );
-    hold_orders(alloc, tally);
-    hold_identifiers(alloc, tally);
 }
 
 // Buffers that are written in every order.
@@ -99,6 +117,26 @@ fn hold_identifiers(alloc: Global, tally: &mut Tally<'_>) {
         25,
         "identifiers used up",
         known(identifiers::are_used_up(alloc)),
+    );
+}
+
+// Folders of files, and copies of what they hold.
+fn hold_folders(rt: &HostRuntime, tally: &mut Tally<'_>) {
+    holds(tally, 31, "files are kept", folders::keeps_files(rt));
+    holds(tally, 32, "files are found again", folders::finds_files(rt));
+    holds(tally, 33, "files are read", folders::reads_files(rt));
+    holds(
+        tally,
+        34,
+        "files fail for good",
+        folders::fails_for_good(rt),
+    );
+    holds(tally, 35, "the sum of files", folders::sums_as_others());
+    holds(
+        tally,
+        36,
+        "copies slot by slot",
+        known(copies::are_own(rt.alloc())),
     );
 }
 

@@ -1,10 +1,12 @@
 //! The cases that no line of a file can say: functions that are compared with others, sessions, buffers that are written in every
-//! order, and identifiers.
+//! order, identifiers, and folders of files.
 //!
 //! It is for tests alone. Its functions return on every input, and their contracts say no more than that.
 #![tactic(auto)]
 
 mod batches;
+mod copies;
+mod folders;
 pub mod functions;
 mod identifiers;
 mod laws;

@@ -49,6 +49,68 @@ fn has_full_page(pages: Option<&[PageState]>) -> bool {
     }
 }
 
+/// A session that is told one command at a time answers each as in a run: a page is replaced, made durable and read, and it
+/// is there once the log is opened again.
+pub fn carries_out(alloc: Global) -> Result<bool> {
+    let Some(size) = Config::new(256) else {
+        return Ok(false);
+    };
+    let mut session = Session::new(alloc, size, MemDevice::new(alloc), PlaceSum);
+    let is_kept = match [7, 7, 7].to_vec(alloc) {
+        Ok(item) => Ok(replaces(&mut session, item) && opens_again(&mut session)),
+        Err(e) => Err(e),
+    };
+    session.end();
+    Ok(is_kept?)
+}
+
+// A page is replaced, and made durable, once the log is open.
+fn replaces(session: &mut Session<MemDevice, PlaceSum>, item: Vec<u8>) -> bool {
+    let early = session.carry_out(&Command::Flush);
+    let opened = session.carry_out(&Command::Open);
+    let reserved = session.carry_out(&Command::Replace(0, item));
+    let done = session.carry_out(&Command::Complete(0));
+    let flushed = session.carry_out(&Command::Flush);
+    matches!(early, Reply::Refused(Refusal::Closed))
+        && is_opened(&opened, None, None, 0)
+        && matches!(reserved, Reply::Reserved(0, 20, DiskPtr::Inline(20)))
+        && matches!(done, Reply::Done(20, DiskPtr::Inline(20)))
+        && matches!(flushed, Reply::Flushed(32))
+}
+
+// The page is read, and comes back behind a halt.
+fn opens_again(session: &mut Session<MemDevice, PlaceSum>) -> bool {
+    let read = session.carry_out(&Command::Read(0));
+    let halted = session.carry_out(&Command::Halt);
+    let opened = session.carry_out(&Command::Open);
+    is_item(&read, &[3, 7, 7, 7])
+        && matches!(halted, Reply::Halted)
+        && is_opened(&opened, Some(32), Some(0), 1)
+}
+
+// A log is open that goes on there, with so many pages.
+fn is_opened(reply: &Reply, at: Option<i64>, slot: Option<u64>, begun: usize) -> bool {
+    match reply {
+        Reply::Opened {
+            stable,
+            active,
+            pages,
+        } => *stable == at && *active == slot && *pages == begun,
+        _ => false,
+    }
+}
+
+// What was read is one item, with this encoding.
+fn is_item(reply: &Reply, bytes: &[u8]) -> bool {
+    match reply {
+        Reply::Page(items) => match items.as_slice() {
+            [item] => item.as_slice() == bytes,
+            _ => false,
+        },
+        _ => false,
+    }
+}
+
 /// A log keeps the failure with which a flush ends, and no other one; and its device is stopped then.
 pub fn keeps_failure(alloc: Global) -> Result<bool> {
     let Some(size) = Config::new(256) else {

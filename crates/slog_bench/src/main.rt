@@ -75,7 +75,7 @@ fn compare(rt: &HostRuntime, name: &str) -> bool {
 // Compares what the functions answer that no line of a file can call.
 fn call_functions(rt: &HostRuntime) -> bool {
     let mut tally = Tally::new(rt.alloc(), "functions");
-    functions::run(rt.alloc(), &mut tally);
+    functions::run(rt, &mut tally);
     said(rt, &mut tally)
 }
 
