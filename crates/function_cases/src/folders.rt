@@ -3,7 +3,10 @@
 //!
 //! Each case has a folder of its own where the program runs, and removes it.
 
-use sled_file::{Crc32, Doing, Failure, OpenError, Unknown, Untold, open, read};
+use sled_file::{
+    Crc32, Doing, Failure, FileDevice, HostFolder, LogCrc32, OpenError, Unknown, Untold, open, read,
+};
+use sled_log::config::Config;
 use sled_log::device::{Checksum, Device};
 use std::io::ErrorKind;
 use std::{fs, io};
@@ -26,6 +29,14 @@ impl From<OpenError> for Ended {
 
 // What came of a case: whether all was as it has to be.
 type Came = Result<bool, Ended>;
+
+// Opens a folder with segments of 256 bytes under `LogCrc32`.
+fn opened(rt: &HostRuntime, path: &str) -> Result<FileDevice<HostFolder, Unknown>, OpenError> {
+    let Some(config) = Config::new(256) else {
+        return Err(OpenError::OutOfMemory);
+    };
+    open(rt, path, config, &LogCrc32, Unknown)
+}
 
 // Makes one call of each kind that changes or syncs.
 fn fill<D: Device>(device: &mut D) -> io::Result<()> {
@@ -53,9 +64,9 @@ pub fn keeps_files(rt: &HostRuntime) -> bool {
 
 fn keeps(rt: &HostRuntime, path: &str) -> Came {
     let _ = fs::remove_dir_all(rt, path);
-    let mut device = open(rt, path, Unknown)?;
+    let mut device = opened(rt, path)?;
     fill(&mut device)?;
-    let is_locked = matches!(open(rt, path, Unknown), Err(OpenError::Locked { path: _ }));
+    let is_locked = matches!(opened(rt, path), Err(OpenError::Locked { path: _ }));
     let again = device.blob_create(7, b"x".as_slice());
     let is_refused = is_of(&again, ErrorKind::AlreadyExists)
         && is_of(&device.blob_sync(5), ErrorKind::NotFound)
@@ -76,11 +87,11 @@ pub fn finds_files(rt: &HostRuntime) -> bool {
 
 fn finds(rt: &HostRuntime, path: &str) -> Came {
     let _ = fs::remove_dir_all(rt, path);
-    let mut device = open(rt, path, Unknown)?;
+    let mut device = opened(rt, path)?;
     fill(&mut device)?;
     drop(device);
     fs::write(rt, "folder_found/blobs/007", b"strange".as_slice())?;
-    let mut device = open(rt, path, Unknown)?;
+    let mut device = opened(rt, path)?;
     let is_found = has_all(&mut device)?;
     drop(device);
     fs::remove_dir_all(rt, path)?;
@@ -106,7 +117,7 @@ pub fn reads_files(rt: &HostRuntime) -> bool {
 
 fn reads(rt: &HostRuntime, path: &str) -> Came {
     let _ = fs::remove_dir_all(rt, path);
-    let mut device = open(rt, path, Unknown)?;
+    let mut device = opened(rt, path)?;
     fill(&mut device)?;
     drop(device);
     let found = read(rt, path, &mut Untold)?;
@@ -143,7 +154,7 @@ pub fn fails_for_good(rt: &HostRuntime) -> bool {
 
 fn fails(rt: &HostRuntime, path: &str) -> Came {
     let _ = fs::remove_dir_all(rt, path);
-    let mut device = open(rt, path, Unknown)?;
+    let mut device = opened(rt, path)?;
     let is_refused = is_of(&device.snapshot_publish(1), ErrorKind::Other)
         && device.failure().is_none();
     device.write_at(0, b"a".as_slice())?;
@@ -153,7 +164,7 @@ fn fails(rt: &HostRuntime, path: &str) -> Came {
         && device.len().is_err();
     let is_counted = device.failures() == 4 && is_blob(device.failure(), 1);
     drop(device);
-    let mut device = open(rt, path, Unknown)?;
+    let mut device = opened(rt, path)?;
     let is_kept = device.len()? == 1;
     drop(device);
     fs::remove_dir_all(rt, path)?;

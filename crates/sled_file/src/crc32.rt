@@ -1,5 +1,5 @@
 //! The checksum of sled's own files: the cyclic redundancy check of IEEE 802.3.
-ghost use Rattle.std.specs.Prelude.{◌≡◌};
+ghost use Rattle.std.specs.Prelude.{◌≡◌, bit_xor};
 ghost use Rattle.sled_file.specs.Crc.{crc32, crc_from, shifted_out, with_byte};
 
 mod tables;
@@ -15,9 +15,17 @@ impl Checksum for Crc32 {
     ghost sum_of = { crc32 };
 
     fn sum(&self, bytes: &[u8]) -> u32 {
-        let (crc, rest) = over_eights(u32::MAX, bytes);
-        over_bytes(crc, rest) ^ u32::MAX
+        sum_from(u32::MAX, bytes)
     }
+}
+
+// The sum of these bytes, where this is kept of the bytes before them.
+#[inline(always)]
+pub(crate) fn sum_from(begun: u32, bytes: &[u8]) -> u32
+    ensures { result ≡ bit_xor (crc_from begun bytes.now) 0xffffffff }
+{
+    let (crc, rest) = over_eights(begun, bytes);
+    over_bytes(crc, rest) ^ u32::MAX
 }
 
 // Goes over the bytes as long as eight of them are left. Returns what is kept then, and the bytes that are left.

@@ -1,4 +1,5 @@
-//! How a folder is opened: it is locked, what is missing is made, all that is there is synced, and then read.
+//! How a folder is opened: it is locked, its file `config` is compared, what is missing is made, all that is there is synced,
+//! and then read.
 //!
 //! All in the folder is named below the handle of the folder that was opened (`place.rt`), so that it stays one folder
 //! whatever becomes of the path meanwhile.
@@ -8,15 +9,18 @@ ghost use Rattle.std.specs.Map.{keys_of};
 ghost use Rattle.std.specs.Ordering.{int_cmp};
 ghost use Rattle.sled_store.specs.Device.{Crashed, Given};
 
+mod agreeing;
 mod place;
 mod reading;
 mod settling;
 
 use crate::device::FileDevice;
+use crate::format::FolderChecksum;
 use crate::host::{Handles, HostFolder, Names};
+use crate::opening::agreeing::{Wanted, agree};
 use crate::opening::place::{Holding, Place};
 use crate::start::Start;
-use sled_store::{Device, Offer};
+use sled_store::{Config, Device, Offer};
 use std::alloc::{AllocError, AllocFailed};
 use std::io;
 use thiserror::Error;
@@ -39,6 +43,48 @@ pub enum OpenError {
         doing: &'static str,
         /// How it failed.
         error: io::Error,
+    },
+    /// The segments of its log have another size.
+    #[error("{path}: the segments have {kept} bytes here, and not {asked}")]
+    OtherSize {
+        /// The file `config`.
+        path: String,
+        /// The size that it names.
+        kept: u64,
+        /// The size that was asked for.
+        asked: u64,
+    },
+    /// Its log is kept under another checksum.
+    #[error("{path}: the checksum is {kept} here, and not {asked}")]
+    OtherChecksum {
+        /// The file `config`.
+        path: String,
+        /// The checksum that it names.
+        kept: String,
+        /// The checksum that was asked for.
+        asked: &'static str,
+    },
+    /// It is of another version than 2, the one that is known.
+    #[error("{path}: the folder is of version {version}, and 2 is the one that is known")]
+    OtherVersion {
+        /// The file `config`.
+        path: String,
+        /// The version that it names.
+        version: u64,
+    },
+    /// The file `config` has another text.
+    #[error("{path}: it has to be the lines 'sled_file 2', 'size S', 'checksum NAME', S a power of two from 256 to 8388608")]
+    BadConfig {
+        /// The file `config`.
+        path: String,
+    },
+    /// The file `config` is missing, and the log isn't empty.
+    #[error("{path}: the file is missing, and the log has {len} bytes: write 'size S' into it with the size of its segments")]
+    NoConfig {
+        /// Where the file has to be.
+        path: String,
+        /// How many bytes the log has.
+        len: u64,
     },
     /// Memory was refused.
     #[error("out of memory")]
@@ -71,22 +117,32 @@ impl Progress for Untold {
     fn has_read(&mut self, _bytes: u64, _of: u64) {}
 }
 
-/// Opens a folder, which is made where it is missing, as its parent isn't. It is locked until the device is dropped.
+/// Opens a folder, which is made where it is missing, as its parent isn't. It is locked until the device is dropped. Its
+/// segments have to be of this size, and its log is kept under this checksum: a folder whose log is empty is begun so.
 ///
 /// # Errors
 ///
-/// `Locked` where it is open elsewhere, `Io` where a call on a file failed, which it names, and `OutOfMemory` where memory
-/// was refused to what is kept of the files. Nothing that was there is changed.
-pub fn open<S: Start>(
+/// - `Locked` where it is open elsewhere.
+/// - `OtherSize`, `OtherChecksum` where the folder was begun with another size or checksum.
+/// - `OtherVersion` where its file `config` is of a version that isn't known, `BadConfig` where that is no such file.
+/// - `NoConfig` where there is no such file, the log has bytes, and the checksum isn't `Crc32`. Under `Crc32` the size is
+///   taken as it is asked for, and kept from then on: earlier versions of this crate made no such file.
+/// - `Io` where a call on a file failed, which it names, and `OutOfMemory` where memory was refused.
+///
+/// Nothing that was there is changed by any of these. An empty `log` may have been made, and before `Io` and `OutOfMemory`
+/// all that an opening makes.
+pub fn open<S: Start, C: FolderChecksum>(
     rt: &HostRuntime,
     path: &str,
+    config: Config,
+    checksum: &C,
     start: S,
 ) -> Result<FileDevice<HostFolder, S>, OpenError>
     ensures trace { IfOk result (λ device. (log : List ℕ) × (blobs : List (ℤ × List ℕ)) × (snapshots : List (ℤ × List ℕ))
         × (⟦<FileDevice<HostFolder, S> as Device>⟧.trace device ≡ Crashed (Given log blobs snapshots) ∷ S.Start.past)) }
     ensures faults { IfOk result (λ device. ⟦<FileDevice<HostFolder, S> as Device>⟧.faults device ≡ 0) }
 {
-    open_told(rt, path, start, &mut Untold)
+    open_told(rt, path, config, checksum, start, &mut Untold)
 }
 
 /// Opens a folder as `open`, and tells how far it came.
@@ -94,9 +150,11 @@ pub fn open<S: Start>(
 /// # Errors
 ///
 /// As `open`.
-pub fn open_told<S: Start, P: Progress>(
+pub fn open_told<S: Start, C: FolderChecksum, P: Progress>(
     rt: &HostRuntime,
     path: &str,
+    config: Config,
+    checksum: &C,
     _start: S,
     progress: &mut P,
 ) -> Result<FileDevice<HostFolder, S>, OpenError>
@@ -106,7 +164,8 @@ pub fn open_told<S: Start, P: Progress>(
 {
     let alloc = rt.alloc();
     let place = Place::make(rt, path)?;
-    let handles = prepare(&place)?;
+    let checksum = checksum.name();
+    let handles = prepare(&place, Wanted { config, checksum })?;
     let names = Names::new(alloc, &handles)?;
     let found = reading::read_all(&place, &handles, &names, Holding::Alone, progress)?;
     let (folder, found) = HostFolder::new(rt, handles, names, found);
@@ -118,7 +177,8 @@ pub fn open_told<S: Start, P: Progress>(
 ///
 /// # Errors
 ///
-/// As `open`; `Io` also where the folder, its log file, or that of blobs or of snapshots is missing.
+/// `Locked`, `Io` and `OutOfMemory` as `open`; `Io` also where the folder, its log file, or that of blobs or of snapshots is
+/// missing. The file `config` isn't looked at: `format_of` tells what it says.
 pub fn read<P: Progress>(rt: &HostRuntime, path: &str, progress: &mut P) -> Result<Offer, OpenError>
     ensures blobs { IfOk result (λ found. IsStrictlySortedBy int_cmp (keys_of found.blobs.items)) }
     ensures snapshots { IfOk result (λ found. IsStrictlySortedBy int_cmp (keys_of found.snapshots.items)) }
@@ -135,11 +195,13 @@ pub fn read<P: Progress>(rt: &HostRuntime, path: &str, progress: &mut P) -> Resu
     })
 }
 
-// Locks the folder, makes what is missing of it, and syncs the log file and what stands in the folder by name.
-fn prepare(place: &Place<'_>) -> Result<Handles, OpenError> {
+// Locks the folder, compares its format, makes what is missing of it, and syncs the log file and what stands in the folder
+// by name.
+fn prepare(place: &Place<'_>, wanted: Wanted) -> Result<Handles, OpenError> {
     let log = place.log()?;
     place.lock(&log, "log", Holding::Alone)?;
     let lock = place.lock_of_old(Holding::Alone)?;
+    agree(place, &log, wanted)?;
     place.sync(&log, "log")?;
     place.settle_log()?;
     place.make_folder("blobs")?;

@@ -5,7 +5,7 @@ use crate::opening::OpenError;
 use crate::opening::settling::settle;
 use std::alloc::AllocError;
 use std::fs::{self, File, OpenOptions, TryLockError};
-use std::io::{self, ErrorKind};
+use std::io::{self, ErrorKind, Write};
 
 // A folder by its handle. Its path is only told in errors: what has that path later doesn't matter.
 #[derive(Drop)]
@@ -102,9 +102,8 @@ impl Place<'_> {
         match answer {
             Ok(()) => Ok(()),
             Err(TryLockError::WouldBlock) => {
-                let path = self.path;
                 Err(OpenError::Locked {
-                    path: format!(in self.rt.alloc(); "{path}/{name}")?,
+                    path: self.path_of(name)?,
                 })
             }
             Err(TryLockError::Error(error)) => {
@@ -154,14 +153,53 @@ impl Place<'_> {
         }
     }
 
+    // The bytes of a file in it, where it is there.
+    pub(crate) fn text(&self, file: &str) -> Result<Option<Vec<u8>>, OpenError> {
+        let name = self.name_in(file)?;
+        match fs::read(self.rt, name.as_str()) {
+            Ok(text) => Ok(Some(text)),
+            Err(error) if error.kind() == ErrorKind::NotFound => Ok(None),
+            Err(error) => Err(self.failed(file, "the file can't be read", error)),
+        }
+    }
+
+    // Makes a file in it with this text, under another name first: so a crash leaves all of the file, or none.
+    pub(crate) fn put(&self, file: &str, first: &str, text: &str) -> Result<(), OpenError> {
+        let name = self.name_in(file)?;
+        let first = self.name_in(first)?;
+        match self.written(first.as_str(), name.as_str(), text) {
+            Ok(()) => Ok(()),
+            Err(error) => Err(self.failed(file, "the file can't be made", error)),
+        }
+    }
+
+    // What has the first name goes before, so that a link isn't followed.
+    fn written(&self, first: &str, name: &str, text: &str) -> io::Result<()> {
+        match fs::remove_file(self.rt, first) {
+            Err(error) if error.kind() != ErrorKind::NotFound => return Err(error),
+            _ => {}
+        }
+        let mut file = opened(self.rt, changing().create_new(true), first)?;
+        file.write_all(text.as_bytes())?;
+        file.sync_all()?;
+        fs::rename(self.rt, first, name)?;
+        self.handle.sync_all()
+    }
+
+    // How many bytes the log file has.
+    pub(crate) fn len_of(&self, log: &File) -> Result<u64, OpenError> {
+        match log.metadata() {
+            Ok(found) => Ok(found.len()),
+            Err(error) => Err(self.failed("log", "the file can't be looked at", error)),
+        }
+    }
+
     // Syncs which files and folders stand in it, and where the log file has no bytes the folder's own name too: who made
     // the folder may have been ended before that was synced, also an earlier opening.
     pub(crate) fn sync_names(&self, log: &File) -> Result<(), OpenError> {
         self.sync(&self.handle, ".")?;
-        match log.metadata() {
-            Ok(found) if found.len() > 0 => return Ok(()),
-            Ok(_) => {}
-            Err(error) => return Err(self.failed("log", "the file can't be looked at", error)),
+        if self.len_of(log)? > 0 {
+            return Ok(());
         }
         let parent = self.open_folder("..")?;
         self.sync(&parent, "..")
@@ -173,10 +211,15 @@ impl Place<'_> {
         format!(in self.rt.alloc(); "{folder}/{file}")
     }
 
-    // The error of a call on a file in it, with the path that this has from the folder's.
-    pub(crate) fn failed(&self, file: &str, doing: &'static str, error: io::Error) -> OpenError {
+    // What errors call a file in it: the path that it has from the folder's.
+    pub(crate) fn path_of(&self, file: &str) -> Result<String, AllocError> {
         let path = self.path;
-        match format!(in self.rt.alloc(); "{path}/{file}") {
+        format!(in self.rt.alloc(); "{path}/{file}")
+    }
+
+    // The error of a call on a file in it.
+    pub(crate) fn failed(&self, file: &str, doing: &'static str, error: io::Error) -> OpenError {
+        match self.path_of(file) {
             Ok(path) => OpenError::Io { path, doing, error },
             Err(_) => OpenError::OutOfMemory,
         }

@@ -1,0 +1,22 @@
+//! The checksum of sled's own files, begun with four bytes of its own.
+ghost use Rattle.std.specs.Prelude.{◌≡◌, ◌∷◌, [], bit_xor};
+ghost use Rattle.sled_file.specs.Crc.{crc_from, log_crc32};
+
+use crate::crc32::sum_from;
+use sled_codec::serialization::Checksum;
+
+/// The cyclic redundancy check of IEEE 802.3 of the four bytes `6c 6f 67 00` ("log" and a zero) and those that are summed.
+/// Under it no header of a segment that is partly zeros passes as another one (`docs/DEVICE.md`).
+#[derive(Debug, Clone, Copy, PartialEq, Eq)]
+pub struct LogCrc32;
+
+// What is kept behind the four bytes.
+const BEGUN: u32 = 0xc67c1925;
+
+impl Checksum for LogCrc32 {
+    ghost sum_of = { log_crc32 };
+
+    fn sum(&self, bytes: &[u8]) -> u32 {
+        sum_from(BEGUN, bytes)
+    }
+}

@@ -1,0 +1,62 @@
+//! A folder's file `config` is held against what is asked for, and made where it is missing.
+//!
+//! It is made before the log has a byte, so that no log is ever written that it doesn't tell of.
+
+use crate::format::{OF_VERSION_1, format_in, text_of, text_of_version_1};
+use crate::opening::OpenError;
+use crate::opening::place::Place;
+use sled_store::Config;
+use std::fs::File;
+
+// What is asked for by who opens a folder: the size of segments, and the name of the checksum.
+#[derive(Clone, Copy)]
+pub(crate) struct Wanted {
+    pub(crate) config: Config,
+    pub(crate) checksum: &'static str,
+}
+
+// Holds what the folder says against what is asked for. A folder whose log is empty, or of which nothing is known but that
+// it has a log, is begun. The folder is locked.
+pub(crate) fn agree(place: &Place<'_>, log: &File, wanted: Wanted) -> Result<(), OpenError> {
+    match place.text("config")? {
+        Some(text) => compare(place, &text, wanted),
+        None => begin(place, log, wanted),
+    }
+}
+
+fn compare(place: &Place<'_>, text: &[u8], wanted: Wanted) -> Result<(), OpenError> {
+    let kept = format_in(place.rt.alloc(), place.path_of("config")?, text)?;
+    let size = kept.config.segment_size;
+    if size != wanted.config.segment_size {
+        return Err(OpenError::OtherSize {
+            path: place.path_of("config")?,
+            kept: size,
+            asked: wanted.config.segment_size,
+        });
+    }
+    if kept.checksum.as_str() != wanted.checksum {
+        return Err(OpenError::OtherChecksum {
+            path: place.path_of("config")?,
+            kept: kept.checksum,
+            asked: wanted.checksum,
+        });
+    }
+    Ok(())
+}
+
+// Earlier versions made no such file. Their checksum is taken, and the word of who opens the folder for the size.
+fn begin(place: &Place<'_>, log: &File, wanted: Wanted) -> Result<(), OpenError> {
+    let alloc = place.rt.alloc();
+    let len = place.len_of(log)?;
+    let text = if len == 0 {
+        text_of(alloc, wanted.config, wanted.checksum)?
+    } else if wanted.checksum == OF_VERSION_1 {
+        text_of_version_1(alloc, wanted.config)?
+    } else {
+        return Err(OpenError::NoConfig {
+            path: place.path_of("config")?,
+            len,
+        });
+    };
+    place.put("config", "config.new", text.as_str())
+}
