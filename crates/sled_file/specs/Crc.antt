@@ -23,6 +23,6 @@ crc_from crc (byte ∷ bytes) = crc_from (with_byte crc byte) bytes
 abbrev pub crc32 : List ℕ → ℕ
 crc32 bytes = bit_xor (crc_from (0xffffffff) bytes) (0xffffffff)
 
--- The same of the bytes "log" and a zero, and then these: under it no header that is partly zeros passes as another one.
+-- The same of "log" and a zero, and then these bytes. Under crc32 what is left of the header of place 0, torn over zeros, may pass as one.
 abbrev pub log_crc32 : List ℕ → ℕ
 log_crc32 bytes = crc32 (0x6c ∷ 0x6f ∷ 0x67 ∷ 0x00 ∷ bytes)
