@@ -8,15 +8,22 @@ use sled_file::{
 };
 use sled_log::config::Config;
 use sled_log::device::{Checksum, Device};
+use std::alloc::AllocError;
 use std::io::ErrorKind;
 use std::{fs, io};
 
 // Why a case ended early: a call failed that has to succeed.
 #[derive(Drop)]
-struct Ended;
+pub(crate) struct Ended;
 
 impl From<io::Error> for Ended {
     fn from(_error: io::Error) -> Ended {
+        Ended
+    }
+}
+
+impl From<AllocError> for Ended {
+    fn from(_error: AllocError) -> Ended {
         Ended
     }
 }
@@ -28,7 +35,7 @@ impl From<OpenError> for Ended {
 }
 
 // What came of a case: whether all was as it has to be.
-type Came = Result<bool, Ended>;
+pub(crate) type Came = Result<bool, Ended>;
 
 // Opens a folder with segments of 256 bytes under `LogCrc32`.
 fn opened(rt: &HostRuntime, path: &str) -> Result<FileDevice<HostFolder, Unknown>, OpenError> {

@@ -1,7 +1,7 @@
 //! What a line of a file can't say: equality and conversion of errors, constants, functions over a format that answer
 //! no value of their own, folders of files, and laws.
 
-use crate::{batches, copies, folders, identifiers, laws, orders, sessions, sorted};
+use crate::{batches, copies, folders, formats, identifiers, laws, orders, sessions, sorted};
 use case_lines::tally::Tally;
 use sled_codec::serialization::bytes::copy_in;
 use sled_log::config::{Config, RunningConfig};
@@ -55,6 +55,7 @@ pub fn run(rt: &HostRuntime, tally: &mut Tally<'_>) {
     hold_orders(alloc, tally);
     hold_identifiers(alloc, tally);
     hold_folders(rt, tally);
+    hold_formats(rt, tally);
 }
 
 // Keys in sorted vectors.
@@ -138,6 +139,15 @@ fn hold_folders(rt: &HostRuntime, tally: &mut Tally<'_>) {
         "copies slot by slot",
         known(copies::are_own(rt.alloc())),
     );
+}
+
+// What folders tell of how they are kept.
+fn hold_formats(rt: &HostRuntime, tally: &mut Tally<'_>) {
+    holds(tally, 38, "formats are kept", formats::keep(rt));
+    holds(tally, 39, "formats are refused", formats::refuse(rt));
+    holds(tally, 40, "the first version", formats::take_first(rt));
+    holds(tally, 41, "folders without one", formats::begin_old(rt));
+    holds(tally, 42, "the sum of logs", formats::sum_as_others());
 }
 
 // Counts a case.

@@ -7,6 +7,7 @@
 mod batches;
 mod copies;
 mod folders;
+mod formats;
 pub mod functions;
 mod identifiers;
 mod laws;

@@ -3,4 +3,5 @@ pub mod Calls
 pub mod Copies
 pub mod Crc
 pub mod Failures
+pub mod Formats
 pub mod Mirrors

@@ -1,5 +1,7 @@
 //! How the log of a folder is written: the size of its segments and its checksum, which the folder's file `config` names
 //! (`docs/FORMATS.md`, "The files of a folder").
+ghost use Rattle.std.specs.Prelude.{◌≡◌, ◌≢◌, ℕ, List, IfErr, IfSome};
+ghost use Rattle.sled_file.specs.Formats.{of_crc32, of_log_crc32, version, IsUnread};
 
 use crate::crc32::Crc32;
 use crate::log_crc32::LogCrc32;
@@ -12,17 +14,24 @@ use std::io::ErrorKind;
 
 /// A checksum that a folder can be kept under. It names itself in the folder's file `config`.
 pub trait FolderChecksum: Checksum {
-    /// Returns the name: one word, another one for each checksum, and always the same.
-    fn name(&self) -> &'static str;
+    ghost named: { List ℕ };
+
+    /// Returns the name: one word, always the same, and another one for each checksum.
+    fn name(&self) -> &'static str
+        ensures { result.now ≡ named };
 }
 
 impl FolderChecksum for Crc32 {
+    ghost named = { of_crc32 };
+
     fn name(&self) -> &'static str {
         OF_VERSION_1
     }
 }
 
 impl FolderChecksum for LogCrc32 {
+    ghost named = { of_log_crc32 };
+
     fn name(&self) -> &'static str {
         "crc32-log"
     }
@@ -48,7 +57,9 @@ pub(crate) const OF_VERSION_1: &str = "crc32";
 /// # Errors
 ///
 /// `OtherVersion` and `BadConfig` as `open`, `Io` where the file can't be read, and `OutOfMemory` where memory was refused.
-pub fn format_of(rt: &HostRuntime, path: &str) -> Result<Option<Format>, OpenError> {
+pub fn format_of(rt: &HostRuntime, path: &str) -> Result<Option<Format>, OpenError>
+    ensures { IfErr result IsUnread }
+{
     let alloc = rt.alloc();
     let path = format!(in alloc; "{path}/config")?;
     match fs::read(rt, path.as_str()) {
@@ -63,17 +74,19 @@ pub fn format_of(rt: &HostRuntime, path: &str) -> Result<Option<Format>, OpenErr
 }
 
 // What the bytes of such a file say, which errors call so.
-pub(crate) fn format_in(alloc: Global, path: String, bytes: &[u8]) -> Result<Format, OpenError> {
+pub(crate) fn format_in(alloc: Global, path: String, bytes: &[u8]) -> Result<Format, OpenError>
+    ensures { IfErr result IsUnread }
+{
     let Ok(text) = str::from_utf8(bytes) else {
         return Err(OpenError::BadConfig { path });
     };
     match said_by(text) {
-        Said::Format(config, checksum) => Ok(Format {
+        Ok((config, checksum)) => Ok(Format {
             config,
             checksum: String::from_str(alloc, checksum)?,
         }),
-        Said::OfVersion(version) => Err(OpenError::OtherVersion { path, version }),
-        Said::Nothing => Err(OpenError::BadConfig { path }),
+        Err(Some(version)) => Err(OpenError::OtherVersion { path, version }),
+        Err(None) => Err(OpenError::BadConfig { path }),
     }
 }
 
@@ -89,33 +102,31 @@ pub(crate) fn text_of_version_1(alloc: Global, config: Config) -> Result<String,
     format!(in alloc; "size {size}\n")
 }
 
-// What a text says.
-enum Said<'a> {
-    Format(Config, &'a str),
-    // It is of this version, which isn't known here.
-    OfVersion(u64),
-    Nothing,
-}
-
-fn said_by(text: &str) -> Said<'_> {
+// What a text says: size and name. If it is of another version the error is that one, and `None` if it is no such text.
+fn said_by(text: &str) -> Result<(Config, &str), Option<u64>>
+    ensures { IfErr result (λ other. IfSome other (λ v. v ≢ version)) }
+{
     if let Some((config, "")) = size_line(text) {
-        return Said::Format(config, OF_VERSION_1);
+        return Ok((config, OF_VERSION_1));
     }
-    match marked(text) {
-        Some((VERSION, rest)) => said_by_version_2(rest),
-        Some((version, _)) => Said::OfVersion(version),
-        None => Said::Nothing,
+    let Some((version, rest)) = marked(text) else {
+        return Err(None);
+    };
+    if version != VERSION {
+        return Err(Some(version));
+    }
+    match said_by_version_2(rest) {
+        Some(said) => Ok(said),
+        None => Err(None),
     }
 }
 
 // What the lines behind the mark say.
-fn said_by_version_2(text: &str) -> Said<'_> {
-    let Some((config, rest)) = size_line(text) else {
-        return Said::Nothing;
-    };
-    match line(rest, "checksum ") {
-        Some((checksum, "")) => Said::Format(config, checksum),
-        _ => Said::Nothing,
+fn said_by_version_2(text: &str) -> Option<(Config, &str)> {
+    let (config, rest) = size_line(text)?;
+    match line(rest, "checksum ")? {
+        (checksum, "") => Some((config, checksum)),
+        _ => None,
     }
 }
 

@@ -3,13 +3,15 @@
 //!
 //! All in the folder is named below the handle of the folder that was opened (`place.rt`), so that it stays one folder
 //! whatever becomes of the path meanwhile.
-ghost use Rattle.std.specs.Prelude.{◌≡◌, ◌∷◌, ℕ, ℤ, List, IfOk};
+ghost use Rattle.std.specs.Prelude.{◌≡◌, ◌∷◌, ℕ, ℤ, List, IfOk, IfErr};
 ghost use Rattle.std.specs.List.Sorted.{IsStrictlySortedBy};
 ghost use Rattle.std.specs.Map.{keys_of};
 ghost use Rattle.std.specs.Ordering.{int_cmp};
 ghost use Rattle.sled_store.specs.Device.{Crashed, Given};
+ghost use Rattle.sled_file.specs.Formats.{IsRefused, IsOfFiles};
 
 mod agreeing;
+mod error;
 mod place;
 mod reading;
 mod settling;
@@ -20,88 +22,8 @@ use crate::host::{Handles, HostFolder, Names};
 use crate::opening::agreeing::{Wanted, agree};
 use crate::opening::place::{Holding, Place};
 use crate::start::Start;
+pub use error::OpenError;
 use sled_store::{Config, Device, Offer};
-use std::alloc::{AllocError, AllocFailed};
-use std::io;
-use thiserror::Error;
-
-/// Why a folder could not be opened.
-#[derive(Debug, Drop, Error)]
-pub enum OpenError {
-    /// Another process, or another device of this one, has it open, or reads it while it is to be opened.
-    #[error("{path}: the folder is open elsewhere")]
-    Locked {
-        /// The file whose lock is held.
-        path: String,
-    },
-    /// A call on a file failed.
-    #[error("{path}: {doing}: {error}")]
-    Io {
-        /// The file or the folder.
-        path: String,
-        /// What was done with it.
-        doing: &'static str,
-        /// How it failed.
-        error: io::Error,
-    },
-    /// The segments of its log have another size.
-    #[error("{path}: the segments have {kept} bytes here, and not {asked}")]
-    OtherSize {
-        /// The file `config`.
-        path: String,
-        /// The size that it names.
-        kept: u64,
-        /// The size that was asked for.
-        asked: u64,
-    },
-    /// Its log is kept under another checksum.
-    #[error("{path}: the checksum is {kept} here, and not {asked}")]
-    OtherChecksum {
-        /// The file `config`.
-        path: String,
-        /// The checksum that it names.
-        kept: String,
-        /// The checksum that was asked for.
-        asked: &'static str,
-    },
-    /// It is of another version than 2, the one that is known.
-    #[error("{path}: the folder is of version {version}, and 2 is the one that is known")]
-    OtherVersion {
-        /// The file `config`.
-        path: String,
-        /// The version that it names.
-        version: u64,
-    },
-    /// The file `config` has another text.
-    #[error("{path}: it has to be the lines 'sled_file 2', 'size S', 'checksum NAME', S a power of two from 256 to 8388608")]
-    BadConfig {
-        /// The file `config`.
-        path: String,
-    },
-    /// The file `config` is missing, and the log isn't empty.
-    #[error("{path}: the file is missing, and the log has {len} bytes: write 'size S' into it with the size of its segments")]
-    NoConfig {
-        /// Where the file has to be.
-        path: String,
-        /// How many bytes the log has.
-        len: u64,
-    },
-    /// Memory was refused.
-    #[error("out of memory")]
-    OutOfMemory,
-}
-
-impl From<AllocError> for OpenError {
-    fn from(_error: AllocError) -> OpenError {
-        OpenError::OutOfMemory
-    }
-}
-
-impl<T: Drop> From<AllocFailed<T>> for OpenError {
-    fn from(_error: AllocFailed<T>) -> OpenError {
-        OpenError::OutOfMemory
-    }
-}
 
 /// Who is told how far an opening came.
 pub trait Progress {
@@ -141,6 +63,7 @@ pub fn open<S: Start, C: FolderChecksum>(
     ensures trace { IfOk result (λ device. (log : List ℕ) × (blobs : List (ℤ × List ℕ)) × (snapshots : List (ℤ × List ℕ))
         × (⟦<FileDevice<HostFolder, S> as Device>⟧.trace device ≡ Crashed (Given log blobs snapshots) ∷ S.Start.past)) }
     ensures faults { IfOk result (λ device. ⟦<FileDevice<HostFolder, S> as Device>⟧.faults device ≡ 0) }
+    ensures refused { IfErr result (IsRefused config.segment_size C.FolderChecksum.named) }
 {
     open_told(rt, path, config, checksum, start, &mut Untold)
 }
@@ -161,6 +84,7 @@ pub fn open_told<S: Start, C: FolderChecksum, P: Progress>(
     ensures trace { IfOk result (λ device. (log : List ℕ) × (blobs : List (ℤ × List ℕ)) × (snapshots : List (ℤ × List ℕ))
         × (⟦<FileDevice<HostFolder, S> as Device>⟧.trace device ≡ Crashed (Given log blobs snapshots) ∷ S.Start.past)) }
     ensures faults { IfOk result (λ device. ⟦<FileDevice<HostFolder, S> as Device>⟧.faults device ≡ 0) }
+    ensures refused { IfErr result (IsRefused config.segment_size C.FolderChecksum.named) }
 {
     let alloc = rt.alloc();
     let place = Place::make(rt, path)?;
@@ -182,6 +106,7 @@ pub fn open_told<S: Start, C: FolderChecksum, P: Progress>(
 pub fn read<P: Progress>(rt: &HostRuntime, path: &str, progress: &mut P) -> Result<Offer, OpenError>
     ensures blobs { IfOk result (λ found. IsStrictlySortedBy int_cmp (keys_of found.blobs.items)) }
     ensures snapshots { IfOk result (λ found. IsStrictlySortedBy int_cmp (keys_of found.snapshots.items)) }
+    ensures refused { IfErr result IsOfFiles }
 {
     let alloc = rt.alloc();
     let place = Place::open(rt, path)?;
@@ -197,7 +122,9 @@ pub fn read<P: Progress>(rt: &HostRuntime, path: &str, progress: &mut P) -> Resu
 
 // Locks the folder, compares its format, makes what is missing of it, and syncs the log file and what stands in the folder
 // by name.
-fn prepare(place: &Place<'_>, wanted: Wanted) -> Result<Handles, OpenError> {
+fn prepare(place: &Place<'_>, wanted: Wanted) -> Result<Handles, OpenError>
+    ensures { IfErr result (IsRefused wanted.config.segment_size wanted.checksum.now) }
+{
     let log = place.log()?;
     place.lock(&log, "log", Holding::Alone)?;
     let lock = place.lock_of_old(Holding::Alone)?;
@@ -220,7 +147,9 @@ fn prepare(place: &Place<'_>, wanted: Wanted) -> Result<Handles, OpenError> {
 }
 
 // Locks a folder that is only read.
-fn look(place: &Place<'_>) -> Result<Handles, OpenError> {
+fn look(place: &Place<'_>) -> Result<Handles, OpenError>
+    ensures { IfErr result IsOfFiles }
+{
     let log = place.log_to_read()?;
     place.lock(&log, "log", Holding::Shared)?;
     let lock = place.lock_of_old(Holding::Shared)?;

@@ -1,6 +1,8 @@
 //! A folder's file `config` is held against what is asked for, and made where it is missing.
 //!
 //! It is made before the log has a byte, so that no log is ever written that it doesn't tell of.
+ghost use Rattle.std.specs.Prelude.{IfErr};
+ghost use Rattle.sled_file.specs.Formats.{IsRefused};
 
 use crate::format::{OF_VERSION_1, format_in, text_of, text_of_version_1};
 use crate::opening::OpenError;
@@ -17,14 +19,18 @@ pub(crate) struct Wanted {
 
 // Holds what the folder says against what is asked for. A folder whose log is empty, or of which nothing is known but that
 // it has a log, is begun. The folder is locked.
-pub(crate) fn agree(place: &Place<'_>, log: &File, wanted: Wanted) -> Result<(), OpenError> {
+pub(crate) fn agree(place: &Place<'_>, log: &File, wanted: Wanted) -> Result<(), OpenError>
+    ensures { IfErr result (IsRefused wanted.config.segment_size wanted.checksum.now) }
+{
     match place.text("config")? {
         Some(text) => compare(place, &text, wanted),
         None => begin(place, log, wanted),
     }
 }
 
-fn compare(place: &Place<'_>, text: &[u8], wanted: Wanted) -> Result<(), OpenError> {
+fn compare(place: &Place<'_>, text: &[u8], wanted: Wanted) -> Result<(), OpenError>
+    ensures { IfErr result (IsRefused wanted.config.segment_size wanted.checksum.now) }
+{
     let kept = format_in(place.rt.alloc(), place.path_of("config")?, text)?;
     let size = kept.config.segment_size;
     if size != wanted.config.segment_size {
@@ -45,7 +51,9 @@ fn compare(place: &Place<'_>, text: &[u8], wanted: Wanted) -> Result<(), OpenErr
 }
 
 // Earlier versions made no such file. Their checksum is taken, and the word of who opens the folder for the size.
-fn begin(place: &Place<'_>, log: &File, wanted: Wanted) -> Result<(), OpenError> {
+fn begin(place: &Place<'_>, log: &File, wanted: Wanted) -> Result<(), OpenError>
+    ensures { IfErr result (IsRefused wanted.config.segment_size wanted.checksum.now) }
+{
     let alloc = place.rt.alloc();
     let len = place.len_of(log)?;
     let text = if len == 0 {

@@ -1,4 +1,6 @@
 //! A folder that is opened: its files are named below the handle of the folder itself.
+ghost use Rattle.std.specs.Prelude.{IfErr};
+ghost use Rattle.sled_file.specs.Formats.{IsOfFiles};
 
 use crate::host::{apart, name_of};
 use crate::opening::OpenError;
@@ -26,7 +28,9 @@ pub(crate) enum Holding {
 
 impl Place<'_> {
     // The folder at a path, which is made where it is missing.
-    pub(crate) fn make<'a>(rt: &'a HostRuntime, path: &'a str) -> Result<Place<'a>, OpenError> {
+    pub(crate) fn make<'a>(rt: &'a HostRuntime, path: &'a str) -> Result<Place<'a>, OpenError>
+        ensures { IfErr result IsOfFiles }
+    {
         match fs::create_dir(rt, path) {
             Err(error) if error.kind() != ErrorKind::AlreadyExists => {
                 Err(told(rt, path, "the folder can't be made", error))
@@ -36,7 +40,9 @@ impl Place<'_> {
     }
 
     // The folder at a path.
-    pub(crate) fn open<'a>(rt: &'a HostRuntime, path: &'a str) -> Result<Place<'a>, OpenError> {
+    pub(crate) fn open<'a>(rt: &'a HostRuntime, path: &'a str) -> Result<Place<'a>, OpenError>
+        ensures { IfErr result IsOfFiles }
+    {
         let handle = match opened(rt, &reading_only(), path) {
             Ok(handle) => handle,
             Err(error) => return Err(told(rt, path, "the folder can't be opened", error)),
@@ -59,7 +65,9 @@ impl Place<'_> {
     }
 
     // The log file, which is made where it is missing. It isn't made where a link leads.
-    pub(crate) fn log(&self) -> Result<File, OpenError> {
+    pub(crate) fn log(&self) -> Result<File, OpenError>
+        ensures { IfErr result IsOfFiles }
+    {
         let name = self.name_in("log")?;
         match opened(self.rt, &changing(), name.as_str()) {
             Ok(file) => Ok(file),
@@ -68,7 +76,9 @@ impl Place<'_> {
         }
     }
 
-    fn made(&self, name: &str) -> Result<File, OpenError> {
+    fn made(&self, name: &str) -> Result<File, OpenError>
+        ensures { IfErr result IsOfFiles }
+    {
         match opened(self.rt, changing().create_new(true), name) {
             Ok(file) => Ok(file),
             Err(error) => Err(self.failed("log", "the file can't be made", error)),
@@ -76,7 +86,9 @@ impl Place<'_> {
     }
 
     // The log file, to be read alone.
-    pub(crate) fn log_to_read(&self) -> Result<File, OpenError> {
+    pub(crate) fn log_to_read(&self) -> Result<File, OpenError>
+        ensures { IfErr result IsOfFiles }
+    {
         let name = self.name_in("log")?;
         match opened(self.rt, &reading_only(), name.as_str()) {
             Ok(file) => Ok(file),
@@ -85,7 +97,9 @@ impl Place<'_> {
     }
 
     // Syncs the log file, and drops what the kernel keeps of it.
-    pub(crate) fn settle_log(&self) -> Result<(), OpenError> {
+    pub(crate) fn settle_log(&self) -> Result<(), OpenError>
+        ensures { IfErr result IsOfFiles }
+    {
         let name = self.name_in("log")?;
         match settle(self.rt, name.as_str()) {
             Ok(()) => Ok(()),
@@ -94,7 +108,9 @@ impl Place<'_> {
     }
 
     // Locks a file of the folder, as long as it is open.
-    pub(crate) fn lock(&self, file: &File, name: &str, holding: Holding) -> Result<(), OpenError> {
+    pub(crate) fn lock(&self, file: &File, name: &str, holding: Holding) -> Result<(), OpenError>
+        ensures { IfErr result IsOfFiles }
+    {
         let answer = match holding {
             Holding::Alone => file.try_lock(),
             Holding::Shared => file.try_lock_shared(),
@@ -113,7 +129,9 @@ impl Place<'_> {
     }
 
     // The file `lock` with its lock, where it is there: older programs lock that one alone.
-    pub(crate) fn lock_of_old(&self, holding: Holding) -> Result<Option<File>, OpenError> {
+    pub(crate) fn lock_of_old(&self, holding: Holding) -> Result<Option<File>, OpenError>
+        ensures { IfErr result IsOfFiles }
+    {
         let name = self.name_in("lock")?;
         match opened(self.rt, &reading_only(), name.as_str()) {
             Ok(file) => {
@@ -126,7 +144,9 @@ impl Place<'_> {
     }
 
     // Makes a folder in it, unless it is there.
-    pub(crate) fn make_folder(&self, name: &str) -> Result<(), OpenError> {
+    pub(crate) fn make_folder(&self, name: &str) -> Result<(), OpenError>
+        ensures { IfErr result IsOfFiles }
+    {
         let at = self.name_in(name)?;
         match fs::create_dir(self.rt, at.as_str()) {
             Err(error) if error.kind() != ErrorKind::AlreadyExists => {
@@ -137,7 +157,9 @@ impl Place<'_> {
     }
 
     // A folder in it.
-    pub(crate) fn open_folder(&self, name: &str) -> Result<File, OpenError> {
+    pub(crate) fn open_folder(&self, name: &str) -> Result<File, OpenError>
+        ensures { IfErr result IsOfFiles }
+    {
         let at = self.name_in(name)?;
         match opened(self.rt, &reading_only(), at.as_str()) {
             Ok(folder) => Ok(folder),
@@ -146,7 +168,9 @@ impl Place<'_> {
     }
 
     // Syncs a file or a folder of this name.
-    pub(crate) fn sync(&self, file: &File, name: &str) -> Result<(), OpenError> {
+    pub(crate) fn sync(&self, file: &File, name: &str) -> Result<(), OpenError>
+        ensures { IfErr result IsOfFiles }
+    {
         match file.sync_all() {
             Ok(()) => Ok(()),
             Err(error) => Err(self.failed(name, "it can't be synced", error)),
@@ -154,7 +178,9 @@ impl Place<'_> {
     }
 
     // The bytes of a file in it, where it is there.
-    pub(crate) fn text(&self, file: &str) -> Result<Option<Vec<u8>>, OpenError> {
+    pub(crate) fn text(&self, file: &str) -> Result<Option<Vec<u8>>, OpenError>
+        ensures { IfErr result IsOfFiles }
+    {
         let name = self.name_in(file)?;
         match fs::read(self.rt, name.as_str()) {
             Ok(text) => Ok(Some(text)),
@@ -164,7 +190,9 @@ impl Place<'_> {
     }
 
     // Makes a file in it with this text, under another name first: so a crash leaves all of the file, or none.
-    pub(crate) fn put(&self, file: &str, first: &str, text: &str) -> Result<(), OpenError> {
+    pub(crate) fn put(&self, file: &str, first: &str, text: &str) -> Result<(), OpenError>
+        ensures { IfErr result IsOfFiles }
+    {
         let name = self.name_in(file)?;
         let first = self.name_in(first)?;
         match self.written(first.as_str(), name.as_str(), text) {
@@ -187,7 +215,9 @@ impl Place<'_> {
     }
 
     // How many bytes the log file has.
-    pub(crate) fn len_of(&self, log: &File) -> Result<u64, OpenError> {
+    pub(crate) fn len_of(&self, log: &File) -> Result<u64, OpenError>
+        ensures { IfErr result IsOfFiles }
+    {
         match log.metadata() {
             Ok(found) => Ok(found.len()),
             Err(error) => Err(self.failed("log", "the file can't be looked at", error)),
@@ -196,7 +226,9 @@ impl Place<'_> {
 
     // Syncs which files and folders stand in it, and where the log file has no bytes the folder's own name too: who made
     // the folder may have been ended before that was synced, also an earlier opening.
-    pub(crate) fn sync_names(&self, log: &File) -> Result<(), OpenError> {
+    pub(crate) fn sync_names(&self, log: &File) -> Result<(), OpenError>
+        ensures { IfErr result IsOfFiles }
+    {
         self.sync(&self.handle, ".")?;
         if self.len_of(log)? > 0 {
             return Ok(());
@@ -218,7 +250,9 @@ impl Place<'_> {
     }
 
     // The error of a call on a file in it.
-    pub(crate) fn failed(&self, file: &str, doing: &'static str, error: io::Error) -> OpenError {
+    pub(crate) fn failed(&self, file: &str, doing: &'static str, error: io::Error) -> OpenError
+        ensures { IsOfFiles result }
+    {
         match self.path_of(file) {
             Ok(path) => OpenError::Io { path, doing, error },
             Err(_) => OpenError::OutOfMemory,
@@ -245,7 +279,9 @@ fn opened(rt: &HostRuntime, how: &OpenOptions, name: &str) -> io::Result<File> {
 }
 
 // The error of a call on the folder itself.
-fn told(rt: &HostRuntime, path: &str, doing: &'static str, error: io::Error) -> OpenError {
+fn told(rt: &HostRuntime, path: &str, doing: &'static str, error: io::Error) -> OpenError
+    ensures { IsOfFiles result }
+{
     match String::from_str(rt.alloc(), path) {
         Ok(path) => OpenError::Io { path, doing, error },
         Err(_) => OpenError::OutOfMemory,

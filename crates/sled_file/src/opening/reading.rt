@@ -1,4 +1,6 @@
 //! What is found in a folder.
+ghost use Rattle.std.specs.Prelude.{IfErr};
+ghost use Rattle.sled_file.specs.Formats.{IsOfFiles};
 
 use crate::host::{Handles, Names, apart};
 use crate::mirror::Mirror;
@@ -19,7 +21,9 @@ pub(crate) fn read_all<P: Progress>(
     names: &Names,
     holding: Holding,
     progress: &mut P,
-) -> Result<Mirror, OpenError> {
+) -> Result<Mirror, OpenError>
+    ensures { IfErr result IsOfFiles }
+{
     let mut found = Mirror::new(place.rt.alloc());
     if let Err(error) = read_log(place.rt.alloc(), &handles.log, &mut found.log, progress) {
         return Err(place.failed("log", "the file can't be read", error));
@@ -83,7 +87,9 @@ struct Numbered<'a> {
 
 impl Numbered<'_> {
     // The numbers that are names of files in it. Other names are left alone.
-    fn numbers(&self) -> Result<Vec<i64>, OpenError> {
+    fn numbers(&self) -> Result<Vec<i64>, OpenError>
+        ensures { IfErr result IsOfFiles }
+    {
         match listed(self.place.rt, self.name) {
             Ok(numbers) => Ok(numbers),
             Err(error) => {
@@ -96,7 +102,9 @@ impl Numbered<'_> {
     }
 
     // The bytes of the file of a number.
-    fn read(&self, number: i64) -> Result<Vec<u8>, OpenError> {
+    fn read(&self, number: i64) -> Result<Vec<u8>, OpenError>
+        ensures { IfErr result IsOfFiles }
+    {
         let alloc = self.place.rt.alloc();
         let name = self.name;
         let name = format!(in alloc; "{name}/{number}")?;
@@ -117,7 +125,9 @@ impl Numbered<'_> {
     }
 
     // The error of a call on the file of a number.
-    fn failed(&self, number: i64, doing: &'static str, error: io::Error) -> OpenError {
+    fn failed(&self, number: i64, doing: &'static str, error: io::Error) -> OpenError
+        ensures { IsOfFiles result }
+    {
         let told = self.told;
         match format!(in self.place.rt.alloc(); "{told}/{number}") {
             Ok(file) => self.place.failed(file.as_str(), doing, error),
