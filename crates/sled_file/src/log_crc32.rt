@@ -1,12 +1,13 @@
-//! The checksum of sled's own files, begun with four bytes of its own.
+//! The checksum of new folders: that of sled's own files, begun with four bytes more.
 ghost use Rattle.std.specs.Prelude.{◌≡◌, ◌∷◌, [], bit_xor};
 ghost use Rattle.sled_file.specs.Crc.{crc_from, log_crc32};
 
 use crate::crc32::sum_from;
 use sled_codec::serialization::Checksum;
 
-/// The cyclic redundancy check of IEEE 802.3 of the four bytes `6c 6f 67 00` ("log" and a zero) and those that are summed.
-/// Under it no header of a segment that is partly zeros passes as another one (`docs/DEVICE.md`).
+/// The 32-bit cyclic redundancy check of IEEE 802.3, of the four bytes `6c 6f 67 00` ("log" and a zero) and those that are
+/// summed. It is for new folders: under `Crc32` a crash may leave of the header of the first segment, over zeros, what
+/// passes as another header (`docs/CRASH_SAFETY.md`, "What is left of a header over zeros shows no segment").
 #[derive(Debug, Clone, Copy, PartialEq, Eq)]
 pub struct LogCrc32;
 

@@ -40,7 +40,8 @@ impl Progress for Untold {
 }
 
 /// Opens a folder, which is made where it is missing, as its parent isn't. It is locked until the device is dropped. Its
-/// segments have to be of this size, and its log is kept under this checksum: a folder whose log is empty is begun so.
+/// segments have to be of this size, and its log under this checksum; a new folder is begun with both
+/// (`docs/FORMATS.md`, "The files of a folder").
 ///
 /// # Errors
 ///

@@ -1,10 +1,10 @@
 //! A folder's file `config` is held against what is asked for, and made where it is missing.
 //!
 //! It is made before the log has a byte, so that no log is ever written that it doesn't tell of.
-ghost use Rattle.std.specs.Prelude.{IfErr};
+ghost use Rattle.std.specs.Prelude.{◌≡◌, IfErr, OnOk, string_bytes};
 ghost use Rattle.sled_file.specs.Formats.{IsRefused};
 
-use crate::format::{OF_VERSION_1, format_in, text_of, text_of_version_1};
+use crate::format::{Format, OF_VERSION_1, format_in, text_of, text_of_version_1};
 use crate::opening::OpenError;
 use crate::opening::place::Place;
 use sled_store::Config;
@@ -23,15 +23,20 @@ pub(crate) fn agree(place: &Place<'_>, log: &File, wanted: Wanted) -> Result<(),
     ensures { IfErr result (IsRefused wanted.config.segment_size wanted.checksum.now) }
 {
     match place.text("config")? {
-        Some(text) => compare(place, &text, wanted),
+        Some(text) => {
+            let kept = format_in(place.rt.alloc(), place.path_of("config")?, &text)?;
+            compare(place, kept, wanted)
+        }
         None => begin(place, log, wanted),
     }
 }
 
-fn compare(place: &Place<'_>, text: &[u8], wanted: Wanted) -> Result<(), OpenError>
-    ensures { IfErr result (IsRefused wanted.config.segment_size wanted.checksum.now) }
+// Both have to be the same.
+fn compare(place: &Place<'_>, kept: Format, wanted: Wanted) -> Result<(), OpenError>
+    ensures size { OnOk result (kept.config.segment_size ≡ wanted.config.segment_size) }
+    ensures checksum { OnOk result (string_bytes kept.checksum ≡ wanted.checksum.now) }
+    ensures refused { IfErr result (IsRefused wanted.config.segment_size wanted.checksum.now) }
 {
-    let kept = format_in(place.rt.alloc(), place.path_of("config")?, text)?;
     let size = kept.config.segment_size;
     if size != wanted.config.segment_size {
         return Err(OpenError::OtherSize {
