@@ -1,7 +1,7 @@
 //! What a line of a file can't say: equality and conversion of errors, constants, functions over a format that answer
 //! no value of their own, folders of files, and laws.
 
-use crate::{batches, copies, folders, formats, identifiers, laws, orders, sessions, sorted};
+use crate::{batches, copies, folders, formats, identifiers, laws, orders, sessions, sorted, torn};
 use case_lines::tally::Tally;
 use sled_codec::serialization::bytes::copy_in;
 use sled_log::config::{Config, RunningConfig};
@@ -148,6 +148,12 @@ fn hold_formats(rt: &HostRuntime, tally: &mut Tally<'_>) {
     holds(tally, 40, "the first version", formats::take_first(rt));
     holds(tally, 41, "folders without one", formats::begin_old(rt));
     holds(tally, 42, "the sum of logs", formats::sum_as_others());
+    holds(
+        tally,
+        43,
+        "a header over zeros",
+        known(torn::hold(rt.alloc())),
+    );
 }
 
 // Counts a case.

@@ -14,3 +14,4 @@ mod laws;
 mod orders;
 mod sessions;
 mod sorted;
+mod torn;
