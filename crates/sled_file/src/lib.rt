@@ -1,4 +1,5 @@
-//! A log's device over the files of a folder, and the checksum of sled's own files.
+//! A log's device over the files of a folder, the checksum of sled's own files, and one for new folders. A folder tells the
+//! size of its segments and its checksum, and is opened with these alone.
 //!
 //! What is read is what was found at the opening and written since; each call that changes or syncs is the call
 //! on the files that it means, and is noted. The trace of the device is read off these notes

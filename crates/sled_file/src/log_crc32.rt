@@ -1,6 +1,5 @@
 //! The checksum of new folders: that of sled's own files, begun with four bytes more.
-ghost use Rattle.std.specs.Prelude.{◌≡◌, ◌∷◌, [], bit_xor};
-ghost use Rattle.sled_file.specs.Crc.{crc_from, log_crc32};
+ghost use Rattle.sled_file.specs.Crc.{log_crc32};
 
 use crate::crc32::sum_from;
 use sled_codec::serialization::Checksum;
