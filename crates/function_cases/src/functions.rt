@@ -85,6 +85,12 @@ fn hold_sessions(alloc: Global, tally: &mut Tally<'_>) {
         "one command at a time",
         known(sessions::carries_out(alloc)),
     );
+    holds(
+        tally,
+        45,
+        "damage is left",
+        known(sessions::leaves_damage(alloc)),
+    );
 }
 
 // Buffers that are written in every order.

@@ -1,7 +1,7 @@
 //! What a session tells beside its replies, and a log, a ticket and the header of a blob beside their answers.
 
 use sled_log::config::{Config, RunningConfig};
-use sled_log::device::{MemDevice, PlaceSum};
+use sled_log::device::{Device, MemDevice, PlaceSum};
 use sled_log::logger::{DiskPtr, Log, LogKind, LogRead, MessageKind, SegmentNumber};
 use sled_log::reservation::{Guard, Reservation};
 use sled_log::result::{Error, Result};
@@ -9,7 +9,7 @@ use sled_log::serialization::snapshot::PageState;
 use sled_log::serialization::{MessageHeader, Snapshot};
 use sled_log::session::{Command, Refusal, Reply, Session};
 use sled_store::blob_io::write_blob;
-use std::alloc::Global;
+use std::alloc::{AllocError, Global};
 
 /// A page takes 254 links and no further one, as the replies and the table of a session say. Once it is halted no table is shown.
 pub fn links_pages(alloc: Global) -> Result<bool> {
@@ -86,6 +86,63 @@ fn opens_again(session: &mut Session<MemDevice, PlaceSum>) -> bool {
     is_item(&read, &[3, 7, 7, 7])
         && matches!(halted, Reply::Halted)
         && is_opened(&opened, Some(32), Some(0), 1)
+}
+
+/// An opening that meets damage writes nothing: the log file is emptied, and what is missing is put back once an opening
+/// failed. Then both pages are there, each with its blob.
+pub fn leaves_damage(alloc: Global) -> Result<bool> {
+    let Some(size) = Config::new(256) else {
+        return Ok(false);
+    };
+    let commands = two_blobs(alloc)?;
+    let (made, device) = ran_over(alloc, size, MemDevice::new(alloc), &commands);
+    made?;
+    let mut device = device;
+    let mut log = vec![in alloc; 0; device.len()? as usize]?;
+    device.read_at(0, &mut log)?;
+    device.cut(0)?;
+    device.sync()?;
+    let (failed, device) = ran_over(alloc, size, device, &[Command::Open]);
+    let mut device = device;
+    let is_damage = matches!(
+        failed?.first(),
+        Some(Reply::Failed(Error::Corruption { at: None }))
+    );
+    let is_left = device.len()? == 0
+        && device.blobs()?.as_slice() == [20, 36].as_slice()
+        && device.snapshots()?.as_slice() == [36].as_slice();
+    device.write_at(0, &log)?;
+    let (opened, _) = ran_over(alloc, size, device, &[Command::Open]);
+    let is_back = match opened?.first() {
+        Some(reply) => is_opened(reply, Some(52), Some(0), 2),
+        None => false,
+    };
+    Ok(is_damage && is_left && is_back)
+}
+
+// A page with a blob is made durable, and a second one once the log was opened again, whose record the snapshot hasn't.
+fn two_blobs(alloc: Global) -> Result<Vec<Command>> {
+    let mut commands = Vec::new(alloc);
+    for page in 0..2 {
+        commands.push(Command::Open)?;
+        commands.push(Command::Replace(page, [1; 12].to_vec(alloc)?))?;
+        commands.push(Command::Complete(0))?;
+        commands.push(Command::Flush)?;
+        commands.push(Command::Halt)?;
+    }
+    Ok(commands)
+}
+
+// Runs commands by a session over a device, and gives that back.
+fn ran_over(
+    alloc: Global,
+    size: Config,
+    device: MemDevice,
+    commands: &[Command],
+) -> (std::result::Result<Vec<Reply>, AllocError>, MemDevice) {
+    let mut session = Session::new(alloc, size, device, PlaceSum);
+    let replies = session.run(commands);
+    (replies, session.end())
 }
 
 // A log is open that goes on there, with so many pages.

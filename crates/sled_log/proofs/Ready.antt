@@ -3,6 +3,8 @@ pub mod Convertible
 pub mod FileThere
 pub mod ReadToPlace
 pub mod RecoveredReady
+pub mod Restored
 pub mod SlotNamed
+pub mod Startable
 pub mod WholeBelow
 pub mod ZerosStay

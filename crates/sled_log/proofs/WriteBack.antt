@@ -1,4 +1,5 @@
 pub mod ForgetLemmas
+pub mod LongerFile
 pub mod RecoveryLater
 pub mod RestartCauses
 pub mod WriteLemmas

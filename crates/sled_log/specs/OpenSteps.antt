@@ -14,8 +14,8 @@ use Rattle.sled_core.specs.Good.{IsGood}
 use Rattle.sled_core.specs.Recoverable.{ReadsOnlyOwn}
 use Rattle.sled_log.specs.declared.session.command.Reply.{Reply}
 use Rattle.sled_log.specs.declared.session.command.Reply.TheVariants as reply
-use Rattle.sled_log.specs.Recovery.{RecoveryResult, Damaged, Recovered, Recovers}
-use Rattle.sled_log.specs.Restores.{RecoveryCalls}
+use Rattle.sled_log.specs.Recovery.{RecoveryResult, Recovered, Recovers}
+use Rattle.sled_log.specs.Restores.{MeetsDamage, RecoveryCalls}
 use Rattle.sled_log.specs.RunStates.{DeviceView, LogView, RunState, ShowsActive, length_of, recovered, started_on, closed}
 use Rattle.sled_log.specs.WritesBack.{HasWrittenBack}
 
@@ -30,10 +30,10 @@ abbrev pub IsStartCause : Error → ℕ → ℕ → Type 0
 IsStartCause PlacesUsedUp before after = after ≡ before
 IsStartCause e before after = IsCause e before after
 
--- Why a recovery fails, whatever the device has: at damage it only synced that, and else there is such a cause, and its calls were made up to one that failed.
+-- Why a recovery fails, whatever the device has: at damage it only synced the device, and else there is such a cause, and its calls were made up to one that failed.
 abbrev pub RecoveryFails : (List ℕ → ℕ) → ℕ → Error → DeviceView → DeviceView → Type 0
 RecoveryFails sum size (Corruption at) old new =
-    Recovers sum size (content_of (state_of old.trace)) Damaged × NamesDamage sum (state_of old.trace).blobs.file at
+    MeetsDamage sum size (content_of (state_of old.trace)) × NamesDamage sum (state_of old.trace).blobs.file at
     × (new.trace ≡ NamesSynced ∷ Synced ∷ old.trace) × (new.failures ≡ old.failures)
 RecoveryFails sum size e old new = IsCause e old.failures new.failures × RecoveryCalls sum size old.trace new.trace
 
@@ -77,11 +77,12 @@ module _ (sum : List ℕ → ℕ) (size : ℕ) where
     pub written : HasWrittenBack sum size conclusion (NamesSynced ∷ Synced ∷ old.trace) new.trace
     pub failures : new.failures ≡ old.failures
 
-  -- A recovery was made, and a log was started on what it shows, or wasn't.
+  -- A recovery was made that shows what a log can begin on, and one was started on it, or wasn't: so the start met no damage.
   pub record RecoversAndStarts (old : DeviceView) (r : Reply) (new : DeviceView) : Type 0 where
     pub snapshot : SnapshotModel
     pub mid : DeviceView
     pub recovers : HasRecovered old mid snapshot
+    pub begins : IsStartable size (length_of mid) snapshot
     pub starts : HasStarted size r mid snapshot new
 
   -- What an opening does to the device, whatever that has: that, or the recovery failed.

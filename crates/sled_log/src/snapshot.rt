@@ -1,5 +1,5 @@
 //! Recovery: what the device has, read into a table of pages (`specs/Recovery.antt`).
-ghost use Rattle.std.specs.Prelude.{◌↔◌, ◌≢◌, IsTrue, ◌≡◌, ◌⊎◌, ◌+◌, ◌^◌, ◌%◌, ◌≤◌, ◌<◌, ℕ, [], ◌∷◌, length, drop, map, IfOk, OnOk};
+ghost use Rattle.std.specs.Prelude.{true, ◌↔◌, ◌≢◌, IsTrue, ◌≡◌, ◌⊎◌, ◌+◌, ◌^◌, ◌%◌, ◌≤◌, ◌<◌, ℕ, [], ◌∷◌, length, drop, map, IfOk, OnOk};
 ghost use Rattle.sled_codec.specs.Errors.{IsCorruption};
 ghost use Rattle.sled_codec.specs.History.{History, below};
 ghost use Rattle.sled_codec.specs.Snapshots.{model_of, stable_place};
@@ -7,6 +7,7 @@ ghost use Rattle.sled_store.specs.Device.{state_of, content_of, Synced, NamesSyn
 ghost use Rattle.sled_store.specs.Moments.{IsLater, LeavesOnly};
 ghost use Rattle.sled_store.specs.Script.{Performs};
 ghost use Rattle.std.specs.List.{All};
+ghost use Rattle.sled_store.specs.Begin.{IsStartable};
 ghost use Rattle.sled_store.specs.Causes.{DeviceAnswers};
 ghost use Rattle.sled_core.specs.Causes.{ItemAnswersOver};
 ghost use Rattle.sled_core.specs.Good.{IsGood};
@@ -14,8 +15,8 @@ ghost use Rattle.sled_core.specs.Recoverable.{LeavesRecoverable, RecoverableIfOw
 ghost use Rattle.sled_core.specs.invariants.Recoverable.{Recoverable};
 ghost use Rattle.sled_core.specs.invariants.Running.{Ready};
 ghost use Rattle.sled_core.specs.Keeps.{ConfigKept, OnlyReads};
-ghost use Rattle.sled_log.specs.Restores.{ComesOf, RecoveryCalls, Restores};
-ghost use Rattle.sled_log.specs.Orderly.{CanRecover, IsOrderly, IsReadWell};
+ghost use Rattle.sled_log.specs.Restores.{ComesTo, MeetsDamage, RecoveryCalls, Restores, TakesForDamage};
+ghost use Rattle.sled_log.specs.Orderly.{CanRecover, IsOrderly, IsReadWell, RecoversFor};
 ghost use Rattle.sled_log.specs.Recovery.{least_place, IsOrdering, AreScanned, begun_below, Recovered, Damaged, Recovers};
 ghost use Rattle.sled_log.specs.Passes.{CanAllBeRead, ContinuesOn, IsPass, pass_of, AreLookedUp, MeetsBadTail, PassesBehind, PassesOn};
 ghost use Rattle.sled_log.specs.WritesBack.{result_of};
@@ -38,10 +39,11 @@ use crate::snapshot::recovery::Recovery;
 use crate::snapshot::replay::unchanged;
 use crate::snapshot::tail::{count_below, look_up, read_tail, tail_begins};
 use crate::snapshot::write_back::write_back;
-use sled_codec::result::Result;
+use sled_codec::result::{Error, Result};
 use sled_codec::serialization::Checksum;
 pub use sled_codec::serialization::snapshot::{Entry, PageState, Snapshot};
 use sled_core::iterator::Segment;
+use sled_store::segment::start::check_snapshot;
 use sled_store::{Device, RunningConfig};
 
 /// Recovers the table of pages from a device, and returns it. First it syncs the device. Then it reads the newest
@@ -85,21 +87,99 @@ pub fn read_snapshot_or_default<D: Device, C: Checksum>(
         (H : History) (A f : ℕ) → CanRecover C.sum_of size (state_of (D.trace config.old.device)) H A f
         → IfOk result (λ s. let cut = stable_place s.stable_lsn in Ready C.sum_of size new (model_of s) (below H cut) A cut) }
 {
-    read_and_write_back(config)
+    read_and_write_back(config, false)
 }
 
-/// Recovers what the device has, and writes back what is left to be written.
-fn read_and_write_back<D: Device, C: Checksum>(config: &mut RunningConfig<D, C>) -> Result<Snapshot>
-    ensures comes { ComesOf C.sum_of config.old.config.segment_size (D.trace config.old.device) (D.trace config.new.device) result }
+/// Recovers the table of pages from a device for a log that is to begin on it (`Log::start`), and returns it. It does what
+/// `read_snapshot_or_default` does, but it takes for damage, too, what no log can begin on (`IsStartable`): a table that
+/// names what isn't in the log file, as after that was cut off. So an opening that meets damage has written nothing, and
+/// what is missing can still be put back.
+///
+/// # Errors
+///
+/// Those of `read_snapshot_or_default`, and `Corruption` where no log can begin on what is recovered; nothing was written
+/// then either. Of what it gives `Log::start` never answers `Corruption`.
+pub fn read_startable_snapshot<D: Device, C: Checksum>(
+    config: &mut RunningConfig<D, C>,
+) -> Result<Snapshot>
+    ensures ok { IfOk result (λ s. Restores C.sum_of config.old.config.segment_size (D.trace config.old.device) (D.trace config.new.device) (model_of s)) }
+    ensures starts { IfOk result (λ s. IsStartable config.old.config.segment_size (length (state_of (D.trace config.new.device)).log.bytes) (model_of s)) }
+    ensures calls { RecoveryCalls C.sum_of config.old.config.segment_size (D.trace config.old.device) (D.trace config.new.device) }
+    ensures damage { IsCorruption result → MeetsDamage C.sum_of config.old.config.segment_size (content_of (state_of (D.trace config.old.device)))
+        × (D.trace config.new.device ≡ NamesSynced ∷ Synced ∷ D.trace config.old.device) }
+    ensures answers { ItemAnswersOver D.trace D.faults C.sum_of result config.old config.new }
+    ensures config { ConfigKept config.old config.new }
+    ensures recovers { let size = config.old.config.segment_size in let old = D.trace config.old.device in
+        (H : History) (A f : ℕ) → CanRecover C.sum_of size (state_of old) H A f → RecoversFor C.sum_of size H A f old (D.trace config.new.device) result }
+{
+    read_and_write_back(config, true)
+}
+
+/// Recovers what the device has, and writes back what is left to be written. It says whether a log is to begin on that.
+fn read_and_write_back<D: Device, C: Checksum>(
+    config: &mut RunningConfig<D, C>,
+    is_to_start: bool,
+) -> Result<Snapshot>
+    ensures comes { let size = config.old.config.segment_size in
+        ComesTo (TakesForDamage is_to_start C.sum_of size) C.sum_of size (D.trace config.old.device) (D.trace config.new.device) result }
+    ensures starts { let old = state_of (D.trace config.old.device) in
+        is_to_start ≡ true → IfOk result (λ s. IsStartable config.old.config.segment_size (length old.log.bytes) (model_of s)) }
     ensures answers { ItemAnswersOver D.trace D.faults C.sum_of result config.old config.new }
     ensures config { ConfigKept config.old config.new }
 {
     settle(&mut config.device)?;
-    match recover(config) {
+    match conclude(config, is_to_start) {
         Ok(recovery) => match write_back(config, &recovery) {
             Ok(()) => Ok(recovery.snapshot),
             Err(e) => Err(e),
         },
+        Err(e) => Err(e),
+    }
+}
+
+/// What recovery makes of what the device has. Where a log is to begin on that, it is damage if none can. It only reads.
+fn conclude<D: Device, C: Checksum>(
+    config: &mut RunningConfig<D, C>,
+    is_to_start: bool,
+) -> Result<Recovery>
+    ensures ok { let old = state_of (D.trace config.old.device) in
+        IfOk result (λ x. Recovers C.sum_of config.old.config.segment_size (content_of old) (Recovered (result_of x))) }
+    ensures starts { let old = state_of (D.trace config.old.device) in
+        is_to_start ≡ true → IfOk result (λ x. IsStartable config.old.config.segment_size (length old.log.bytes) (model_of x.snapshot)) }
+    ensures corrupt { let old = state_of (D.trace config.old.device) in
+        IsCorruption result → TakesForDamage is_to_start C.sum_of config.old.config.segment_size (content_of old) }
+    ensures answers { ItemAnswersOver D.trace D.faults C.sum_of result config.old config.new }
+    ensures reads { OnlyReads D.trace config.old config.new }
+{
+    match recover(config) {
+        Ok(recovery) => {
+            if is_to_start {
+                match require_startable(config, &recovery.snapshot) {
+                    Ok(()) => Ok(recovery),
+                    Err(e) => Err(e),
+                }
+            } else {
+                Ok(recovery)
+            }
+        }
+        Err(e) => Err(e),
+    }
+}
+
+/// Asks that a log can begin on what is recovered; else it is `Corruption`. It only reads.
+fn require_startable<D: Device, C: Checksum>(
+    config: &mut RunningConfig<D, C>,
+    snapshot: &Snapshot,
+) -> Result<()>
+    ensures startable { OnOk result (IsStartable config.old.config.segment_size (length (state_of (D.trace config.old.device)).log.bytes) (model_of snapshot.now)) }
+    ensures corrupt { let len = length (state_of (D.trace config.old.device)).log.bytes in
+        IsCorruption result → IsStartable config.old.config.segment_size len (model_of snapshot.now) → ⊥ }
+    ensures answers { DeviceAnswers result (D.faults config.old.device) (D.faults config.new.device) }
+    ensures reads { OnlyReads D.trace config.old config.new }
+{
+    let len = config.device.len()?;
+    match check_snapshot(config.alloc(), config.config.segment_size, len, snapshot) {
+        Ok(_) | Err(Error::PlacesUsedUp) => Ok(()),
         Err(e) => Err(e),
     }
 }

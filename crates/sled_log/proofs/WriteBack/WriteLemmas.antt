@@ -6,6 +6,7 @@ use Rattle.sled_store.specs.Blobs.{AreFrom, MayGo}
 use Rattle.sled_store.specs.Device.{Event, Trace, State, NamesState, SnapshotFilled, SnapshotPublished, Synced, NamesSynced, state_of, content_of}
 use Rattle.sled_store.specs.Script.{Performs, after_all}
 use Rattle.sled_log.specs.Recovery.{RecoveryResult, Outcome, Recovers}
+use Rattle.sled_log.specs.Restores.{TakesForDamage}
 use Rattle.sled_log.specs.WritesBack.{HasPublished, Publishes, HasCommitted, CommitsBehind, HasForgotten, Forgets, HasWrittenBack, WritesBack, WritesBehind, FitsIfNew, AreOthersIfNew, IsOnlySnapshot, IsWrittenBack}
 use Rattle.sled_log.specs.WritesBack.{short_file, snapshot_number_of, publishing_file, publishing, removing, shredding, committing, forgetting, forgotten_from, writing_back, AreOthers, MayBeRemoved, after_shredding, after_zeroing}
 use Rattle.sled_store.proofs.Traces.ScriptLemmas.{after_joined, performs_whole, performs_behind}
@@ -172,6 +173,10 @@ module _ (sum : List ℕ → ℕ) (old mid : Trace) (settled : mid ≡ NamesSync
       → Recovers sum size (content_of (state_of old)) o
   recovers_settled size o is =
       subst (λ (h : Trace). Recovers sum size (content_of (state_of h)) o) settled is
+
+  -- and what is taken for damage
+  pub damage_settled : (size : ℕ) (is_to_start : Bool) → TakesForDamage is_to_start sum size (content_of (state_of mid)) → TakesForDamage is_to_start sum size (content_of (state_of old))
+  damage_settled size is_to_start damage = subst (λ (h : Trace). TakesForDamage is_to_start sum size (content_of (state_of h))) settled damage
 
   -- the calls of both syncs
   abbrev syncs : List Event

@@ -10,7 +10,7 @@ ghost use Rattle.sled_log.specs.Openings.{Starts};
 use crate::session::Phase;
 use crate::session::command::Reply;
 use crate::session::opened::{Opened, Origin};
-use crate::snapshot::{Snapshot, read_snapshot_or_default};
+use crate::snapshot::{Snapshot, read_startable_snapshot};
 use sled_codec::serialization::Checksum;
 use sled_core::logger::Log;
 use sled_store::{Device, RunningConfig};
@@ -22,7 +22,7 @@ pub(crate) fn open<D: Device, C: Checksum>(config: RunningConfig<D, C>) -> (Phas
     ensures on { RunsOn D.trace config (running result.0) }
 {
     let mut config = config;
-    match read_snapshot_or_default(&mut config) {
+    match read_startable_snapshot(&mut config) {
         Ok(snapshot) => start(config, snapshot),
         Err(e) => (Phase::Closed(config), Reply::Failed(e)),
     }

@@ -1,14 +1,16 @@
-use Rattle.std.proofs.Common.{◌≡◌, ◌⊎◌, ◌∙◌, ℕ, [], ◌∷◌, refl, rules, inl, inr, sym, ap, subst, arith}
+use Rattle.std.proofs.Common.{◌≡◌, ◌⊎◌, ◌∙◌, ℕ, [], ◌∷◌, length, refl, rules, inl, inr, sym, ap, subst, arith}
+use Rattle.sled_codec.specs.Snapshots.{model_of}
+use Rattle.sled_store.specs.Begin.{IsStartable}
 use Rattle.sled_store.specs.Device.{Trace, Synced, NamesSynced, content_of, state_of}
 use Rattle.sled_store.specs.declared.config.Config.{Config}
 use Rattle.sled_store.specs.SnapshotFiles.{BeginsFrom}
 use Rattle.sled_store.proofs.Traces.ScriptLemmas.{performs_whole}
-use Rattle.sled_log.specs.Recovery.{RecoveryResult, Recovered, Damaged, Recovers}
+use Rattle.sled_log.specs.Recovery.{RecoveryResult, Recovered, Recovers}
 use Rattle.sled_log.specs.Restores.{BeginsAgain}
 use Rattle.sled_log.specs.WritesBack.{HasWrittenBack, IsWrittenBack, WritesBack, result_of}
 use Rattle.sled_log.proofs.Again.RecoversAgain.{recovers_again}
 use Rattle.sled_log.proofs.SnapshotFile.NewestLemmas.{begins_again}
-use Rattle.sled_log.proofs.WriteBack.WriteLemmas.{recovers_settled, writes_settled}
+use Rattle.sled_log.proofs.WriteBack.WriteLemmas.{damage_settled, recovers_settled, writes_settled}
 use Rattle.sled_log.proofs.snapshot.read_and_write_back.Goals as goal
 
 -- What recovery concludes was written back.
@@ -17,13 +19,13 @@ returns-in-Ok-write_back-clause-comes g c =
     let sum = g.C.Checksum.sum_of in
     let old : Trace = g.D.Device.trace c.args.config.now.device in
     let settled : Trace = g.D.Device.trace c.settle.new.device in
-    let mid : Trace = g.D.Device.trace c.recover.new.config.device in
+    let mid : Trace = g.D.Device.trace c.conclude.new.config.device in
     let new : Trace = g.D.Device.trace c.write_back.new.config.device in
     let size : ℕ = c.args.config.now.config.segment_size in
     let x : RecoveryResult = result_of c.in-Ok.recovery in
     let is_mid : mid ≡ NamesSynced ∷ Synced ∷ old = c.in-Ok.ensures.reads.unwritten ∙ c.in_ok-settle.ensures.done in
     let recovers = recovers_settled sum old settled c.in_ok-settle.ensures.done size (Recovered x) c.in-Ok.ensures.ok in
-    let sizes : c.recover.new.config.config.segment_size ≡ size = ap (λ (k : Config). k.segment_size) c.recover.ensures.reads.config in
+    let sizes : c.conclude.new.config.config.segment_size ≡ size = ap (λ (k : Config). k.segment_size) c.conclude.ensures.reads.config in
     let writes = writes_settled sum old mid is_mid size x new (subst (λ (n : ℕ). WritesBack sum n x mid new) sizes c.write_back.ensures.calls) in
     let back = c.in-Ok-write_back.ensures in
     let written = subst (λ (n : ℕ). IsWrittenBack sum n x (state_of mid) (state_of new)) sizes back.written in
@@ -52,12 +54,12 @@ pub returns-in-Err-write_back-clause-comes : goal.returns-in-Err-write_back-clau
 returns-in-Err-write_back-clause-comes g c =
     let sum = g.C.Checksum.sum_of in
     let old : Trace = g.D.Device.trace c.args.config.now.device in
-    let mid : Trace = g.D.Device.trace c.recover.new.config.device in
+    let mid : Trace = g.D.Device.trace c.conclude.new.config.device in
     let new : Trace = g.D.Device.trace c.write_back.new.config.device in
     let size : ℕ = c.args.config.now.config.segment_size in
     let x : RecoveryResult = result_of c.in-Ok.recovery in
     let recovers = recovers_settled sum old (g.D.Device.trace c.settle.new.device) c.in_ok-settle.ensures.done size (Recovered x) c.in-Ok.ensures.ok in
-    let sizes : c.recover.new.config.config.segment_size ≡ size = ap (λ (k : Config). k.segment_size) c.recover.ensures.reads.config in
+    let sizes : c.conclude.new.config.config.segment_size ≡ size = ap (λ (k : Config). k.segment_size) c.conclude.ensures.reads.config in
     let writes = writes_settled sum old mid (c.in-Ok.ensures.reads.unwritten ∙ c.in_ok-settle.ensures.done) size x new (subst (λ (n : ℕ). WritesBack sum n x mid new) sizes c.write_back.ensures.calls) in
     record { calls = inr (x, recovers, writes); ok = tt; corrupt = λ damaged. absurd (c.in-Err-write_back.ensures.readable damaged) }
 
@@ -65,12 +67,17 @@ returns-in-Err-write_back-clause-comes g c =
 pub returns-in-Err-clause-comes : goal.returns-in-Err-clause-comes
 returns-in-Err-clause-comes g c =
     let old : Trace = g.D.Device.trace c.args.config.now.device in
-    let is : g.D.Device.trace c.recover.new.config.device ≡ NamesSynced ∷ Synced ∷ old = c.recover.ensures.reads.unwritten ∙ c.in_ok-settle.ensures.done in
+    let is : g.D.Device.trace c.conclude.new.config.device ≡ NamesSynced ∷ Synced ∷ old = c.conclude.ensures.reads.unwritten ∙ c.in_ok-settle.ensures.done in
     record {
       calls = inl (performs_whole (Synced ∷ NamesSynced ∷ []) old _ is);
       ok = tt;
-      corrupt = λ damaged. (recovers_settled g.C.Checksum.sum_of old (g.D.Device.trace c.settle.new.device) c.in_ok-settle.ensures.done c.args.config.now.config.segment_size Damaged (c.in-Err.ensures.corrupt damaged), is);
+      corrupt = λ damaged. (damage_settled g.C.Checksum.sum_of old (g.D.Device.trace c.settle.new.device) c.in_ok-settle.ensures.done c.args.config.now.config.segment_size c.args.is_to_start (c.in-Err.ensures.corrupt damaged), is);
     }
 
 pub returns-in_err-settle-clause-comes : goal.returns-in_err-settle-clause-comes
 returns-in_err-settle-clause-comes g c = record { calls = inl c.settle.ensures.calls; ok = search rules; corrupt = λ damaged. absurd (search rules) }
+
+-- A log can begin on it, where one is to: syncs change no byte.
+pub returns-in-Ok-write_back-clause-starts : goal.returns-in-Ok-write_back-clause-starts
+returns-in-Ok-write_back-clause-starts g c = λ is.
+    subst (λ (h : Trace). IsStartable c.args.config.now.config.segment_size (length (state_of h).log.bytes) (model_of c.in-Ok.recovery.snapshot)) c.in_ok-settle.ensures.done (c.in-Ok.ensures.starts is)

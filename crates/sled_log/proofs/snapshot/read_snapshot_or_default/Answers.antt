@@ -5,13 +5,10 @@ use Rattle.sled_store.specs.Device.{Content, Trace, state_of, content_of}
 use Rattle.sled_core.specs.Good.{IsGood}
 use Rattle.sled_core.specs.Recoverable.{LeavesRecoverable}
 use Rattle.sled_core.specs.invariants.Running.{Ready}
-use Rattle.sled_core.proofs.Numbers.Lasting.{lasting_leaves}
 use Rattle.sled_core.proofs.Read.ReadingLemmas.{if_ok}
-use Rattle.sled_core.proofs.Start.StartedMoments.{ready_lasts}
-use Rattle.sled_log.proofs.Afterwards.LeftGood.{good_left}
-use Rattle.sled_log.proofs.Moments.RecoveryAlong.{can_read}
-use Rattle.sled_log.proofs.Ready.ComesBack.{holds_throughout, is_ready, reads_back}
+use Rattle.sled_log.proofs.Ready.ComesBack.{holds_throughout}
 use Rattle.sled_log.proofs.Ready.Convertible.{read_of}
+use Rattle.sled_log.proofs.Ready.Restored.{restored_good, restored_kept, restored_ready}
 use Rattle.sled_log.proofs.Recovers.RecoversGood.{read_undamaged, read_good}
 use Rattle.sled_log.proofs.WriteBack.RecoveryLater.{recovery_later}
 use Rattle.sled_log.proofs.snapshot.read_snapshot_or_default.Goals as goal
@@ -39,10 +36,7 @@ returns-clause-good g c = λ H A f can.
     let sum = g.C.Checksum.sum_of in
     let old : Trace = g.D.Device.trace c.args.config.now.device in
     let new : Trace = g.D.Device.trace c.read_and_write_back.new.config.device in
-    let back = reads_back sum config.segment_size config.least old H A f can new in
-    if_ok c.read_and_write_back.result _ (λ s. IsGood sum config.segment_size (content_of (state_of new)) H A f (model_of s)) (λ s ok.
-    subst (λ (x : SnapshotModel). IsGood sum config.segment_size (content_of (state_of new)) H A f x) (sym ok.model)
-    (good_left sum config.segment_size H A f config.least old (can_read sum config.segment_size H A f config.least old back can.own) can.own.zeros ok.conclusion ok.recovers (state_of new) ok.written))
+    if_ok c.read_and_write_back.result _ (λ s. IsGood sum config.segment_size (content_of (state_of new)) H A f (model_of s)) (λ s ok. restored_good sum config.segment_size config.least old H A f can new (model_of s) ok)
     c.read_and_write_back.ensures.comes.ok
 
 pub returns-clause-ready : goal.returns-clause-ready
@@ -53,19 +47,19 @@ returns-clause-ready g c = λ H A f can.
     let old : Trace = g.D.Device.trace c.args.config.now.device in
     let new : Trace = g.D.Device.trace c.read_and_write_back.new.config.device in
     if_ok c.read_and_write_back.result _ (λ s. Ready sum size (state_of new) (model_of s) (below H (stable_place s.stable_lsn)) A (stable_place s.stable_lsn)) (λ s ok.
-    is_ready sum size config.least old H A f can new (model_of s) ok)
+    restored_ready sum size config.least old H A f can new (model_of s) ok)
     c.read_and_write_back.ensures.comes.ok
 
 pub returns-clause-kept : goal.returns-clause-kept
-unfolding Ready
 returns-clause-kept g c = λ H A f can.
+    let config = c.args.config.now.config in
     let sum = g.C.Checksum.sum_of in
-    let size : ℕ = c.args.config.now.config.segment_size in
+    let size : ℕ = config.segment_size in
+    let old : Trace = g.D.Device.trace c.args.config.now.device in
     let new : Trace = g.D.Device.trace c.read_and_write_back.new.config.device in
-    if_ok c.read_and_write_back.result _ (λ s. LeavesRecoverable sum size (below H (stable_place s.stable_lsn)) A (stable_place s.stable_lsn) (state_of new)) (λ s ready.
-    let cut : ℕ = stable_place s.stable_lsn in
-    lasting_leaves sum size (below H cut) A cut (state_of new) (ready_lasts sum size new (model_of s) (below H cut) A cut c.args.config.now.config.least ready))
-    (returns-clause-ready g c H A f can)
+    if_ok c.read_and_write_back.result _ (λ s. LeavesRecoverable sum size (below H (stable_place s.stable_lsn)) A (stable_place s.stable_lsn) (state_of new)) (λ s ok.
+    restored_kept sum size config.least old H A f can new (model_of s) ok)
+    c.read_and_write_back.ensures.comes.ok
 
 pub returns-clause-later : goal.returns-clause-later
 returns-clause-later g c = recovery_later g.C.Checksum.sum_of c.args.config.now.config.segment_size _ _ c.read_and_write_back.ensures.comes.calls

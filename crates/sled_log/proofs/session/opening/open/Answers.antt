@@ -9,6 +9,7 @@ use Rattle.sled_codec.specs.Errors.{IsCorruption}
 use Rattle.sled_codec.specs.History.{History, below}
 use Rattle.sled_codec.specs.Snapshots.{SnapshotModel, model_of, stable_place}
 use Rattle.sled_store.specs.declared.config.Config.{Config}
+use Rattle.sled_store.specs.Begin.{IsStartable}
 use Rattle.sled_store.specs.Blobs.{ItemAnswers}
 use Rattle.sled_store.specs.Device.{NamesSynced, Synced, Trace, state_of, content_of}
 use Rattle.sled_store.specs.Moments.{LeavesOnly}
@@ -26,9 +27,8 @@ use Rattle.sled_log.specs.declared.session.command.Reply.TheVariants as reply
 use Rattle.sled_log.specs.Openings.{unreserved}
 use Rattle.sled_log.specs.OpenSteps.{GoesOnFrom, HasOpened, HasRecovered, HasStarted, RecoveryFails, SaysWhy, log_opened, starting}
 use Rattle.sled_log.specs.Orderly.{CanRecover}
-use Rattle.sled_log.specs.Recovery.{Damaged, Recovers}
 use Rattle.sled_log.specs.Refusals.{reason_of}
-use Rattle.sled_log.specs.Restores.{RecoveryCalls}
+use Rattle.sled_log.specs.Restores.{MeetsDamage, RecoveryCalls}
 use Rattle.sled_log.specs.RunPhases.{IsAt, IsClosedAt, IsRecoveredAt, Unstored, device_in, log_in, stands, view_by}
 use Rattle.sled_log.specs.RunStates.{DeviceView, RunState, ShowsActive, length_of, top, heads_on}
 use Rattle.sled_log.specs.Runs.{IsStep, StaysRecoverable, StaysWithin}
@@ -76,14 +76,14 @@ returns-in-Ok-clause-step g c = λ stopped. λ k at free.
     let view = view_by g.D.Device.trace g.D.Device.faults stopped in
     let given = c.args.config.config in
     let size : ℕ = given.segment_size in
-    let config = c.read_snapshot_or_default.new.config in
+    let config = c.read_startable_snapshot.new.config in
     let old : DeviceView = view c.args.config.device in
     let mid : DeviceView = view config.device in
     let new : DeviceView = device_in view c.start.result.0 in
     let s : SnapshotModel = model_of c.in-Ok.snapshot in
     let ok = c.in-Ok.ensures.ok in
     let a : RunState = record { device = old; history = k.history; acknowledged = k.acknowledged; floor = k.floor; log = None; due = None } in
-    let sizes : config.config.segment_size ≡ size = ap (λ (x : Config). x.segment_size) c.read_snapshot_or_default.ensures.config.config in
+    let sizes : config.config.segment_size ≡ size = ap (λ (x : Config). x.segment_size) c.read_startable_snapshot.ensures.config.config in
     let has : HasRecovered sum size old mid s = record { conclusion = ok.conclusion; recovers = ok.recovers; shown = ok.model; written = ok.done; failures = c.in-Ok.ensures.answers } in
     let starts = subst (λ n. HasStarted n c.start.result.1 mid s new) sizes (c.start.ensures.acts stopped) in
     let not_refused = not_refusing size mid s c.start.result.1 new starts in
@@ -93,15 +93,16 @@ returns-in-Ok-clause-step g c = λ stopped. λ k at free.
     let b : RunState = stands view c.start.result.0 l in
     let comes : ReadsOnlyOwn sum size (state_of old.trace) → GoesOnFrom sum size a mid s c.start.result.1 new b × IsAt trace sum c.start.result.0 l × StaysWithin sum size a command.Open new b = λ own.
     let can : CanRecover sum size (state_of old.trace) k.history k.acknowledged k.floor = record { orderly = at.made.orderly; left = at.left; own = own } in
-    let good = c.in-Ok.ensures.good k.history k.acknowledged k.floor can in
-    let kept = c.in-Ok.ensures.kept k.history k.acknowledged k.floor can in
+    let recovers = c.in-Ok.ensures.recovers k.history k.acknowledged k.floor can in
+    let good = recovers.good in
+    let kept = recovers.kept in
     let active : ShowsActive size cut s.active = subst (λ (x : SnapshotModel). ShowsActive size (stable_place x.stable) x.active) (sym ok.model)
     (shows_active sum size (content_of (state_of old.trace)) k.history k.acknowledged k.floor given.least (read_of sum size (content_of (state_of old.trace)) k.history k.acknowledged k.floor can.orderly (read_recoverable sum size old.trace own k.history k.acknowledged k.floor can.left)) ok.conclusion ok.recovers) in
     let recovered : IsRecoveredAt trace sum config s l = record {
       closed = subst (λ n. IsClosedAt sum n mid.trace l) (sym sizes) (record { made = made_below k.history cut at.made; left = kept });
       zeros = own.zeros;
       active = subst (λ n. ShowsActive n cut s.active) (sym sizes) active;
-      ready = subst (λ n. Ready sum n (state_of mid.trace) s H' k.acknowledged cut) (sym sizes) (c.in-Ok.ensures.ready k.history k.acknowledged k.floor can);
+      ready = subst (λ n. Ready sum n (state_of mid.trace) s H' k.acknowledged cut) (sym sizes) recovers.ready;
       floor = refl;
       table = table_below k.history cut s.pages (low_place c.in-Ok.snapshot.stable_lsn (λ z is. search rules)) good.table;
       ends = all_from_in (λ m. m.place + m.size ≤ cut) H'.messages (λ m there. let found = from_below k.history cut m there in good.fits.messages m found.0 found.1);
@@ -118,7 +119,7 @@ returns-in-Ok-clause-step g c = λ stopped. λ k at free.
       started.at,
       (
         mid.trace,
-        c.read_snapshot_or_default.ensures.recoverable k.history k.acknowledged k.floor can,
+        recovers.throughout,
         subst (λ n. StaysRecoverable sum n b mid.trace new.trace) sizes started.crash,
       ),
     ) in
@@ -126,23 +127,29 @@ returns-in-Ok-clause-step g c = λ stopped. λ k at free.
       not_refused = not_refused;
       next = l;
       step = opens sum size old new k.history k.acknowledged k.floor c.start.result.1 b not_refused
-          (record { opens = record { snapshot = s; mid = mid; recovers = has; starts = starts }; good = λ own. (comes own).0 });
+          (record { opens = record { snapshot = s; mid = mid; recovers = has; begins = c.in-Ok.ensures.starts; starts = starts }; good = λ own. (comes own).0 });
       at = λ own. (comes (own_read sum size (state_of old.trace) c.start.result.1 not_refused own)).1;
       crash = λ own. (comes (own_read sum size (state_of old.trace) c.start.result.1 not_refused own)).2;
     }
 
 pub returns-in-Ok-clause-on : goal.returns-in-Ok-clause-on
 returns-in-Ok-clause-on g c =
-    runs_on_both g.D.Device.trace c.args.config c.read_snapshot_or_default.new.config _
+    runs_on_both g.D.Device.trace c.args.config c.read_startable_snapshot.new.config _
     (record {
-      later = recovery_later g.C.Checksum.sum_of c.args.config.config.segment_size _ _ c.read_snapshot_or_default.ensures.calls;
-      kept = c.read_snapshot_or_default.ensures.config;
+      later = recovery_later g.C.Checksum.sum_of c.args.config.config.segment_size _ _ c.read_startable_snapshot.ensures.calls;
+      kept = c.read_startable_snapshot.ensures.config;
     })
     c.start.ensures.on
 
+pub returns-in-Err-clause-on : goal.returns-in-Err-clause-on
+returns-in-Err-clause-on g c = record {
+  later = recovery_later g.C.Checksum.sum_of c.args.config.config.segment_size _ _ c.read_startable_snapshot.ensures.calls;
+  kept = c.read_startable_snapshot.ensures.config;
+}
+
 -- A recovery that fails met damage, was refused memory, or its device failed.
 recovery_fails : (sum : List ℕ → ℕ) (size : ℕ) (e : Error) (old new : DeviceView) → ItemAnswers {T = Snapshot} sum (state_of old.trace).blobs.file (Err e) old.failures new.failures → RecoveryCalls sum size old.trace new.trace
-    → (IsCorruption {T = Snapshot} (Err e) → Recovers sum size (content_of (state_of old.trace)) Damaged × (new.trace ≡ NamesSynced ∷ Synced ∷ old.trace)) → RecoveryFails sum size e old new
+    → (IsCorruption {T = Snapshot} (Err e) → MeetsDamage sum size (content_of (state_of old.trace)) × (new.trace ≡ NamesSynced ∷ Synced ∷ old.trace)) → RecoveryFails sum size e old new
 recovery_fails sum size (error.Corruption at) old new answers calls damage = ((damage tt).0, answers.1, (damage tt).1, answers.0)
 recovery_fails sum size (error.Io e) old new answers calls damage = (answers, calls)
 recovery_fails sum size error.OutOfMemory old new answers calls damage = (answers, calls)
@@ -156,18 +163,18 @@ returns-in-Err-clause-step g c = λ stopped. λ k at free.
     let sum = g.C.Checksum.sum_of in
     let size : ℕ = c.args.config.config.segment_size in
     let old : Trace = trace c.args.config.device in
-    let new : Trace = trace c.read_snapshot_or_default.new.config.device in
+    let new : Trace = trace c.read_startable_snapshot.new.config.device in
     let can : ReadsOnlyOwn sum size (state_of old) → CanRecover sum size (state_of old) k.history k.acknowledged k.floor = λ own. record { orderly = at.made.orderly; left = at.left; own = own } in
-    let sizes : c.read_snapshot_or_default.new.config.config.segment_size ≡ size = ap (λ (x : Config). x.segment_size) c.read_snapshot_or_default.ensures.config.config in
+    let sizes : c.read_startable_snapshot.new.config.config.segment_size ≡ size = ap (λ (x : Config). x.segment_size) c.read_startable_snapshot.ensures.config.config in
     let recoverable : ReadsOnlyOwn sum size (state_of old) → LeavesOnly (RecoverableIfOwn sum size k.history k.acknowledged k.floor) old new = λ own.
-    c.read_snapshot_or_default.ensures.recoverable k.history k.acknowledged k.floor (can own) in
+    (c.read_startable_snapshot.ensures.recovers k.history k.acknowledged k.floor (can own)).throughout in
     record {
       not_refused = refl;
       next = k;
       step = inl (record {
-        fails = recovery_fails sum size c.in-Err.e (view c.args.config.device) (view c.read_snapshot_or_default.new.config.device) c.in-Err.ensures.answers c.read_snapshot_or_default.ensures.calls c.in-Err.ensures.corrupt;
+        fails = recovery_fails sum size c.in-Err.e (view c.args.config.device) (view c.read_startable_snapshot.new.config.device) c.in-Err.ensures.answers c.read_startable_snapshot.ensures.calls c.in-Err.ensures.damage;
         cause = λ own. cause_of Snapshot sum (state_of old).blobs.file c.in-Err.e _ _ c.in-Err.ensures.answers
-            (c.in-Err.ensures.read k.history k.acknowledged k.floor at.made.orderly (read_recoverable sum size old own k.history k.acknowledged k.floor at.left)).0;
+            (c.in-Err.ensures.recovers k.history k.acknowledged k.floor (can own)).undamaged;
         leads = refl;
       });
       at = λ own. record {
@@ -179,32 +186,33 @@ returns-in-Err-clause-step g c = λ stopped. λ k at free.
     }
 
 -- What an opening does to the device, whatever that has.
-device_acts : (sum : List ℕ → ℕ) (size : ℕ) (old mid new : DeviceView) (s : SnapshotModel) (r : Reply) → HasRecovered sum size old mid s → HasStarted size r mid s new → Touches sum size false command.Open r old new
-device_acts sum size old mid new s (reply.Opened stable active pages) has starts = record { snapshot = s; mid = mid; recovers = has; starts = starts }
-device_acts sum size old mid new s (reply.Failed e) has starts = inr (record { snapshot = s; mid = mid; recovers = has; starts = starts })
-device_acts sum size old mid new s _ has starts = absurd starts
+device_acts : (sum : List ℕ → ℕ) (size : ℕ) (old mid new : DeviceView) (s : SnapshotModel) (r : Reply) → HasRecovered sum size old mid s → IsStartable size (length_of mid) s → HasStarted size r mid s new
+    → Touches sum size false command.Open r old new
+device_acts sum size old mid new s (reply.Opened stable active pages) has begins starts = record { snapshot = s; mid = mid; recovers = has; begins = begins; starts = starts }
+device_acts sum size old mid new s (reply.Failed e) has begins starts = inr (record { snapshot = s; mid = mid; recovers = has; begins = begins; starts = starts })
+device_acts sum size old mid new s _ has begins starts = absurd starts
 
 pub returns-in-Ok-clause-device : goal.returns-in-Ok-clause-device
 returns-in-Ok-clause-device g c = λ stopped.
     let sum = g.C.Checksum.sum_of in
     let view = view_by g.D.Device.trace g.D.Device.faults stopped in
     let size : ℕ = c.args.config.config.segment_size in
-    let config = c.read_snapshot_or_default.new.config in
+    let config = c.read_startable_snapshot.new.config in
     let old : DeviceView = view c.args.config.device in
     let mid : DeviceView = view config.device in
     let new : DeviceView = device_in view c.start.result.0 in
     let s : SnapshotModel = model_of c.in-Ok.snapshot in
     let ok = c.in-Ok.ensures.ok in
-    let sizes : config.config.segment_size ≡ size = ap (λ (x : Config). x.segment_size) c.read_snapshot_or_default.ensures.config.config in
+    let sizes : config.config.segment_size ≡ size = ap (λ (x : Config). x.segment_size) c.read_startable_snapshot.ensures.config.config in
     let has : HasRecovered sum size old mid s = record { conclusion = ok.conclusion; recovers = ok.recovers; shown = ok.model; written = ok.done; failures = c.in-Ok.ensures.answers } in
     let starts = subst (λ n. HasStarted n c.start.result.1 mid s new) sizes (c.start.ensures.acts stopped) in
-    record { touches = device_acts sum size old mid new s c.start.result.1 has starts; opens = c.start.ensures.opens }
+    record { touches = device_acts sum size old mid new s c.start.result.1 has c.in-Ok.ensures.starts starts; opens = c.start.ensures.opens }
 
 pub returns-in-Err-clause-device : goal.returns-in-Err-clause-device
 returns-in-Err-clause-device g c = λ stopped.
     let view = view_by g.D.Device.trace g.D.Device.faults stopped in
-    let new : DeviceView = view c.read_snapshot_or_default.new.config.device in
+    let new : DeviceView = view c.read_startable_snapshot.new.config.device in
     record {
-      touches = inl (recovery_fails g.C.Checksum.sum_of c.args.config.config.segment_size c.in-Err.e (view c.args.config.device) new c.in-Err.ensures.answers c.read_snapshot_or_default.ensures.calls c.in-Err.ensures.corrupt);
+      touches = inl (recovery_fails g.C.Checksum.sum_of c.args.config.config.segment_size c.in-Err.e (view c.args.config.device) new c.in-Err.ensures.answers c.read_startable_snapshot.ensures.calls c.in-Err.ensures.damage);
       opens = refl;
     }
