@@ -21,6 +21,7 @@ pub mod PinsTaken
 pub mod Reading
 pub mod ReservedPlaces
 pub mod Reserving
+pub mod Resumed
 pub mod Rewriting
 pub mod RunHistories
 pub mod RunLemmas

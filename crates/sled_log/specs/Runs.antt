@@ -18,11 +18,12 @@ use Rattle.sled_store.specs.Moments.{IsLater, LeavesOnly}
 use Rattle.sled_store.specs.Noted.{left_of}
 use Rattle.sled_store.specs.Stops.{KeepsToStop}
 use Rattle.sled_core.specs.Manifests.{manifest_page}
-use Rattle.sled_core.specs.Recoverable.{NoForeign, ReadsOnlyOwn, RecoverableIfOwn}
+use Rattle.sled_core.specs.Recoverable.{LeavesRecoverable, NoForeign, ReadsOnlyOwn, RecoverableIfOwn}
 use Rattle.sled_log.specs.declared.session.command.Command.{Command}
 use Rattle.sled_log.specs.declared.session.command.Command.TheVariants as command
 use Rattle.sled_log.specs.declared.session.command.Reply.{Reply}
 use Rattle.sled_log.specs.declared.session.command.Reply.TheVariants as reply
+use Rattle.sled_log.specs.Made.{IsMade}
 use Rattle.sled_log.specs.OpenSteps.{OpenStep}
 use Rattle.sled_log.specs.ReadSteps.{ReadStep}
 use Rattle.sled_log.specs.Refusals.{reason_of, refusal_for}
@@ -49,6 +50,14 @@ CrashActs choice old _ new = ⊥
 abbrev pub CrashStep : RunState → Choice → Reply → DeviceView → RunState → Type 0
 CrashStep a choice (reply.Crashed taken) new b = CrashActs choice a.device (reply.Crashed taken) new × (b ≡ closed a new)
 CrashStep a choice r new b = CrashActs choice a.device r new × (b ≡ a)
+
+-- A run can go on where no log is open: the history is one that a session makes, and each content that a crash now leaves of the device can be recovered for
+-- it. So it is of what a session leaves (`Session::end`), and another one goes on from there (`Session::new`), over a device that was used before.
+pub record CanGoOn (sum : List ℕ → ℕ) (size : ℕ) (a : RunState) : Type 0 where
+  pub made : IsMade a.history
+  pub left : LeavesRecoverable sum size a.history a.acknowledged a.floor (state_of a.device.trace)
+  pub closed : a.log ≡ None
+  pub settled : a.due ≡ None
 
 -- The device is to be stopped within a call.
 abbrev pub StopStep : RunState → ℕ → Reply → DeviceView → RunState → Type 0

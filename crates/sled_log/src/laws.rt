@@ -10,11 +10,17 @@ ghost use Rattle.sled_codec.specs.Snapshots.{Page};
 ghost use Rattle.sled_codec.specs.WellFormed.{LieApart};
 ghost use Rattle.sled_store.specs.Chosen.{MayBeChosen};
 ghost use Rattle.sled_store.specs.declared.device.choice.Choice.{Choice};
-ghost use Rattle.sled_store.specs.Device.{Leaves, Settled, Trace, content_left, state_of};
+ghost use Rattle.sled_store.specs.Device.{Crashed, Leaves, Left, Settled, Trace, content_left, state_of};
 ghost use Rattle.sled_store.specs.Noted.{left_of};
+ghost use Rattle.sled_core.specs.Recoverable.{LeavesRecoverable, NoForeign};
+ghost use Rattle.sled_log.specs.Made.{IsMade};
 ghost use Rattle.sled_log.specs.Orderly.{IsOrderly};
 ghost use Rattle.sled_log.specs.PageHistories.{IsLastBeginning, MayAdd, of_pages};
 ghost use Rattle.sled_log.specs.Replaces.{HasLast, IsOfReplaces, MayCome};
+ghost use Rattle.sled_log.specs.RunStates.{DeviceView, RunState, closed};
+ghost use Rattle.sled_log.specs.Runs.{CanGoOn};
+
+use sled_codec::serialization::Checksum;
 
 /// A history of Replaces in the order of pages is one that recovery goes on from. It is one at first, behind each
 /// Replace that may come, and below each cut.
@@ -96,4 +102,13 @@ pub fn histories_stay_orderly()
     ensures none { IsOrderly no_history }
     ensures added { (H H' : History) (m : Message) → IsOrderly H → MayAdd H m → Step H (Completed m) H' → LieApart H'.messages → IsOrderly H' }
     ensures below { (H : History) (cut : ℕ) → IsOrderly H → IsOrderly (below H cut) }
+{}
+
+/// A run goes on behind a crash, also in a process of its own: what a crash leaves at a moment at which all that it leaves can be
+/// recovered (`Carries.crash`), and in which nothing is foreign, can be gone on from, by whoever finds it (`Session::new`).
+pub fn what_a_crash_leaves_can_be_gone_on_from<C: Checksum>()
+    ensures { (size : ℕ) (a : RunState) (trace : Trace) (left : Left) (device : DeviceView) → IsMade a.history
+        → LeavesRecoverable C.sum_of size a.history a.acknowledged a.floor (state_of trace)
+        → Leaves (state_of trace) (content_left left (state_of trace)) → NoForeign C.sum_of size (state_of trace) (content_left left (state_of trace))
+        → device.trace ≡ Crashed left ∷ trace → CanGoOn C.sum_of size (closed a device) }
 {}

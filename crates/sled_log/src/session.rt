@@ -47,14 +47,17 @@ impl<D: Device, C: Checksum> Session<D, C> {
     ghost use Rattle.sled_log.specs.Devices.{LeavesOn, StandsOver};
     ghost use Rattle.sled_log.specs.Refusals.{is_for_log};
     ghost use Rattle.sled_log.specs.RunStates.{DeviceView, RunState, begins_on, top};
-    ghost use Rattle.sled_log.specs.Runs.{CarriesOn};
+    ghost use Rattle.sled_log.specs.Runs.{CanGoOn, CarriesOn};
     ghost use Rattle.sled_log.specs.RunPhases.{StandsAt, segment_size_in, view_by};
 
-    /// Returns a session over a device that no log was written to, with no log open.
+    /// Returns a session over a device, with no log open. Either no log was written to the device, or it was left by a
+    /// session with this configuration and this checksum, at its end or by a crash: then the session goes on from there.
     pub fn new(alloc: Global, config: Config, device: D, checksum: C) -> Session<D, C>
         ensures size { segment_size_in result ≡ config.segment_size }
         ensures begins { (stopped : D → Bool) → let view = view_by D.trace D.faults stopped in
             state_of (D.trace device) ≡ fresh → StandsAt view C.sum_of result (begins_on (view device)) }
+        ensures resumes { (stopped : D → Bool) → let view = view_by D.trace D.faults stopped in
+            (a : RunState) → CanGoOn C.sum_of config.segment_size a → a.device ≡ view device → StandsAt view C.sum_of result a }
         ensures over { (stopped : D → Bool) → let view = view_by D.trace D.faults stopped in StandsOver view result false (view device) }
     {
         let config = RunningConfig::new(alloc, config, device, checksum);
@@ -100,13 +103,16 @@ impl<D: Device, C: Checksum> Session<D, C> {
 impl<D: Device, C: Checksum + Drop> Session<D, C> {
     ghost use Rattle.std.specs.Prelude.{◌≡◌, Bool};
     ghost use Rattle.sled_log.specs.Devices.{StandsOver};
-    ghost use Rattle.sled_log.specs.RunStates.{DeviceView, RunState};
-    ghost use Rattle.sled_log.specs.RunPhases.{StandsAt, view_by};
+    ghost use Rattle.sled_log.specs.RunStates.{DeviceView, RunState, closed};
+    ghost use Rattle.sled_log.specs.Runs.{CanGoOn};
+    ghost use Rattle.sled_log.specs.RunPhases.{StandsAt, segment_size_in, view_by};
 
     /// Closes the log that is open, if one is, and returns the device. What isn't durable is lost. It takes no memory.
     pub fn end(self) -> D
         ensures device { (stopped : D → Bool) → let view = view_by D.trace D.faults stopped in
             (a : RunState) → StandsAt view C.sum_of self a → a.device ≡ view result }
+        ensures left { (stopped : D → Bool) → let view = view_by D.trace D.faults stopped in
+            (a : RunState) → StandsAt view C.sum_of self a → CanGoOn C.sum_of (segment_size_in self) (closed a (view result)) }
         ensures over { (stopped : D → Bool) → let view = view_by D.trace D.faults stopped in
             (on : Bool) (device : DeviceView) → StandsOver view self on device → device ≡ view result }
     {
