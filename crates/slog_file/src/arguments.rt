@@ -9,53 +9,41 @@ use std::alloc::{AllocError, Global};
 /// The program's version.
 const VERSION: &str = "0.1.0";
 
-/// What the program is asked for.
+/// What the program is asked for: what is to be done with a folder.
 #[derive(Debug, Drop)]
-pub(crate) enum Asked {
-    /// Run the lines of standard input over a folder.
-    Run {
-        folder: String,
-    },
-    /// Show the pages that a recovery finds.
-    Pages {
-        folder: String,
-        is_json: bool,
-    },
-    /// Show all that the files hold.
-    Dump {
-        folder: String,
-        is_json: bool,
-    },
-    /// Show the messages from a place on.
-    Iter {
-        folder: String,
-        from: Lsn,
-        is_json: bool,
-    },
-    /// Say what a recovery would do, and what can't be read.
-    Check {
-        folder: String,
-        is_json: bool,
-    },
-    /// Print the items of a page.
-    Get {
-        folder: String,
-        page: PageId,
-    },
-    /// Print the items of all pages, as lines of JSON.
-    Export {
-        folder: String,
-    },
-    /// Write such lines from standard input into a folder.
-    Import {
-        folder: String,
-        size: Option<u64>,
-    },
-    /// Count what the files hold.
-    Stat {
-        folder: String,
-        is_json: bool,
-    },
+pub(crate) struct Asked {
+    pub(crate) folder: String,
+    pub(crate) act: Act,
+}
+
+/// What is done with a folder.
+#[derive(Debug, Clone, Copy)]
+pub(crate) enum Act {
+    /// Run the lines of standard input over it.
+    Run,
+    /// Write lines as an export prints them into it; a new one has segments of this size.
+    Import { size: Option<u64> },
+    /// Only read it.
+    Look(Look),
+}
+
+/// What is shown of a folder.
+#[derive(Debug, Clone, Copy)]
+pub(crate) enum Look {
+    /// The pages that a recovery finds.
+    Pages { is_json: bool },
+    /// All that the files hold.
+    Dump { is_json: bool },
+    /// The messages from a place on.
+    Iter { from: Lsn, is_json: bool },
+    /// What a recovery would do, and what can't be read.
+    Check { is_json: bool },
+    /// The items of a page.
+    Get { page: PageId },
+    /// The items of all pages, as lines of JSON.
+    Export,
+    /// How much the files hold.
+    Stat { is_json: bool },
 }
 
 /// What the words of the command line come to.
@@ -197,28 +185,35 @@ fn asked_of(
     found: &ArgMatches<'_>,
 ) -> std::result::Result<Option<Asked>, AllocError> {
     let folder = String::from_str(alloc, found.get_str("folder").unwrap_or(""))?;
-    let is_json = found.get_flag("json");
-    let asked = match name {
-        "run" => Asked::Run { folder },
-        "pages" => Asked::Pages { folder, is_json },
-        "dump" => Asked::Dump { folder, is_json },
-        "iter" => Asked::Iter {
-            folder,
-            from: found.get_one::<i64>("from").unwrap_or(0),
-            is_json,
-        },
-        "check" => Asked::Check { folder, is_json },
-        "get" => Asked::Get {
-            folder,
-            page: found.get_one::<u64>("page").unwrap_or(0),
-        },
-        "export" => Asked::Export { folder },
-        "import" => Asked::Import {
-            folder,
+    let act = match name {
+        "run" => Act::Run,
+        "import" => Act::Import {
             size: found.get_one::<u64>("size"),
         },
-        "stat" => Asked::Stat { folder, is_json },
-        _ => return Ok(None),
+        _ => match look_of(name, found) {
+            Some(look) => Act::Look(look),
+            None => return Ok(None),
+        },
     };
-    Ok(Some(asked))
+    Ok(Some(Asked { folder, act }))
+}
+
+// What a subcommand shows that only reads the folder.
+fn look_of(name: &str, found: &ArgMatches<'_>) -> Option<Look> {
+    let is_json = found.get_flag("json");
+    match name {
+        "pages" => Some(Look::Pages { is_json }),
+        "dump" => Some(Look::Dump { is_json }),
+        "iter" => Some(Look::Iter {
+            from: found.get_one::<i64>("from").unwrap_or(0),
+            is_json,
+        }),
+        "check" => Some(Look::Check { is_json }),
+        "get" => Some(Look::Get {
+            page: found.get_one::<u64>("page").unwrap_or(0),
+        }),
+        "export" => Some(Look::Export),
+        "stat" => Some(Look::Stat { is_json }),
+        _ => None,
+    }
 }

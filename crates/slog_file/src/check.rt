@@ -3,44 +3,46 @@
 mod findings;
 mod print;
 
+use crate::Ended;
 use crate::check::findings::{Findings, find_all};
 use crate::check::print::{print_json, print_text};
-use crate::content::{copied, found};
+use crate::content::{Folder, copied, found};
 use crate::json::Json;
 use crate::noted_device::NotedDevice;
 use crate::output::printed;
 use crate::progress::{Stage, Told};
-use crate::{Ended, size};
 use anyhow::{Error, Result, anyhow};
-use sled_file::Crc32;
-use sled_log::config::{Config, RunningConfig};
-use sled_log::device::Offer;
+use sled_log::config::RunningConfig;
+use sled_log::device::{Checksum, Offer};
 use std::alloc::Global;
 use std::io::{self, BufWriter, Write};
 
 /// What is checked: a copy of a folder in memory, which notes its changes.
-pub(crate) type Noted = RunningConfig<NotedDevice, Crc32>;
+pub(crate) type Noted<C> = RunningConfig<NotedDevice, C>;
 
 /// Recovers a copy in memory, opens a log on it, reads all messages of its pages, and prints what it finds.
-pub(crate) fn show(rt: &HostRuntime, folder: &str, is_json: bool) -> Result<Ended> {
-    let alloc = rt.alloc();
-    let size = size::of(rt, folder)?;
-    let mut told = Told::begin(rt, folder);
-    let content = found(rt, folder, &mut told)?;
+pub(crate) fn show<C: Checksum + Copy + Drop>(
+    rt: &HostRuntime,
+    folder: &Folder<'_, C>,
+    is_json: bool,
+) -> Result<Ended> {
+    let (alloc, path) = (rt.alloc(), folder.path);
+    let mut told = Told::begin(rt, path);
+    let content = found(rt, path, &mut told)?;
     told.enter(Stage::Copying);
-    let config = noted(alloc, folder, size, &content)?;
+    let config = noted(alloc, folder, &content)?;
     told.enter(Stage::Recovering);
     let mut findings = Findings::new(alloc);
-    let outcome = find_all(alloc, folder, config, &content.bytes, &mut findings);
+    let outcome = find_all(alloc, path, config, &content.bytes, &mut findings);
     let mut writer = BufWriter::new(alloc, io::writer(rt))?;
     if is_json {
-        printed(print_json(alloc, folder, &findings, &mut Json::new(&mut writer)))?;
+        printed(print_json(alloc, path, &findings, &mut Json::new(&mut writer)))?;
     } else {
         printed(print_text(&findings, &mut writer))?;
     }
     printed(writer.flush())?;
     outcome?;
-    ended(folder, &findings)
+    ended(path, &findings)
 }
 
 // How the program ends that found this.
@@ -58,7 +60,12 @@ fn unread(folder: &str, error: Error) -> Error {
 }
 
 // A copy of a folder, of which nothing was changed yet.
-fn noted(alloc: Global, folder: &str, size: Config, content: &Offer) -> Result<Noted> {
-    let device = NotedDevice::new(alloc, copied(alloc, folder, size, content)?);
-    Ok(RunningConfig::new(alloc, size, device, Crc32))
+fn noted<C: Checksum + Copy + Drop>(
+    alloc: Global,
+    folder: &Folder<'_, C>,
+    content: &Offer,
+) -> Result<Noted<C>> {
+    let config = folder.config;
+    let device = NotedDevice::new(alloc, copied(alloc, folder.path, config, content)?);
+    Ok(RunningConfig::new(alloc, config, device, folder.checksum))
 }

@@ -4,14 +4,14 @@ mod as_json;
 mod as_text;
 
 use crate::Ended;
-use crate::content::{Copied, load};
+use crate::content::{Copied, Folder, load};
 use crate::dump::as_json::JsonDump;
 use crate::dump::as_text::TextDump;
 use crate::named_files::{Faulty, blob_kind, snapshot_in};
 use crate::output::printed;
 use crate::records::{Slot, count_slots, read};
 use anyhow::Result;
-use sled_log::device::Device;
+use sled_log::device::{Checksum, Device};
 use sled_log::logger::{LogOffset, MessageKind};
 use sled_log::snapshot::Snapshot;
 use std::alloc::Global;
@@ -52,12 +52,16 @@ trait Dump {
 }
 
 /// Prints what the files of a folder hold.
-pub(crate) fn show(rt: &HostRuntime, folder: &str, is_json: bool) -> Result<Ended> {
+pub(crate) fn show<C: Checksum + Copy + Drop>(
+    rt: &HostRuntime,
+    folder: &Folder<'_, C>,
+    is_json: bool,
+) -> Result<Ended> {
     let alloc = rt.alloc();
     let mut config = load(rt, folder)?;
     let mut writer = BufWriter::new(alloc, io::writer(rt))?;
     if is_json {
-        print_json(alloc, folder, &mut config, &mut writer)?;
+        print_json(alloc, folder.path, &mut config, &mut writer)?;
     } else {
         tell(&mut config, &mut TextDump::new(&mut writer))?;
     }
@@ -66,24 +70,24 @@ pub(crate) fn show(rt: &HostRuntime, folder: &str, is_json: bool) -> Result<Ende
 }
 
 /// Prints it as one object of JSON.
-pub(crate) fn print_json<W: Write>(
+pub(crate) fn print_json<C: Checksum, W: Write>(
     alloc: Global,
     folder: &str,
-    config: &mut Copied,
+    config: &mut Copied<C>,
     writer: &mut W,
 ) -> Result<()> {
     tell(config, &mut JsonDump::new(alloc, folder, writer))
 }
 
 // Goes over all, and has it printed.
-fn tell<P: Dump>(config: &mut Copied, dump: &mut P) -> Result<()> {
+fn tell<C: Checksum, P: Dump>(config: &mut Copied<C>, dump: &mut P) -> Result<()> {
     tell_log(config, dump)?;
     tell_blobs(config, dump)?;
     tell_snapshots(config, dump)?;
     printed(dump.end())
 }
 
-fn tell_log<P: Dump>(config: &mut Copied, dump: &mut P) -> Result<()> {
+fn tell_log<C: Checksum, P: Dump>(config: &mut Copied<C>, dump: &mut P) -> Result<()> {
     let size = config.config.segment_size;
     printed(dump.log(config.device.len()?, size))?;
     for index in 0..count_slots(config)? {
@@ -94,7 +98,7 @@ fn tell_log<P: Dump>(config: &mut Copied, dump: &mut P) -> Result<()> {
     Ok(())
 }
 
-fn tell_blobs<P: Dump>(config: &mut Copied, dump: &mut P) -> Result<()> {
+fn tell_blobs<C: Checksum, P: Dump>(config: &mut Copied<C>, dump: &mut P) -> Result<()> {
     printed(dump.blobs())?;
     for place in config.device.blobs()? {
         let bytes = config.device.blob_read(place)?;
@@ -104,7 +108,7 @@ fn tell_blobs<P: Dump>(config: &mut Copied, dump: &mut P) -> Result<()> {
     Ok(())
 }
 
-fn tell_snapshots<P: Dump>(config: &mut Copied, dump: &mut P) -> Result<()> {
+fn tell_snapshots<C: Checksum, P: Dump>(config: &mut Copied<C>, dump: &mut P) -> Result<()> {
     printed(dump.snapshots())?;
     for number in config.device.snapshots()? {
         let bytes = config.device.snapshot_read(number)?;

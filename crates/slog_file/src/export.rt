@@ -1,11 +1,12 @@
 //! The items of all pages, a line of JSON for each page.
 
-use crate::content::{Copied, load_pages};
+use crate::content::{Copied, Folder, load_pages};
 use crate::entries::{Unread, read_items};
 use crate::json::Json;
 use crate::output::printed;
 use crate::{Ended, damage};
 use anyhow::{Error, Result};
+use sled_log::device::Checksum;
 use sled_log::result::PageId;
 use sled_log::snapshot::PageState;
 use slog_lines::text::hex;
@@ -13,18 +14,21 @@ use std::alloc::Global;
 use std::io::{self, BufWriter, Write};
 
 /// Prints all pages. The folder is only read. A page with a message that can't be read is told on standard error.
-pub(crate) fn show(rt: &HostRuntime, folder: &str) -> Result<Ended> {
+pub(crate) fn show<C: Checksum + Copy + Drop>(
+    rt: &HostRuntime,
+    folder: &Folder<'_, C>,
+) -> Result<Ended> {
     let (config, snapshot) = load_pages(rt, folder)?;
     let mut config = config;
     let mut writer = BufWriter::new(rt.alloc(), io::writer(rt))?;
     let mut ended = Ended::Well;
     for (number, page) in snapshot.pt.iter().enumerate() {
         let number = number as u64;
-        match read(rt.alloc(), folder, &mut config, number, page)? {
+        match read(rt.alloc(), folder.path, &mut config, number, page)? {
             Ok(content) => printed(print_page(rt.alloc(), number, &content, &mut writer))?,
             Err(unread) => {
                 ended = Ended::Damaged;
-                let error = damage::in_file(rt.alloc(), folder, &unread.damage());
+                let error = damage::in_file(rt.alloc(), folder.path, &unread.damage());
                 let _ = eprintln!(rt; "slog_file: {error:#}");
                 printed(print_page(rt.alloc(), number, &Content::Damaged, &mut writer))?;
             }
@@ -46,10 +50,10 @@ enum Content {
 }
 
 // Reads a page.
-fn read(
+fn read<C: Checksum>(
     alloc: Global,
     folder: &str,
-    config: &mut Copied,
+    config: &mut Copied<C>,
     number: PageId,
     page: &PageState,
 ) -> Result<std::result::Result<Content, Unread>> {

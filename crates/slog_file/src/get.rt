@@ -1,10 +1,11 @@
 //! The items of a page.
 
-use crate::content::{Copied, load_pages};
+use crate::content::{Copied, Folder, load_pages};
 use crate::entries::read_items;
 use crate::output::printed;
 use crate::{Ended, damage};
 use anyhow::{Error, Result, anyhow};
+use sled_log::device::Checksum;
 use sled_log::result::PageId;
 use sled_log::session::Reply;
 use sled_log::snapshot::{PageState, Snapshot};
@@ -13,11 +14,15 @@ use std::alloc::Global;
 use std::io::{self, BufWriter, Write};
 
 /// Prints a page as `read` of `run` prints it. The folder is only read.
-pub(crate) fn show(rt: &HostRuntime, folder: &str, page: PageId) -> Result<Ended> {
+pub(crate) fn show<C: Checksum + Copy + Drop>(
+    rt: &HostRuntime,
+    folder: &Folder<'_, C>,
+    page: PageId,
+) -> Result<Ended> {
     let alloc = rt.alloc();
     let (config, snapshot) = load_pages(rt, folder)?;
     let mut config = config;
-    let reply = read_page(alloc, folder, &mut config, &snapshot, page)?;
+    let reply = read_page(alloc, folder.path, &mut config, &snapshot, page)?;
     let mut writer = BufWriter::new(alloc, io::writer(rt))?;
     printed(print(alloc, &mut writer, &reply))?;
     printed(writer.flush())?;
@@ -25,10 +30,10 @@ pub(crate) fn show(rt: &HostRuntime, folder: &str, page: PageId) -> Result<Ended
 }
 
 // What a page of a table is.
-fn read_page(
+fn read_page<C: Checksum>(
     alloc: Global,
     folder: &str,
-    config: &mut Copied,
+    config: &mut Copied<C>,
     snapshot: &Snapshot,
     page: PageId,
 ) -> Result<Reply> {

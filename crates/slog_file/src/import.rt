@@ -4,11 +4,12 @@ ghost use Rattle.sled_log.specs.Refusals.{is_for_log};
 
 mod line;
 
+use crate::Ended;
 use crate::import::line::{Fault, Line, parse};
 use crate::output::printed;
 use crate::run::Runner;
-use crate::{Ended, size};
 use anyhow::{Error, Result, anyhow};
+use sled_file::FolderChecksum;
 use sled_log::config::Config;
 use sled_log::result::PageId;
 use sled_log::session::{Command, Reply};
@@ -22,15 +23,21 @@ const FLUSH_AT: usize = 1 << 20;
 
 /// Writes the lines of standard input into a folder, flushes, and tells how many pages there are. After a bad line the pages
 /// before it are kept.
-pub(crate) fn run(rt: &HostRuntime, folder: &str, size: Option<u64>) -> Result<Ended> {
-    let Some(config) = config_of(rt, folder, size)? else {
+pub(crate) fn run<C: FolderChecksum + Copy + Drop>(
+    rt: &HostRuntime,
+    folder: &str,
+    kept: Option<Config>,
+    size: Option<u64>,
+    checksum: C,
+) -> Result<Ended> {
+    let Some(config) = config_of(kept, size) else {
         let _ = eprintln!(rt; "slog_file: --size: a size is a power of two from 256 to 8388608");
         return Ok(Ended::Misread);
     };
     let mut import = Import {
         rt,
         folder,
-        runner: Runner::new(rt, folder),
+        runner: Runner::new(rt, folder, checksum),
         pages: 0,
         unflushed: 0,
     };
@@ -47,26 +54,26 @@ pub(crate) fn run(rt: &HostRuntime, folder: &str, size: Option<u64>) -> Result<E
     }
 }
 
-// The size of segments: that of the folder, or else the one that is asked for. `None` where that is no size.
-fn config_of(rt: &HostRuntime, folder: &str, size: Option<u64>) -> Result<Option<Config>> {
-    match (size, size::read(rt, folder)?) {
-        (None, Some(kept)) => Ok(Some(kept)),
-        (size, _) => Ok(Config::new(size.unwrap_or(DEFAULT_SIZE))),
+// The size of segments: the one that is asked for, or else that of the folder. `None` where that is no size.
+fn config_of(kept: Option<Config>, size: Option<u64>) -> Option<Config> {
+    match (size, kept) {
+        (None, Some(kept)) => Some(kept),
+        (size, _) => Config::new(size.unwrap_or(DEFAULT_SIZE)),
     }
 }
 
 // What lines are written with.
-struct Import<'r, 'f> {
+struct Import<'r, 'f, C> {
     rt: &'r HostRuntime,
     folder: &'f str,
-    runner: Runner<'r, 'f>,
+    runner: Runner<'r, 'f, C>,
     // How many pages were written.
     pages: u64,
     // How many bytes of items were written since they were flushed.
     unflushed: usize,
 }
 
-impl Import<'_, '_> {
+impl<C: FolderChecksum + Copy + Drop> Import<'_, '_, C> {
     // Ends the session. Returns the failure of the files, where one came.
     fn end(self) -> Option<Error> {
         let Import {

@@ -1,11 +1,12 @@
 //! The messages of the log file by place.
 
-use crate::content::{Copied, load};
+use crate::content::{Copied, Folder, load};
 use crate::json::Json;
 use crate::output::{output_error, printed};
 use crate::words::{Pointer, word_of_kind};
 use crate::{Ended, damage};
 use anyhow::Result;
+use sled_log::device::Checksum;
 use sled_log::iterator::raw_segment_iter_from;
 use sled_log::logger::{DiskPtr, LogKind};
 use sled_log::result::{Lsn, PageId};
@@ -13,7 +14,12 @@ use std::alloc::Global;
 use std::io::{self, BufWriter, Write};
 
 /// Prints the messages from the beginning of the segment that holds a place.
-pub(crate) fn show(rt: &HostRuntime, folder: &str, from: Lsn, is_json: bool) -> Result<Ended> {
+pub(crate) fn show<C: Checksum + Copy + Drop>(
+    rt: &HostRuntime,
+    folder: &Folder<'_, C>,
+    from: Lsn,
+    is_json: bool,
+) -> Result<Ended> {
     let mut config = load(rt, folder)?;
     let mut writer = BufWriter::new(rt.alloc(), io::writer(rt))?;
     let outcome = print_all(rt.alloc(), &mut config, from, is_json, &mut writer);
@@ -22,7 +28,7 @@ pub(crate) fn show(rt: &HostRuntime, folder: &str, from: Lsn, is_json: bool) -> 
         Ok(()) => Ok(Ended::Well),
         Err(Stop::Log(error)) => Err(damage::explained_behind(
             rt.alloc(),
-            folder,
+            folder.path,
             &mut config,
             from,
             error,
@@ -44,9 +50,9 @@ impl From<io::Error> for Stop {
     }
 }
 
-fn print_all<W: Write>(
+fn print_all<C: Checksum, W: Write>(
     alloc: Global,
-    config: &mut Copied,
+    config: &mut Copied<C>,
     from: Lsn,
     is_json: bool,
     writer: &mut W,

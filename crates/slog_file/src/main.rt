@@ -23,12 +23,15 @@ mod pages;
 mod progress;
 mod records;
 mod run;
-mod size;
 mod stat;
 mod words;
 
-use crate::arguments::{Asked, Wish, read_words};
-use anyhow::Result;
+use crate::arguments::{Act, Asked, Look, Wish, read_words};
+use crate::content::{Folder, opening_error};
+use anyhow::{Error, Result, anyhow};
+use sled_file::{Crc32, FolderChecksum, Format, LogCrc32, format_of};
+use sled_log::config::Config;
+use std::alloc::{AllocError, Global};
 use std::env;
 use std::process::ExitCode;
 
@@ -88,21 +91,78 @@ fn do_as_asked(rt: &HostRuntime) -> Result<Ended> {
     }
 }
 
-// Does what is asked.
+// Does what is asked, under the checksum that the folder is kept under. A folder that is new is begun under the second one.
+// No other function names the two: whatever is done with a folder is one function for both.
 fn carry_out(rt: &HostRuntime, asked: &Asked) -> Result<Ended> {
-    match asked {
-        Asked::Run { folder } => run::run(rt, folder.as_str()),
-        Asked::Pages { folder, is_json } => pages::show(rt, folder.as_str(), *is_json),
-        Asked::Dump { folder, is_json } => dump::show(rt, folder.as_str(), *is_json),
-        Asked::Iter {
-            folder,
-            from,
-            is_json,
-        } => iter::show(rt, folder.as_str(), *from, *is_json),
-        Asked::Get { folder, page } => get::show(rt, folder.as_str(), *page),
-        Asked::Export { folder } => export::show(rt, folder.as_str()),
-        Asked::Import { folder, size } => import::run(rt, folder.as_str(), *size),
-        Asked::Stat { folder, is_json } => stat::show(rt, folder.as_str(), *is_json),
-        Asked::Check { folder, is_json } => check::show(rt, folder.as_str(), *is_json),
+    let folder = asked.folder.as_str();
+    let format = match format_of(rt, folder) {
+        Ok(format) => format,
+        Err(error) => return Err(opening_error(error)),
+    };
+    let Some(Format { config, checksum }) = format else {
+        return act(rt, folder, None, LogCrc32, asked.act);
+    };
+    let name = checksum.as_str();
+    if name == Crc32.name() {
+        act(rt, folder, Some(config), Crc32, asked.act)
+    } else if name == LogCrc32.name() {
+        act(rt, folder, Some(config), LogCrc32, asked.act)
+    } else {
+        let (first, second) = (Crc32.name(), LogCrc32.name());
+        let error = anyhow!(
+            "the checksum is {name} here, and this program knows {first} and {second}"
+        );
+        Err(error.context(config_path(rt.alloc(), folder)?))
     }
+}
+
+// Does this with a folder, whose segments have this size, if it is there already.
+fn act<C: FolderChecksum + Copy + Drop>(
+    rt: &HostRuntime,
+    path: &str,
+    kept: Option<Config>,
+    checksum: C,
+    act: Act,
+) -> Result<Ended> {
+    match (act, kept) {
+        (Act::Run, _) => run::run(rt, path, kept, checksum),
+        (Act::Import { size }, _) => import::run(rt, path, kept, size, checksum),
+        (Act::Look(look), Some(config)) => {
+            let folder = Folder {
+                path,
+                config,
+                checksum,
+            };
+            show(rt, &folder, look)
+        }
+        (Act::Look(_), None) => Err(not_begun(rt.alloc(), path)?),
+    }
+}
+
+// Shows this of a folder.
+fn show<C: FolderChecksum + Copy + Drop>(
+    rt: &HostRuntime,
+    folder: &Folder<'_, C>,
+    look: Look,
+) -> Result<Ended> {
+    match look {
+        Look::Pages { is_json } => pages::show(rt, folder, is_json),
+        Look::Dump { is_json } => dump::show(rt, folder, is_json),
+        Look::Iter { from, is_json } => iter::show(rt, folder, from, is_json),
+        Look::Get { page } => get::show(rt, folder, page),
+        Look::Export => export::show(rt, folder),
+        Look::Stat { is_json } => stat::show(rt, folder, is_json),
+        Look::Check { is_json } => check::show(rt, folder, is_json),
+    }
+}
+
+// The error of a folder that was not begun.
+fn not_begun(alloc: Global, folder: &str) -> std::result::Result<Error, AllocError> {
+    let error = anyhow!("the file is missing, which 'run' makes at its first line 'size S'");
+    Ok(error.context(config_path(alloc, folder)?))
+}
+
+// The path of the file that says how a folder is kept.
+fn config_path(alloc: Global, folder: &str) -> std::result::Result<String, AllocError> {
+    format!(in alloc; "{folder}/config")
 }

@@ -1,22 +1,27 @@
 //! The pages that a recovery finds.
 
 use crate::Ended;
-use crate::content::load_pages;
+use crate::content::{Folder, load_pages};
 use crate::json::Json;
 use crate::output::printed;
 use crate::words::{Optional, Pointer};
 use anyhow::Result;
+use sled_log::device::Checksum;
 use sled_log::snapshot::{Entry, PageState, Snapshot};
 use std::alloc::Global;
 use std::io::{self, BufWriter, Write};
 
 /// Prints where the log goes on, and each page with its messages.
-pub(crate) fn show(rt: &HostRuntime, folder: &str, is_json: bool) -> Result<Ended> {
+pub(crate) fn show<C: Checksum + Copy + Drop>(
+    rt: &HostRuntime,
+    folder: &Folder<'_, C>,
+    is_json: bool,
+) -> Result<Ended> {
     let alloc = rt.alloc();
     let (_, snapshot) = load_pages(rt, folder)?;
     let mut writer = BufWriter::new(alloc, io::writer(rt))?;
     if is_json {
-        printed(print_json(alloc, folder, &snapshot, &mut Json::new(&mut writer)))?;
+        printed(print_json(alloc, folder.path, &snapshot, &mut Json::new(&mut writer)))?;
     } else {
         printed(as_text(&snapshot, &mut writer))?;
     }

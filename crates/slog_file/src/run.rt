@@ -6,11 +6,10 @@ use crate::bad_line::reason_of;
 use crate::content::opening_error;
 use crate::output::{output_error, printed};
 use crate::progress::Told;
-use crate::{Ended, damage, size};
+use crate::{Ended, damage};
 use anyhow::{Error, Result, anyhow};
-use sled_file::{Crc32, FileDevice, HostFolder, Unknown, open_told};
+use sled_file::{FileDevice, FolderChecksum, HostFolder, OpenError, Unknown, open_told};
 use sled_log::config::{Config, RunningConfig};
-use sled_log::device::Device;
 use sled_log::result::Error as LogError;
 use sled_log::session::{Command, Reply, Session};
 use slog_lines::line::{Asked, parse};
@@ -22,7 +21,7 @@ use std::io::{self, BufRead, BufReader, BufWriter, Write};
 type Files = FileDevice<HostFolder, Unknown>;
 
 // The size of segments, once it is known, and a session over the files of the folder.
-type Running = Option<(Config, Session<Files, Crc32>)>;
+type Running<C> = Option<(Config, Session<Files, C>)>;
 
 // Why the lines end before the input does.
 #[derive(Drop)]
@@ -59,21 +58,28 @@ impl<T: Drop> From<AllocFailed<T>> for Stop {
 }
 
 /// What a line is run with.
-pub(crate) struct Runner<'r, 'f> {
+pub(crate) struct Runner<'r, 'f, C> {
     rt: &'r HostRuntime,
     folder: &'f str,
-    running: Running,
+    checksum: C,
+    running: Running<C>,
     // An opening of the log met damage, which was told.
     is_damaged: bool,
 }
 
-/// Runs the lines of standard input over a folder, and prints a line for each on standard output.
-pub(crate) fn run(rt: &HostRuntime, folder: &str) -> Result<Ended> {
+/// Runs the lines of standard input over a folder, and prints a line for each on standard output. The folder's segments have
+/// the size `kept`, if it is there already.
+pub(crate) fn run<C: FolderChecksum + Copy + Drop>(
+    rt: &HostRuntime,
+    folder: &str,
+    kept: Option<Config>,
+    checksum: C,
+) -> Result<Ended> {
     let alloc = rt.alloc();
     let mut reader = BufReader::new(alloc, rt.reader())?;
     let mut writer = BufWriter::new(alloc, io::writer(rt))?;
-    let mut runner = Runner::new(rt, folder);
-    let outcome = runner.run_all(&mut reader, &mut writer);
+    let mut runner = Runner::new(rt, folder, checksum);
+    let outcome = runner.run_all(kept, &mut reader, &mut writer);
     let ended = runner.ended();
     let failure = runner.end();
     printed(writer.flush())?;
@@ -92,12 +98,17 @@ fn unless_failed(how: Ended, failure: Option<Error>, folder: &str) -> Result<End
     }
 }
 
-impl Runner<'_, '_> {
-    /// One over a folder that isn't open yet.
-    pub(crate) fn new<'r, 'f>(rt: &'r HostRuntime, folder: &'f str) -> Runner<'r, 'f> {
+impl<C: FolderChecksum + Copy + Drop> Runner<'_, '_, C> {
+    /// One over a folder that isn't open yet, and that is kept under this checksum.
+    pub(crate) fn new<'r, 'f>(
+        rt: &'r HostRuntime,
+        folder: &'f str,
+        checksum: C,
+    ) -> Runner<'r, 'f, C> {
         Runner {
             rt,
             folder,
+            checksum,
             running: None,
             is_damaged: false,
         }
@@ -117,6 +128,7 @@ impl Runner<'_, '_> {
         let Runner {
             rt: _,
             folder: _,
+            checksum: _,
             running,
             is_damaged: _,
         } = self;
@@ -125,13 +137,14 @@ impl Runner<'_, '_> {
         Some(Error::from(failure))
     }
 
-    // Opens the folder where it is kept already, and runs one line after another. Says which one is bad.
+    // Opens the folder if it is there already, and runs one line after another. Says which one is bad.
     fn run_all<R: BufRead, W: Write>(
         &mut self,
+        kept: Option<Config>,
         reader: &mut R,
         writer: &mut W,
     ) -> std::result::Result<(), Stop> {
-        if let Some(config) = size::read(self.rt, self.folder)? {
+        if let Some(config) = kept {
             self.open(config)?;
         }
         let mut line = Vec::new(self.rt.alloc());
@@ -178,27 +191,36 @@ impl Runner<'_, '_> {
         let Some(config) = Config::new(size) else {
             return Err(Stop::BadLine);
         };
-        if self.running.is_some() {
-            return Ok(size::agree(self.rt, self.folder, config, 0)?);
+        match &self.running {
+            Some((kept, _)) if kept.segment_size == config.segment_size => Ok(()),
+            Some((kept, _)) => Err(self.of_other_size(kept.segment_size, size)?),
+            None => Ok(self.open(config)?),
         }
-        Ok(self.open(config)?)
+    }
+
+    // The folder's segments have another size than is asked for.
+    fn of_other_size(&self, kept: u64, asked: u64) -> std::result::Result<Stop, AllocError> {
+        let folder = self.folder;
+        let path = format!(in self.rt.alloc(); "{folder}/config")?;
+        Ok(Stop::Failed(opening_error(OpenError::OtherSize { path, kept, asked })))
     }
 
     /// Opens the folder, and begins a session over its files.
     pub(crate) fn open(&mut self, config: Config) -> Result<()> {
         let mut told = Told::begin(self.rt, self.folder);
-        let mut files = match open_told(self.rt, self.folder, Unknown, &mut told) {
-            Ok(files) => files,
-            Err(error) => return Err(opening_error(error)),
-        };
-        size::agree(self.rt, self.folder, config, files.len()?)?;
-        self.begin(config, files);
-        Ok(())
+        let (rt, folder) = (self.rt, self.folder);
+        match open_told(rt, folder, config, &self.checksum, Unknown, &mut told) {
+            Ok(files) => {
+                self.begin(config, files);
+                Ok(())
+            }
+            Err(error) => Err(opening_error(error)),
+        }
     }
 
     // Begins a session over the files.
     fn begin(&mut self, config: Config, files: Files) {
-        let session = Session::new(self.rt.alloc(), config, files, Crc32);
+        let session = Session::new(self.rt.alloc(), config, files, self.checksum);
         if let Some((_, before)) = self.running.replace((config, session)) {
             let _ = before.end();
         }
@@ -244,7 +266,7 @@ impl Runner<'_, '_> {
     fn locate_damage(&mut self) -> Option<Error> {
         let alloc = self.rt.alloc();
         let (config, session) = self.running.take()?;
-        let mut config = RunningConfig::new(alloc, config, session.end(), Crc32);
+        let mut config = RunningConfig::new(alloc, config, session.end(), self.checksum);
         let error = damage::located(alloc, self.folder, &mut config);
         let size = config.config;
         self.begin(size, config.into_device());

@@ -1,12 +1,12 @@
 //! How much the files of a folder hold.
 
 use crate::Ended;
-use crate::content::{Copied, load, recovered};
+use crate::content::{Copied, Folder, load, recovered};
 use crate::json::Json;
 use crate::output::printed;
 use crate::records::{Slot, count_slots, read};
 use anyhow::Result;
-use sled_log::device::Device;
+use sled_log::device::{Checksum, Device};
 use sled_log::snapshot::{PageState, Snapshot};
 use std::alloc::Global;
 use std::io::{self, BufWriter, Write};
@@ -37,15 +37,19 @@ struct Counts {
 }
 
 /// Prints how much the files hold. The folder is only read.
-pub(crate) fn show(rt: &HostRuntime, folder: &str, is_json: bool) -> Result<Ended> {
+pub(crate) fn show<C: Checksum + Copy + Drop>(
+    rt: &HostRuntime,
+    folder: &Folder<'_, C>,
+    is_json: bool,
+) -> Result<Ended> {
     let alloc = rt.alloc();
     let mut config = load(rt, folder)?;
     let mut counts = Counts::of_files(&mut config)?;
-    let snapshot = recovered(alloc, folder, &mut config)?;
+    let snapshot = recovered(alloc, folder.path, &mut config)?;
     counts.add_pages(&snapshot);
     let mut writer = BufWriter::new(alloc, io::writer(rt))?;
     if is_json {
-        printed(as_json(alloc, folder, &counts, &mut Json::new(&mut writer)))?;
+        printed(as_json(alloc, folder.path, &counts, &mut Json::new(&mut writer)))?;
     } else {
         printed(as_text(&counts, &mut writer))?;
     }
@@ -55,7 +59,7 @@ pub(crate) fn show(rt: &HostRuntime, folder: &str, is_json: bool) -> Result<Ende
 
 impl Counts {
     // Counts what the files have, without the pages.
-    fn of_files(config: &mut Copied) -> Result<Counts> {
+    fn of_files<C: Checksum>(config: &mut Copied<C>) -> Result<Counts> {
         let (segments, used) = count_segments(config)?;
         Ok(Counts {
             segment_size: config.config.segment_size,
@@ -101,7 +105,7 @@ impl Counts {
 }
 
 // How many slots have a segment, and how many bytes their headers and records have.
-fn count_segments(config: &mut Copied) -> Result<(u64, u64)> {
+fn count_segments<C: Checksum>(config: &mut Copied<C>) -> Result<(u64, u64)> {
     let (mut segments, mut used) = (0u64, 0u64);
     for index in 0..count_slots(config)? {
         let slot = index.saturating_mul(config.config.segment_size);
@@ -113,7 +117,7 @@ fn count_segments(config: &mut Copied) -> Result<(u64, u64)> {
     Ok((segments, used))
 }
 
-fn count_blobs(config: &mut Copied) -> Result<Files> {
+fn count_blobs<C: Checksum>(config: &mut Copied<C>) -> Result<Files> {
     let mut files = Files { count: 0, bytes: 0 };
     for place in config.device.blobs()? {
         files.add(config.device.blob_read(place)?.len());
@@ -121,7 +125,7 @@ fn count_blobs(config: &mut Copied) -> Result<Files> {
     Ok(files)
 }
 
-fn count_snapshots(config: &mut Copied) -> Result<Files> {
+fn count_snapshots<C: Checksum>(config: &mut Copied<C>) -> Result<Files> {
     let mut files = Files { count: 0, bytes: 0 };
     for number in config.device.snapshots()? {
         files.add(config.device.snapshot_read(number)?.len());

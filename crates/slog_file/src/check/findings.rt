@@ -5,6 +5,7 @@ use crate::damage;
 use crate::entries::{Unread, find_unread};
 use crate::noted_device::{Change, NotedDevice};
 use anyhow::{Error, Result, anyhow};
+use sled_log::device::Checksum;
 use sled_log::logger::Log;
 use sled_log::snapshot::{Snapshot, read_snapshot_or_default};
 use std::alloc::{AllocError, Global};
@@ -45,10 +46,10 @@ impl Findings {
 }
 
 /// Recovers, opens a log on what comes of that, and reads each message of its pages. The log file had these bytes.
-pub(crate) fn find_all(
+pub(crate) fn find_all<C: Checksum + Drop>(
     alloc: Global,
     folder: &str,
-    config: Noted,
+    config: Noted<C>,
     log: &[u8],
     findings: &mut Findings,
 ) -> Result<()> {
@@ -66,10 +67,10 @@ pub(crate) fn find_all(
 }
 
 // Opens a log on what was recovered, and reads the messages of its pages.
-fn open(
+fn open<C: Checksum + Drop>(
     alloc: Global,
     folder: &str,
-    config: Noted,
+    config: Noted<C>,
     snapshot: &Snapshot,
     log: &[u8],
     findings: &mut Findings,
