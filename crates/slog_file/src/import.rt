@@ -86,12 +86,13 @@ impl<C: FolderChecksum + Copy + Drop> Import<'_, '_, C> {
         runner.end()
     }
 
-    // Opens the folder, writes all lines, and flushes.
+    // Opens the folder, writes all lines, flushes, and has a snapshot published.
     fn all(&mut self, config: Config) -> Result<Ended> {
         self.runner.open(config)?;
         self.begin()?;
         let ended = self.lines()?;
         self.flush()?;
+        self.runner.settle()?;
         Ok(ended)
     }
 

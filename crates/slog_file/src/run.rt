@@ -63,6 +63,8 @@ pub(crate) struct Runner<'r, 'f, C> {
     folder: &'f str,
     checksum: C,
     running: Running<C>,
+    // A recovery may find something else than the last one did, since a command came between.
+    is_changed: bool,
     // An opening of the log met damage, which was told.
     is_damaged: bool,
 }
@@ -80,21 +82,12 @@ pub(crate) fn run<C: FolderChecksum + Copy + Drop>(
     let mut writer = BufWriter::new(alloc, io::writer(rt))?;
     let mut runner = Runner::new(rt, folder, checksum);
     let outcome = runner.run_all(kept, &mut reader, &mut writer);
-    let ended = runner.ended();
+    let ended = runner.settled(outcome);
     let failure = runner.end();
     printed(writer.flush())?;
-    match outcome {
-        Err(Stop::Failed(error)) => Err(error),
-        Err(Stop::BadLine) => unless_failed(Ended::Misread, failure, folder),
-        Ok(()) => unless_failed(ended, failure, folder),
-    }
-}
-
-// How the program ends, unless the files failed.
-fn unless_failed(how: Ended, failure: Option<Error>, folder: &str) -> Result<Ended> {
     match failure {
         Some(error) => Err(error.context(folder)),
-        None => Ok(how),
+        None => ended,
     }
 }
 
@@ -110,17 +103,21 @@ impl<C: FolderChecksum + Copy + Drop> Runner<'_, '_, C> {
             folder,
             checksum,
             running: None,
+            is_changed: false,
             is_damaged: false,
         }
     }
 
-    // How the program ends if all lines were read.
-    fn ended(&self) -> Ended {
-        if self.is_damaged {
-            Ended::Damaged
-        } else {
-            Ended::Well
-        }
+    // How the program ends behind its lines, unless the files failed. Behind a bad line the folder is settled too.
+    fn settled(&mut self, outcome: std::result::Result<(), Stop>) -> Result<Ended> {
+        let ended = match outcome {
+            Err(Stop::Failed(error)) => return Err(error),
+            Err(Stop::BadLine) => Ended::Misread,
+            Ok(()) if self.is_damaged => Ended::Damaged,
+            Ok(()) => Ended::Well,
+        };
+        self.settle()?;
+        Ok(ended)
     }
 
     /// Ends the session, if one was begun. Returns the failure of the files that came first, if one came.
@@ -130,6 +127,7 @@ impl<C: FolderChecksum + Copy + Drop> Runner<'_, '_, C> {
             folder: _,
             checksum: _,
             running,
+            is_changed: _,
             is_damaged: _,
         } = self;
         let (_, session) = running?;
@@ -174,16 +172,27 @@ impl<C: FolderChecksum + Copy + Drop> Runner<'_, '_, C> {
         match parse(alloc, line)? {
             Some(Asked::Size(size)) if is_first => self.take_size(size),
             Some(Asked::Command(command)) if is_for_files(&command) => {
-                let is_open = matches!(command, Command::Open);
-                let reply = self.run_command(&command)?;
-                if is_open {
-                    self.hear_opening(&reply);
-                }
+                let reply = self.reply_to(&command)?;
                 print(alloc, writer, &reply)?;
                 Ok(writer.flush()?)
             }
             _ => Err(Stop::BadLine),
         }
+    }
+
+    // Runs a command of a line. Behind a halt a snapshot is published, and the halt fails if that does. Damage that an opening
+    // meets is told.
+    fn reply_to(&mut self, command: &Command) -> std::result::Result<Reply, Stop>
+        requires { is_for_log command.now ≡ true }
+    {
+        let reply = match self.run_command(command)? {
+            Reply::Halted => self.publish()?,
+            reply => reply,
+        };
+        if matches!(command, Command::Open | Command::Halt) {
+            self.hear_opening(&reply);
+        }
+        Ok(reply)
     }
 
     // Takes the size of segments, which has to be that of the folder where it is kept already.
@@ -224,6 +233,36 @@ impl<C: FolderChecksum + Copy + Drop> Runner<'_, '_, C> {
         if let Some((_, before)) = self.running.replace((config, session)) {
             let _ = before.end();
         }
+    }
+
+    /// Ends the session in order: the log is closed, if it is open, and the folder's newest snapshot has all that is durable
+    /// then. What isn't durable is lost.
+    pub(crate) fn settle(&mut self) -> Result<()> {
+        if self.is_settled() {
+            return Ok(());
+        }
+        self.answer(Command::Halt)?;
+        match self.publish()? {
+            Reply::Failed(error) => Err(self.explained(error)),
+            _ => Ok(()),
+        }
+    }
+
+    // Has the newest snapshot have all that is durable, while no log is open: one is opened, which publishes what it recovers,
+    // and closed again. The reply is `Halted`, or that of an opening that failed.
+    fn publish(&mut self) -> Result<Reply> {
+        if self.is_settled() {
+            return Ok(Reply::Halted);
+        }
+        match self.answer(Command::Open)? {
+            Reply::Opened { .. } => self.answer(Command::Halt),
+            reply => Ok(reply),
+        }
+    }
+
+    // Whether one more recovery would publish nothing: it would find what the last one did, or damage that was told already.
+    fn is_settled(&self) -> bool {
+        !self.is_changed || self.is_damaged
     }
 
     // Tells on standard error where the folder is damaged, if that is why an opening of the log failed.
@@ -278,9 +317,24 @@ impl<C: FolderChecksum + Copy + Drop> Runner<'_, '_, C> {
         requires { is_for_log command.now ≡ true }
     {
         match &mut self.running {
-            Some((_, session)) => Ok(session.carry_out(command)),
+            Some((_, session)) => {
+                let reply = session.carry_out(command);
+                self.is_changed = is_changed(self.is_changed, command, &reply);
+                Ok(reply)
+            }
             None => Err(Stop::BadLine),
         }
+    }
+}
+
+// Whether a recovery may find something else than the last one did, once a command had this reply; before it that was so or
+// wasn't.
+fn is_changed(before: bool, command: &Command, reply: &Reply) -> bool {
+    match (command, reply) {
+        (_, Reply::Opened { .. }) => false,
+        (_, Reply::Refused(_)) => before,
+        (Command::Open | Command::Read(_) | Command::Halt, _) => before,
+        _ => true,
     }
 }
 
