@@ -9,6 +9,27 @@ use std::alloc::{AllocError, Global};
 /// The program's version.
 const VERSION: &str = "0.1.0";
 
+/// What the help of `run` says of its lines.
+const LINES: &str = "\
+Lines, each of which is answered by one (docs/SLOG.md):
+  size S         first, and in a new folder: segments of S bytes, a power of two from 256 to 8388608
+  open           recover what is there, and open a log
+  replace P HEX  reserve a message that replaces page P by these bytes; a new page is the next one from 0
+  link P HEX     reserve one that adds them to the page
+  free P         reserve one that gives the page back
+  rewrite P      reserve one that is the page's one item again, which stays in its blob
+  begin          begin a batch
+  end            end it
+  complete T     complete the message of ticket T
+  abort T        give it up
+  flush          make all that was reserved durable
+  stable L       make place L durable, and all before it
+  write I        write the I-th sealed buffer
+  read P         print the items of page P
+  halt           close the log; what isn't durable is lost
+
+The folder's newest snapshot has all that is durable behind a halt and at the end.";
+
 /// What the program is asked for: what is to be done with a folder.
 #[derive(Debug, Drop)]
 pub(crate) struct Asked {
@@ -93,7 +114,7 @@ fn command<'a>(alloc: Global) -> std::result::Result<Command<'a>, AllocError> {
         .about("A segment log in a folder, run by lines of text, or looked at")
         .version(VERSION)
         .subcommand_required(true)
-        .subcommand(over(alloc, "run", "Run the lines of standard input")?)?
+        .subcommand(over(alloc, "run", "Run the lines of standard input")?.after_help(LINES))?
         .subcommand(get(alloc)?)?
         .subcommand(over(
             alloc,

@@ -85,16 +85,29 @@ pub(crate) fn print_json<W: Write>(
     json.end_line()
 }
 
-// A page is the list of its messages, and a page that was given back has none.
+// A page is the list of its messages, or where it was given back an object for the message that did so.
 fn page_as_json<W: Write>(page: &PageState, json: &mut Json<'_, W>) -> io::Result<()> {
-    json.open("[")?;
-    if let PageState::Present { base, frags } = page {
-        entry_as_json(base, json)?;
-        for entry in frags {
-            entry_as_json(entry, json)?;
+    match page {
+        PageState::Present { base, frags } => {
+            json.open("[")?;
+            entry_as_json(base, json)?;
+            for entry in frags {
+                entry_as_json(entry, json)?;
+            }
+            json.close("]")
+        }
+        PageState::Free(place, pointer) => {
+            json.open("{")?;
+            json.flag("free")?;
+            json.place("place", *place)?;
+            json.pointer(*pointer)?;
+            json.close("}")
+        }
+        PageState::Uninitialized => {
+            json.open("[")?;
+            json.close("]")
         }
     }
-    json.close("]")
 }
 
 fn entry_as_json<W: Write>(entry: &Entry, json: &mut Json<'_, W>) -> io::Result<()> {
