@@ -3,6 +3,7 @@ acknowledged, and hold against that what a later opening finds.
 """
 import dataclasses
 import os
+import re
 import shutil
 import subprocess
 import threading
@@ -118,6 +119,8 @@ class Session:
         # While the line of a number runs, what it adds may be there, but what it acknowledges needn't.
         self.while_running = []
         self.tickets, self.batch, self.forgotten, self.ended = [], None, [], None
+        # how many bytes the first opening told that it drops
+        self.dropped = 0
         self.send(f"size {size}")
 
     def send(self, line):
@@ -185,7 +188,7 @@ class Session:
         return told[1]
 
     def end(self):
-        """Ends the lines. Returns the status, and what was printed that nothing asked for, but for how far an opening is."""
+        """Ends the lines. Returns the status, and what was printed that nothing asked for, but for how far an opening is and what it drops."""
         if self.ended is None:
             try:
                 self.child.stdin.close()
@@ -196,7 +199,10 @@ class Session:
             self.watch.cancel()
             self.child.stdout.close()
             self.child.stderr.close()
-            self.ended = status, "".join(line for line in said.splitlines(True) if not line.endswith(("bytes are read\n", "are being read\n")))
+            said = "".join(line for line in said.splitlines(True) if not line.endswith(("bytes are read\n", "are being read\n")))
+            if found := re.search("^slog_file: .*/log: ([0-9]+) (byte that isn't zero is|bytes that aren't zeros are) dropped\n", said, re.M):
+                self.dropped, said = int(found[1]), said.replace(found[0], "")
+            self.ended = status, said
         return self.ended
 
     def end_well(self):

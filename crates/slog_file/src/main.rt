@@ -9,6 +9,7 @@ mod bad_line;
 mod check;
 mod content;
 mod damage;
+mod dropped;
 mod dump;
 mod entries;
 mod export;

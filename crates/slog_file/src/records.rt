@@ -77,6 +77,14 @@ pub(crate) struct Walk {
     pub(crate) ending: Ending,
 }
 
+/// Which records of a slot are kept.
+#[derive(Debug, Clone, Copy, PartialEq)]
+pub(crate) enum Kept {
+    All,
+    /// Those that begin a batch.
+    Batches,
+}
+
 /// What a slot of the log file is.
 #[derive(Debug, Drop)]
 pub(crate) enum Slot {
@@ -126,13 +134,31 @@ pub(crate) fn read<D: Device, C: Checksum>(
         Some(place) => Ok(Slot::Segment {
             place,
             mark,
-            walk: walk_over(config, &buf, place)?,
+            walk: walk_over(config, &buf, place, Kept::All)?,
         }),
         None => Ok(Slot::Misplaced {
             place: header.lsn,
             mark,
         }),
     }
+}
+
+/// The place and the mark of the segment whose header stands at an offset; `None` where no header passes, or where none can
+/// begin at its place.
+pub(crate) fn head_at<D: Device, C: Checksum>(
+    config: &mut RunningConfig<D, C>,
+    slot: LogOffset,
+) -> Result<Option<(u64, Lsn)>> {
+    let mut bytes = [0u8; SEG_HEADER_LEN];
+    if config.device.read_at(slot, &mut bytes)? < SEG_HEADER_LEN {
+        return Ok(None);
+    }
+    let header = SegmentHeader::from_bytes(&bytes, &config.checksum);
+    if !header.ok {
+        return Ok(None);
+    }
+    let place = begins_at(config.config.segment_size, header.lsn);
+    Ok(place.map(|place| (place, header.max_stable_lsn)))
 }
 
 /// The place of a segment, where one of this size can begin there.
@@ -152,6 +178,7 @@ pub(crate) fn walk_over<D: Device, C: Checksum>(
     config: &mut RunningConfig<D, C>,
     buf: &BasedBuf,
     place: u64,
+    kept: Kept,
 ) -> Result<Walk> {
     let mut records = Vec::new(config.alloc());
     let mut at = SEG_HEADER_LEN as u64;
@@ -159,7 +186,9 @@ pub(crate) fn walk_over<D: Device, C: Checksum>(
         match step_at(config, buf, place, at)? {
             Step::Meets(record) => {
                 at = at.saturating_add(record.len);
-                records.push(record)?;
+                if kept == Kept::All || record.peg.is_some() {
+                    records.push(record)?;
+                }
             }
             Step::Ends(ending) => {
                 return Ok(Walk {
@@ -308,6 +337,15 @@ fn refused(alloc: Global, spot: &Spot<'_>) -> Ending {
 /// Whether bytes are zeros alone.
 pub(crate) fn is_zeros(bytes: &[u8]) -> bool {
     bytes.iter().all(|byte| *byte == 0)
+}
+
+/// How many of so many bytes from an offset on aren't zeros.
+pub(crate) fn count_nonzero(bytes: &[u8], at: u64, len: u64) -> u64 {
+    let Some((_, behind)) = bytes.split_at_checked(at as usize) else {
+        return 0;
+    };
+    let count = behind.len().min(len as usize);
+    behind.iter().take(count).filter(|byte| **byte != 0).count() as u64
 }
 
 /// The word for a kind of record.

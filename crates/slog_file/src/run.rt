@@ -4,6 +4,7 @@ ghost use Rattle.sled_log.specs.Refusals.{is_for_log};
 
 use crate::bad_line::reason_of;
 use crate::content::opening_error;
+use crate::dropped::count_dropped;
 use crate::output::{output_error, printed};
 use crate::progress::Told;
 use crate::{Ended, damage};
@@ -67,6 +68,8 @@ pub(crate) struct Runner<'r, 'f, C> {
     is_changed: bool,
     // An opening of the log met damage, which was told.
     is_damaged: bool,
+    // How many bytes the first opening drops that aren't zeros, until that is told.
+    dropped: u64,
 }
 
 /// Runs the lines of standard input over a folder, and prints a line for each on standard output. The folder's segments have
@@ -105,6 +108,7 @@ impl<C: FolderChecksum + Copy + Drop> Runner<'_, '_, C> {
             running: None,
             is_changed: false,
             is_damaged: false,
+            dropped: 0,
         }
     }
 
@@ -129,6 +133,7 @@ impl<C: FolderChecksum + Copy + Drop> Runner<'_, '_, C> {
             running,
             is_changed: _,
             is_damaged: _,
+            dropped: _,
         } = self;
         let (_, session) = running?;
         let failure = session.end().failure()?;
@@ -220,7 +225,9 @@ impl<C: FolderChecksum + Copy + Drop> Runner<'_, '_, C> {
         let (rt, folder) = (self.rt, self.folder);
         match open_told(rt, folder, config, &self.checksum, Unknown, &mut told) {
             Ok(files) => {
-                self.begin(config, files);
+                let mut running = RunningConfig::new(rt.alloc(), config, files, self.checksum);
+                self.dropped = count_dropped(&mut running).unwrap_or(0);
+                self.begin(config, running.into_device());
                 Ok(())
             }
             Err(error) => Err(opening_error(error)),
@@ -263,6 +270,22 @@ impl<C: FolderChecksum + Copy + Drop> Runner<'_, '_, C> {
     // Whether one more recovery would publish nothing: it would find what the last one did, or damage that was told already.
     fn is_settled(&self) -> bool {
         !self.is_changed || self.is_damaged
+    }
+
+    // Tells on standard error how many bytes the first opening dropped that weren't zeros: they were damaged, or nobody was told
+    // that they are durable.
+    fn tell_dropped(&mut self) {
+        let folder = self.folder;
+        let _ = match self.dropped {
+            0 => return,
+            1 => eprintln!(self.rt; "slog_file: {folder}/log: 1 byte that isn't zero is dropped"),
+            count => {
+                eprintln!(self.rt;
+                    "slog_file: {folder}/log: {count} bytes that aren't zeros are dropped"
+                )
+            }
+        };
+        self.dropped = 0;
     }
 
     // Tells on standard error where the folder is damaged, if that is why an opening of the log failed.
@@ -320,6 +343,9 @@ impl<C: FolderChecksum + Copy + Drop> Runner<'_, '_, C> {
             Some((_, session)) => {
                 let reply = session.carry_out(command);
                 self.is_changed = is_changed(self.is_changed, command, &reply);
+                if let Reply::Opened { .. } = &reply {
+                    self.tell_dropped();
+                }
                 Ok(reply)
             }
             None => Err(Stop::BadLine),

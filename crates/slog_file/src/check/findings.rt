@@ -4,6 +4,7 @@ use crate::check::Noted;
 use crate::damage;
 use crate::entries::{Unread, find_unread};
 use crate::noted_device::{Change, NotedDevice};
+use crate::records::count_nonzero;
 use anyhow::{Error, Result, anyhow};
 use sled_log::device::Checksum;
 use sled_log::logger::Log;
@@ -124,13 +125,4 @@ fn with_counts(
         })?;
     }
     Ok(effects)
-}
-
-// How many bytes of the log file in a range aren't zeros.
-fn count_nonzero(log: &[u8], at: u64, len: u64) -> u64 {
-    let Some((_, behind)) = log.split_at_checked(at as usize) else {
-        return 0;
-    };
-    let count = behind.len().min(len as usize);
-    behind.iter().take(count).filter(|byte| **byte != 0).count() as u64
 }

@@ -67,8 +67,8 @@ fn find_from<D: Device, C: Checksum>(
     over_parts(config, &parts, begin, table)
 }
 
-// The newest snapshot.
-fn newest<D: Device, C: Checksum>(
+/// The newest snapshot, or what is wrong with it.
+pub(crate) fn newest<D: Device, C: Checksum>(
     config: &mut RunningConfig<D, C>,
 ) -> Result<std::result::Result<Snapshot, Damage>> {
     let numbers = config.device.snapshots()?;
@@ -127,8 +127,8 @@ fn ordered<D: Device, C: Checksum>(
     }
 }
 
-// Whether a place is not below another.
-fn is_from(place: Lsn, least: u64) -> bool {
+/// Whether a place is not below another.
+pub(crate) fn is_from(place: Lsn, least: u64) -> bool {
     match u64::try_from(place) {
         Ok(place) => place >= least,
         Err(_) => false,
