@@ -13,8 +13,9 @@ use std::io::{self, ErrorKind, Read};
 // How many bytes are read at a time.
 const CHUNK: usize = 65536;
 
-// Reads all files of the folder. Where it is held alone, each blob and each snapshot is synced before it is read: what is
-// found counts as durable then.
+// Reads all files of the folder. Where it is held alone, what is found counts as durable: so each snapshot is synced before
+// it is read, and each blob whose place isn't below the newest snapshot's number. Those below it are durable already, since
+// a log syncs each blob before it publishes a snapshot above it (`README.md`, "What has to be believed").
 pub(crate) fn read_all<P: Progress>(
     place: &Place<'_>,
     handles: &Handles,
@@ -28,25 +29,43 @@ pub(crate) fn read_all<P: Progress>(
     if let Err(error) = read_log(place.rt.alloc(), &handles.log, &mut found.log, progress) {
         return Err(place.failed("log", "the file can't be read", error));
     }
-    let blobs = Numbered {
-        place,
-        name: names.blobs.as_str(),
-        told: "blobs",
-        holding,
-    };
-    for number in blobs.numbers()? {
-        found.blobs.put(number, blobs.read(number)?)?;
-    }
     let snapshots = Numbered {
         place,
         name: names.snapshots.as_str(),
         told: "snapshots",
-        holding,
+        synced_from: from_if_alone(holding, i64::MIN),
     };
-    for number in snapshots.numbers()? {
+    let published = snapshots.numbers()?;
+    let blobs = Numbered {
+        place,
+        name: names.blobs.as_str(),
+        told: "blobs",
+        synced_from: from_if_alone(holding, newest(&published)),
+    };
+    for number in blobs.numbers()? {
+        found.blobs.put(number, blobs.read(number)?)?;
+    }
+    for number in published {
         found.snapshots.put(number, snapshots.read(number)?)?;
     }
     Ok(found)
+}
+
+// The number from which on files are synced, where the folder is held alone; else none is.
+fn from_if_alone(holding: Holding, from: i64) -> Option<i64> {
+    match holding {
+        Holding::Alone => Some(from),
+        Holding::Shared => None,
+    }
+}
+
+// The greatest of these numbers, and the least that there is where there are none.
+fn newest(numbers: &[i64]) -> i64 {
+    let mut newest = i64::MIN;
+    for number in numbers {
+        newest = newest.max(*number);
+    }
+    newest
 }
 
 // Reads the log file.
@@ -82,7 +101,8 @@ struct Numbered<'a> {
     name: &'a str,
     // What errors call it.
     told: &'a str,
-    holding: Holding,
+    // The number from which on a file is synced before it is read, if any is.
+    synced_from: Option<i64>,
 }
 
 impl Numbered<'_> {
@@ -112,7 +132,7 @@ impl Numbered<'_> {
             Ok(file) => file,
             Err(error) => return Err(self.failed(number, "the file can't be opened", error)),
         };
-        if let Holding::Alone = self.holding {
+        if self.is_synced(number) {
             if let Err(error) = file.sync_all() {
                 return Err(self.failed(number, "the file can't be synced", error));
             }
@@ -121,6 +141,14 @@ impl Numbered<'_> {
         match file.read_to_end(&mut bytes) {
             Ok(_) => Ok(bytes),
             Err(error) => Err(self.failed(number, "the file can't be read", error)),
+        }
+    }
+
+    // Whether the file of a number is synced before it is read.
+    fn is_synced(&self, number: i64) -> bool {
+        match self.synced_from {
+            Some(from) => from <= number,
+            None => false,
         }
     }
 
