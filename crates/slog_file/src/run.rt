@@ -68,7 +68,7 @@ pub(crate) struct Runner<'r, 'f, C> {
     is_changed: bool,
     // An opening of the log met damage, which was told.
     is_damaged: bool,
-    // How many bytes the first opening drops that aren't zeros, until that is told.
+    // How many bytes the first opening drops that aren't zeros, until that is told; 0 if memory was refused to the counting.
     dropped: u64,
 }
 
