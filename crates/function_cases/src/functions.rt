@@ -91,6 +91,12 @@ fn hold_sessions(alloc: Global, tally: &mut Tally<'_>) {
         "damage is left",
         known(sessions::leaves_damage(alloc)),
     );
+    holds(
+        tally,
+        46,
+        "the numbers of tickets",
+        known(sessions::numbers_tickets(alloc)),
+    );
 }
 
 // Buffers that are written in every order.

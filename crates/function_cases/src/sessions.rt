@@ -168,6 +168,84 @@ fn is_item(reply: &Reply, bytes: &[u8]) -> bool {
     }
 }
 
+// How many tickets are spent one after the other, and how many are open at once: one a page.
+const SPENT: usize = 10_000;
+
+const PAGES: usize = 1000;
+
+/// A session numbers its tickets from 0 on. Behind ten thousand that are spent each of a thousand that are open at once
+/// ends its own message, in whatever order, and none of them twice.
+pub fn numbers_tickets(alloc: Global) -> Result<bool> {
+    let Some(size) = Config::new(256) else {
+        return Ok(false);
+    };
+    let mut session = Session::new(alloc, size, MemDevice::new(alloc), PlaceSum);
+    let opened = session.carry_out(&Command::Open);
+    let are_spent = spends_each(alloc, &mut session);
+    let are_own = spends_all(alloc, &mut session);
+    session.end();
+    Ok(is_opened(&opened, None, None, 0) && are_spent? && are_own?)
+}
+
+// Each is spent before the next one is given, and what is there is written now and then.
+fn spends_each(alloc: Global, session: &mut Session<MemDevice, PlaceSum>) -> Result<bool> {
+    for number in 0..SPENT {
+        let page = number % PAGES;
+        let replace = Command::Replace(page as u64, [7].to_vec(alloc)?);
+        let reserved = session.carry_out(&replace);
+        let done = session.carry_out(&Command::Complete(number));
+        if !is_given(&reserved, number) || !matches!(done, Reply::Done(_, _)) {
+            return Ok(false);
+        }
+        if page == 0 && !matches!(session.carry_out(&Command::Flush), Reply::Flushed(_)) {
+            return Ok(false);
+        }
+    }
+    Ok(true)
+}
+
+fn is_given(reserved: &Reply, wanted: usize) -> bool {
+    match reserved {
+        Reply::Reserved(number, _, _) => *number == wanted,
+        _ => false,
+    }
+}
+
+// One is given for each page, and they are spent in another order.
+fn spends_all(alloc: Global, session: &mut Session<MemDevice, PlaceSum>) -> Result<bool> {
+    let mut places = Vec::new(alloc);
+    for page in 0..PAGES {
+        let replace = Command::Replace(page as u64, [7].to_vec(alloc)?);
+        let reserved = session.carry_out(&replace);
+        match reserved {
+            Reply::Reserved(number, place, _) if number == SPENT + page => places.push(place)?,
+            _ => return Ok(false),
+        }
+    }
+    for turn in 0..PAGES {
+        let page = turn * 377 % PAGES;
+        if !ends_own(session, SPENT + page, places.get(page)) {
+            return Ok(false);
+        }
+    }
+    Ok(true)
+}
+
+// The ticket's message is the one at that place, and the ticket is spent then.
+fn ends_own(
+    session: &mut Session<MemDevice, PlaceSum>,
+    number: usize,
+    wanted: Option<&i64>,
+) -> bool {
+    let done = session.carry_out(&Command::Complete(number));
+    let again = session.carry_out(&Command::Abort(number));
+    let is_own = match (done, wanted) {
+        (Reply::Done(place, _), Some(wanted)) => place == *wanted,
+        _ => false,
+    };
+    is_own && matches!(again, Reply::Refused(Refusal::Ticket))
+}
+
 /// A log keeps the failure with which a flush ends, and no other one; and its device is stopped then.
 pub fn keeps_failure(alloc: Global) -> Result<bool> {
     let Some(size) = Config::new(256) else {

@@ -16,6 +16,7 @@ pub mod MadePages
 pub mod MadeStable
 pub mod MadeTables
 pub mod MoreTickets
+pub mod NumberedTickets
 pub mod OpenApart
 pub mod PinsTaken
 pub mod Reading

@@ -11,7 +11,7 @@ use Rattle.sled_store.specs.declared.segment.slot.CacheInfo.{CacheInfo}
 use Rattle.sled_core.specs.Fits.{IsOpen}
 use Rattle.sled_core.specs.Manifests.{manifest_page}
 use Rattle.sled_log.specs.declared.session.opened.Opened.{Opened}
-use Rattle.sled_log.specs.declared.session.opened.Ticket.{Ticket}
+use Rattle.sled_log.specs.declared.session.tickets.Ticket.{Ticket}
 use Rattle.sled_log.specs.SessionMarks.{replacing, told_state}
 
 -- The table.

@@ -5,6 +5,7 @@ pub mod IteratorBegins
 pub mod Made
 pub mod Marking
 pub mod OpenSteps
+pub mod OpenTickets
 pub mod Openings
 pub mod Ordering
 pub mod Orderly

@@ -27,7 +27,7 @@ use Rattle.sled_log.specs.declared.session.Session.{Session}
 use Rattle.sled_log.specs.declared.session.Phase.{Phase}
 use Rattle.sled_log.specs.declared.session.Phase.TheVariants.{Closed, Open}
 use Rattle.sled_log.specs.declared.session.opened.Opened.{Opened}
-use Rattle.sled_log.specs.declared.session.opened.Ticket.{Ticket}
+use Rattle.sled_log.specs.declared.session.tickets.Ticket.{Ticket}
 use Rattle.sled_log.specs.declared.session.marking.Due.{Due}
 use Rattle.sled_log.specs.declared.session.command.Command.{Command}
 use Rattle.sled_log.specs.declared.session.command.Reply.{Reply}

@@ -14,6 +14,7 @@ mod opening;
 mod reading;
 mod reserving;
 mod step;
+mod tickets;
 mod writing;
 
 use crate::session::carrying::{carry_out, close};

@@ -10,7 +10,7 @@ use Rattle.sled_codec.specs.Snapshots.{Page, Uninitialized, page_of}
 use Rattle.sled_core.specs.Fits.{IsOpen}
 use Rattle.sled_core.proofs.Holds.Nth.{set_get}
 use Rattle.sled_log.specs.declared.session.opened.Opened.{Opened}
-use Rattle.sled_log.specs.declared.session.opened.Ticket.{Ticket}
+use Rattle.sled_log.specs.declared.session.tickets.Ticket.{Ticket}
 use Rattle.sled_log.specs.Endings.{HasRoomOn, TakesTicket, batch_left, put_at}
 
 -- The table.

@@ -47,7 +47,7 @@ use Rattle.sled_core.specs.Waiting.{last_of, spans, start_in, unwritten}
 use Rattle.sled_core.proofs.PublicLaws.{kept_further, not_in_blob}
 use Rattle.sled_log.specs.declared.session.marking.Due.{Due}
 use Rattle.sled_log.specs.declared.session.opened.Opened.{Opened}
-use Rattle.sled_log.specs.declared.session.opened.Ticket.{Ticket}
+use Rattle.sled_log.specs.declared.session.tickets.Ticket.{Ticket}
 use Rattle.sled_log.specs.declared.session.command.Reply.{Reply}
 use Rattle.sled_log.specs.declared.session.command.Reply.TheVariants as reply
 use Rattle.sled_log.specs.declared.session.Phase.TheVariants as phase

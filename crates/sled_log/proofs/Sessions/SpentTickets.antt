@@ -14,7 +14,7 @@ use Rattle.sled_core.specs.OpenPlaces.{TakesOut}
 use Rattle.sled_core.proofs.Holds.Nth.{set_other, set_get}
 use Rattle.sled_store.specs.Device.{Trace}
 use Rattle.sled_log.specs.declared.session.opened.Opened.{Opened}
-use Rattle.sled_log.specs.declared.session.opened.Ticket.{Ticket}
+use Rattle.sled_log.specs.declared.session.tickets.Ticket.{Ticket}
 use Rattle.sled_log.specs.Endings.{batch_left}
 use Rattle.sled_log.specs.Made.{MayJoin}
 use Rattle.sled_log.specs.RunPhases.{AreRising, BeginsBatch, HasBatch, HasTickets, IsSafe, IsTicketFor}

@@ -1,13 +1,14 @@
 -- Which tickets are open, and whether a batch is, is seen of the messages that are awaited.
-use Rattle.std.proofs.Common.{◌≡◌, ◌≢◌, ◌==◌, ◌<◌, ◌≤◌, ◌∙◌, ap, eq-eqb, get_or, if◌then◌else◌, not, sym, refl, ℕ, zero, suc, Bool, true, false, List, [], ◌∷◌, length, arith, Option, None, Some}
+use Rattle.std.proofs.Common.{◌≡◌, ◌≢◌, ◌==◌, ◌<◌, ◌≤◌, ◌∙◌, ap, eq-eqb, get_or, if◌then◌else◌, not, sym, refl, ℕ, zero, suc, Bool, true, false, List, [], ◌∷◌, length, arith, inl, inr, Option, None, Some}
 use Rattle.std.specs.List.{slice_get}
 use Rattle.std.specs.Option.{is_some}
-use Rattle.std.proofs.lemmas.Bool.{false≢true, ne_eqb}
+use Rattle.std.proofs.lemmas.Bool.{cases_lt, false≢true, ne_eqb}
 use Rattle.std.proofs.lemmas.Bool.Decides.{nat_tests}
+use Rattle.std.proofs.lemmas.List.{get_or_past}
 use Rattle.std.proofs.lemmas.Option.{same_Some}
 use Rattle.sled_codec.specs.History.{Message, History}
 use Rattle.sled_log.specs.declared.session.opened.Opened.{Opened}
-use Rattle.sled_log.specs.declared.session.opened.Ticket.{Ticket}
+use Rattle.sled_log.specs.declared.session.tickets.Ticket.{Ticket}
 use Rattle.sled_core.specs.Manifests.{manifest_page}
 use Rattle.sled_store.specs.Device.{Trace}
 use Rattle.sled_log.specs.RunPhases.{HasBatch, HasTickets}
@@ -35,15 +36,15 @@ got_within n [] lt got = omega (arith, lt)
 got_within zero (x ∷ xs) lt got = cc
 got_within (suc n) (x ∷ xs) lt got = got_within n xs (omega (arith, lt)) got
 
-got_behind : {X : Type 0} (n : ℕ) (xs : List X) → length xs ≤ n → slice_get xs n ≡ None
-got_behind n [] le = refl
-got_behind zero (x ∷ xs) le = absurd (omega (arith, le))
-got_behind (suc n) (x ∷ xs) le = got_behind n xs (omega (arith, le))
-
 pub got_or : {X : Type 0} (n : ℕ) (xs : List (Option X)) (o : Option X) → slice_get xs n ≡ Some o → get_or xs n None ≡ o
 got_or n [] o got = cc
 got_or zero (x ∷ xs) o got = cc
 got_or (suc n) (x ∷ xs) o got = got_or n xs o got
+
+pub got_open : {X : Type 0} (n : ℕ) (xs : List (Option X)) (x : X) → get_or xs n None ≡ Some x → slice_get xs n ≡ Some (Some x)
+got_open n [] x got = cc
+got_open zero (o ∷ os) x got = ap (λ y. Some y) got
+got_open (suc n) (o ∷ os) x got = got_open n os x got
 
 -- the page of an open one is among theirs
 pub page_has : (ts : List (Option Message)) (i page : ℕ) (m : Message) → slice_get ts i ≡ Some (Some m) → m.page ≡ page → has_page page (open_messages ts) ≡ true
@@ -107,22 +108,24 @@ module _ {D C : Type 0} {trace : D → Trace} {sum : List ℕ → ℕ} (opened :
     by (Some b) begun at = let same : b ≡ n = same_Some b n at in no_message n tickets begun.0 (ap (slice_get tickets) (sym same) ∙ begun.1) begun.2
 
 module _ {D C : Type 0} {trace : D → Trace} {sum : List ℕ → ℕ} (opened : Opened D C) (H : History) (tickets : List (Option Message)) (has : HasTickets trace sum opened H tickets) (n : ℕ) where
+  never_given : slice_get tickets n ≡ None → get_or opened.tickets.items n None ≡ None
+  never_given is = elim (cases_lt n (length tickets)) [
+    | inl lt ↦ absurd (got_within n tickets lt is)
+    | inr behind ↦ get_or_past opened.tickets.items n None (omega (arith, behind, has.as_many))
+  ]
+
   -- A ticket that is there is open,
-  pub open_seen : n < length opened.tickets.items → (t : Ticket) → get_or opened.tickets.items n None ≡ Some t → has_ticket n tickets ≡ true
-  open_seen within t there = by (slice_get tickets n) refl where
+  pub open_seen : (t : Ticket) → get_or opened.tickets.items n None ≡ Some t → has_ticket n tickets ≡ true
+  open_seen t there = by (slice_get tickets n) refl where
     by : (o : Option (Option Message)) → slice_get tickets n ≡ o → has_ticket n tickets ≡ true
-    by None is = absurd (got_within n tickets (omega (arith, within, has.as_many)) is)
+    by None is = let two : Some t ≡ None = sym there ∙ never_given is in cc
     by (Some None) is = let two : Some t ≡ None = sym there ∙ got_or n opened.tickets.items None (has.gone n is) in cc
     by (Some (Some m)) is = has_got n tickets m is
 
-  -- one that was spent isn't,
-  pub spent_seen : n < length opened.tickets.items → get_or opened.tickets.items n None ≡ None → has_ticket n tickets ≡ false
-  spent_seen within there = by (slice_get tickets n) refl where
+  -- and one that was spent isn't, nor one that was never given.
+  pub none_seen : get_or opened.tickets.items n None ≡ None → has_ticket n tickets ≡ false
+  none_seen there = by (slice_get tickets n) refl where
     by : (o : Option (Option Message)) → slice_get tickets n ≡ o → has_ticket n tickets ≡ false
     by None is = has_none n tickets is
     by (Some None) is = has_spent n tickets is
     by (Some (Some m)) is = let two : None ≡ Some (has.each n m is).ticket = sym there ∙ got_or n opened.tickets.items (Some (has.each n m is).ticket) (has.each n m is).there in cc
-
-  -- and neither is one that was never given.
-  pub none_seen : length opened.tickets.items ≤ n → has_ticket n tickets ≡ false
-  none_seen behind = has_none n tickets (got_behind n tickets (omega (arith, behind, has.as_many)))

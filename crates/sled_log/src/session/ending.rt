@@ -9,7 +9,8 @@ use crate::session::Phase;
 use crate::session::command::{Refusal, Reply};
 use crate::session::known::{apply, room_to_apply};
 use crate::session::marking::{Due, replaced_by, settle, unpin};
-use crate::session::opened::{Opened, Ticket};
+use crate::session::opened::Opened;
+use crate::session::tickets::Ticket;
 use sled_codec::result::{Error, PageId, Result};
 use sled_codec::serialization::Checksum;
 use sled_codec::serialization::message::BATCH_MANIFEST_PID;
@@ -74,11 +75,11 @@ fn former_for<D: Device, C: Checksum>(
         return Ok(Vec::new(opened.alloc));
     }
     match opened.tickets.get(number) {
-        Some(Some(ticket)) => {
+        Some(ticket) => {
             let state = opened.pages.get(ticket.page as usize);
             replaced_by(opened.alloc, ticket.kind, ticket.page, state, opened.origin)
         }
-        Some(None) | None => Ok(Vec::new(opened.alloc)),
+        None => Ok(Vec::new(opened.alloc)),
     }
 }
 
@@ -92,8 +93,8 @@ fn room_for<D: Device, C: Checksum>(opened: &mut Opened<D, C>, number: usize) ->
         return Ok(());
     }
     match opened.tickets.get(number) {
-        Some(Some(ticket)) => room_to_apply(&mut opened.pages, ticket.kind, ticket.page),
-        Some(None) | None => Ok(()),
+        Some(ticket) => room_to_apply(&mut opened.pages, ticket.kind, ticket.page),
+        None => Ok(()),
     }
 }
 
@@ -161,7 +162,7 @@ pub(crate) fn end<D: Device, C: Checksum>(opened: &mut Opened<D, C>) -> Reply
 fn take_open<D: Device, C: Checksum>(opened: &mut Opened<D, C>, number: usize) -> Option<Ticket>
     ensures { TakesTicket opened.old number opened.new result }
 {
-    let ticket = opened.tickets.get_mut(number)?.take()?;
+    let ticket = opened.tickets.take(number)?;
     if !opened.log.is_open(&ticket.reservation) {
         ticket.abandon();
         return None;

@@ -12,12 +12,12 @@ ghost use Rattle.sled_log.specs.RunPhases.{IsOpenAt, Unstored, seen};
 
 use crate::session::command::{Command, Refusal};
 use crate::session::marking::Due;
+use crate::session::tickets::Tickets;
 use sled_codec::result::{BlobPointer, DiskPtr, PageId};
+use sled_codec::serialization::Checksum;
 use sled_codec::serialization::message::BATCH_MANIFEST_PID;
 use sled_codec::serialization::snapshot::PageState;
-use sled_codec::serialization::{Checksum, LogKind};
 use sled_core::logger::Log;
-use sled_core::reservation::{Guard, Reservation};
 use sled_store::{Device, RunningConfig};
 use std::alloc::Global;
 
@@ -32,8 +32,7 @@ pub(crate) struct Opened<D, C> {
     pub(crate) busy: Vec<bool>,
     /// The number of the open manifest's ticket, in a batch.
     pub(crate) batch: Option<usize>,
-    /// By number. One that was spent is gone.
-    pub(crate) tickets: Vec<Option<Ticket>>,
+    pub(crate) tickets: Tickets,
     /// The mark of the last completed message, where memory for it was refused.
     pub(crate) due: Option<Due>,
 }
@@ -43,14 +42,6 @@ pub(crate) struct Opened<D, C> {
 pub(crate) struct Origin {
     pub(crate) size: u64,
     pub(crate) floor: u64,
-}
-
-/// A reservation that is open, with its pin.
-pub(crate) struct Ticket {
-    pub(crate) kind: LogKind,
-    pub(crate) page: PageId,
-    pub(crate) reservation: Reservation,
-    pub(crate) guard: Guard,
 }
 
 /// How many entries a page may have: its Replace, and 254 fragments.
@@ -176,10 +167,10 @@ impl<D: Device, C: Checksum> Opened<D, C> {
         ensures why { (k : Unstored) → IsOpenAt D.trace C.sum_of self.now k
             → result ≡ refused_open k.history (seen self.now k.tickets k.given_up k.heads) (told.Abort number) }
     {
-        if number >= self.tickets.len() || self.tickets[number].is_none() {
-            return Some(Refusal::Ticket);
+        match self.tickets.get(number) {
+            Some(_) => None,
+            None => Some(Refusal::Ticket),
         }
-        None
     }
 
     fn refuse_index(&self, i: usize) -> Option<Refusal>
@@ -249,33 +240,14 @@ impl<D: Device, C: Checksum> Opened<D, C> {
             pages: _,
             busy: _,
             batch: _,
-            mut tickets,
+            tickets,
             due,
         } = self;
-        while let Some(ticket) = tickets.pop() {
-            if let Some(ticket) = ticket {
-                ticket.abandon();
-            }
-        }
-        tickets.destroy_empty();
+        tickets.abandon();
         if let Some(due) = due {
             due.abandon();
         }
         log.halt()
-    }
-}
-
-impl Ticket {
-    /// Gives the ticket up.
-    pub(crate) fn abandon(self) {
-        let Ticket {
-            kind: _,
-            page: _,
-            reservation,
-            guard,
-        } = self;
-        reservation.abandon();
-        guard.abandon();
     }
 }
 

@@ -10,6 +10,7 @@ ghost use Rattle.sled_log.specs.Openings.{Starts};
 use crate::session::Phase;
 use crate::session::command::Reply;
 use crate::session::opened::{Opened, Origin};
+use crate::session::tickets::Tickets;
 use crate::snapshot::{Snapshot, read_startable_snapshot};
 use sled_codec::serialization::Checksum;
 use sled_core::logger::Log;
@@ -59,7 +60,7 @@ fn start<D: Device, C: Checksum>(
                 pages: snapshot.pt,
                 busy: Vec::new(alloc),
                 batch: None,
-                tickets: Vec::new(alloc),
+                tickets: Tickets::new(alloc),
                 due: None,
             };
             (Phase::Open(opened), reply)

@@ -1,5 +1,5 @@
 //! Keeping places for messages, and beginning batches.
-ghost use Rattle.std.specs.Prelude.{Bool, [], ◌≡◌, ◌≢◌, ◌<◌, ◌-◌, ◌^◌, length, vec_capacity, vec_len, None, OnOk};
+ghost use Rattle.std.specs.Prelude.{Bool, [], ◌≡◌, ◌≢◌, ◌<◌, ◌-◌, ◌^◌, length, None, OnOk};
 ghost use Rattle.sled_codec.specs.History.{ChangesPage};
 ghost use Rattle.sled_codec.specs.declared.serialization.message.LogKind.TheVariants.{Free, Skip};
 ghost use Rattle.sled_core.specs.Manifests.{manifest_page};
@@ -12,7 +12,8 @@ ghost use Rattle.sled_core.specs.Fits.{config_of, fault_of, pins_of};
 use crate::session::Phase;
 use crate::session::command::{Refusal, Reply};
 use crate::session::marking::unpin;
-use crate::session::opened::{Opened, Ticket};
+use crate::session::opened::Opened;
+use crate::session::tickets::Ticket;
 use sled_codec::result::{Error, PageId, Result};
 use sled_codec::serialization::message::BATCH_MANIFEST_PID;
 use sled_codec::serialization::{BatchManifest, Checksum, LogKind, Serialize};
@@ -99,7 +100,7 @@ fn give_back<D: Device, C: Checksum>(opened: &mut Opened<D, C>, guard: Guard, wh
 /// `Io` where the log keeps a failure, and `OutOfMemory`, also where as many pins are out as can be.
 fn room_for_ticket<D: Device, C: Checksum>(opened: &mut Opened<D, C>) -> Result<()>
     ensures room { MakesRoom opened.old opened.new }
-    ensures enough { OnOk result ((pins_of opened.old.log < 2 ^ 32 - 1) × (vec_len opened.new.tickets < vec_capacity opened.new.tickets)) }
+    ensures enough { OnOk result ((pins_of opened.old.log < 2 ^ 32 - 1) × (0 < opened.new.tickets.room)) }
     ensures whole { FaultOrMemory result ⊥ (fault_of opened.old.log) }
 {
     if let Some(e) = opened.log.failure() {
@@ -108,7 +109,7 @@ fn room_for_ticket<D: Device, C: Checksum>(opened: &mut Opened<D, C>) -> Result<
     if opened.log.pins() >= MOST_PINS {
         return Err(Error::OutOfMemory);
     }
-    Ok(opened.tickets.reserve(1)?)
+    Ok(opened.tickets.reserve()?)
 }
 
 /// Makes room for one more ticket, and for the note that its page has one.
@@ -118,7 +119,7 @@ fn room_for_ticket<D: Device, C: Checksum>(opened: &mut Opened<D, C>) -> Result<
 /// As of `room_for_ticket`.
 fn room_for<D: Device, C: Checksum>(opened: &mut Opened<D, C>, page: PageId) -> Result<()>
     ensures room { MakesRoom opened.old opened.new }
-    ensures enough { OnOk result ((pins_of opened.old.log < 2 ^ 32 - 1) × (vec_len opened.new.tickets < vec_capacity opened.new.tickets)
+    ensures enough { OnOk result ((pins_of opened.old.log < 2 ^ 32 - 1) × (0 < opened.new.tickets.room)
         × (page < length opened.new.busy.items)) }
     ensures whole { FaultOrMemory result ⊥ (fault_of opened.old.log) }
 {
@@ -137,20 +138,20 @@ fn hold<D: Device, C: Checksum>(
     reservation: Reservation,
     guard: Guard,
 ) -> Reply
-    requires room { vec_len opened.old.tickets < vec_capacity opened.old.tickets }
+    requires room { 0 < opened.old.tickets.room }
     requires page { page < length opened.old.busy.items }
     requires message { page ≢ manifest_page }
     ensures held { HoldsTicket opened.old opened.new kind page reservation guard result }
 {
-    let number = opened.tickets.len();
+    let number = opened.tickets.begun();
     let reply = Reply::Reserved(number, reservation.lsn(), reservation.pointer());
     opened.busy[page as usize] = true;
-    opened.tickets.push_reserved(Some(Ticket {
+    opened.tickets.push_reserved(Ticket {
         kind,
         page,
         reservation,
         guard,
-    }));
+    });
     reply
 }
 
@@ -160,17 +161,17 @@ fn hold_manifest<D: Device, C: Checksum>(
     reservation: Reservation,
     guard: Guard,
 ) -> Reply
-    requires { vec_len opened.old.tickets < vec_capacity opened.old.tickets }
+    requires { 0 < opened.old.tickets.room }
     ensures { HoldsTicket opened.old opened.new Skip manifest_page reservation guard result }
 {
-    let number = opened.tickets.len();
+    let number = opened.tickets.begun();
     let reply = Reply::Reserved(number, reservation.lsn(), reservation.pointer());
     opened.batch = Some(number);
-    opened.tickets.push_reserved(Some(Ticket {
+    opened.tickets.push_reserved(Ticket {
         kind: LogKind::Skip,
         page: BATCH_MANIFEST_PID,
         reservation,
         guard,
-    }));
+    });
     reply
 }

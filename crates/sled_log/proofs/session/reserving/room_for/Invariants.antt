@@ -1,4 +1,4 @@
-use Rattle.std.proofs.Common.{◌<◌, ◌-◌, ◌+◌, length, vec_capacity, vec_len}
+use Rattle.std.proofs.Common.{◌<◌, ◌-◌, ◌+◌, length}
 use Rattle.sled_log.specs.Reservations.{MakesRoom}
 use Rattle.sled_log.proofs.session.reserving.room_for.Given as goal
 
@@ -7,7 +7,7 @@ abbrev pub invariant-loop-opened : goal.invariant-loop-opened
 invariant-loop-opened g l =
     record {
       room : MakesRoom l.fn.opened l.opened;
-      enough : vec_len l.opened.tickets < vec_capacity l.opened.tickets;
+      enough : 0 < l.opened.tickets.room;
     }
 
 abbrev pub decreases-loop-opened : goal.decreases-loop-opened
