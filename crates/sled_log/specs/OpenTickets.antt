@@ -1,5 +1,5 @@
 -- The tickets of a log that is open in a session, by number.
-use Rattle.std.specs.Prelude.{◌-◌, ◌<◌, ◌^◌, ℕ, List, map, min, Option}
+use Rattle.std.specs.Prelude.{◌-◌, ◌<◌, ◌^◌, ℕ, List, length, map, Option}
 use Rattle.std.specs.BTreeMap.{is_at}
 use Rattle.std.specs.List.{All, range_with_len}
 use Rattle.std.specs.List.Sorted.{IsStrictlySortedBy}
@@ -7,10 +7,14 @@ use Rattle.std.specs.Map.{keys_of, lookup}
 use Rattle.std.specs.Ordering.{nat_cmp}
 use Rattle.sled_log.specs.declared.session.tickets.Ticket.{Ticket}
 
--- For each number that was given, its ticket, or none once that is spent; and for how many more there is room.
+-- For each number that was given, its ticket, or none once that is spent; and for how many more there is memory.
 pub record TicketList : Type 0 where
   pub items : List (Option Ticket)
-  pub room : ℕ
+  pub spare : ℕ
+
+-- there is memory for one more, and a number
+abbrev pub HasRoom : TicketList → Type 0
+HasRoom t = (0 < t.spare) × (length t.items < 2 ^ 64 - 1)
 
 -- the ticket of a number among those that are open, each with its number
 abbrev pub of_number : {X : Type 0} → List (ℕ × X) → ℕ → Option X
@@ -24,7 +28,3 @@ by_number entries begun = map (of_number entries) (range_with_len 0 begun)
 pub record AreNumbered {X : Type 0} (entries : List (ℕ × X)) (begun : ℕ) : Type 0 where
   pub ascending : IsStrictlySortedBy nat_cmp (keys_of entries)
   pub below : All (λ n. n < begun) (keys_of entries)
-
--- one more can come as long as there is memory for it, and a number
-abbrev pub room_left : ℕ → ℕ → ℕ → ℕ
-room_left len capacity begun = min (capacity - len) (2 ^ 64 - 1 - begun)

@@ -137,18 +137,17 @@ set_by f g a (suc n) (suc k) i y at is same =
     ap (λ x. x ∷ set (map f (range_with_len (a + 1) n)) k y) (same a (λ here. omega (arith, here, at)))
     ∙ ap (λ l. g a ∷ l) (set_by f g (a + 1) n k i y (omega (arith, at)) is same)
 
--- What is seen of tickets.
+-- What is seen of tickets: as many as there are numbers,
+
+pub as_many : {X : Type 0} (es : List (ℕ × X)) (begun : ℕ) → length (by_number es begun) ≡ begun
+as_many es begun = length-map-range_with_len (of_number es) 0 begun
 
 module _ {X : Type 0} (es : List (ℕ × X)) (begun : ℕ) (are : AreNumbered es begun) where
-  -- as many as were begun
-  pub as_many : length (by_number es begun) ≡ begun
-  as_many = length-map-range_with_len (of_number es) 0 begun
-
   -- each by its number
   pub seen_at : (n : ℕ) → get_or (by_number es begun) n None ≡ of_number es n
   seen_at n = elim (cases_lt n begun) [
     | inl lt ↦ get_or-map-range_with_len (of_number es) 0 begun n n None lt (omega arith)
-    | inr le ↦ get_or_past (by_number es begun) n None (omega (arith, le, as_many)) ∙ sym (none_behind es begun n are.below le)
+    | inr le ↦ get_or_past (by_number es begun) n None (omega (arith, le, as_many es begun)) ∙ sym (none_behind es begun n are.below le)
   ]
 
   -- where a search found it, or not

@@ -41,6 +41,7 @@ got_or n [] o got = cc
 got_or zero (x ∷ xs) o got = cc
 got_or (suc n) (x ∷ xs) o got = got_or n xs o got
 
+-- one that is read is there
 pub got_open : {X : Type 0} (n : ℕ) (xs : List (Option X)) (x : X) → get_or xs n None ≡ Some x → slice_get xs n ≡ Some (Some x)
 got_open n [] x got = cc
 got_open zero (o ∷ os) x got = ap (λ y. Some y) got
@@ -108,6 +109,7 @@ module _ {D C : Type 0} {trace : D → Trace} {sum : List ℕ → ℕ} (opened :
     by (Some b) begun at = let same : b ≡ n = same_Some b n at in no_message n tickets begun.0 (ap (slice_get tickets) (sym same) ∙ begun.1) begun.2
 
 module _ {D C : Type 0} {trace : D → Trace} {sum : List ℕ → ℕ} (opened : Opened D C) (H : History) (tickets : List (Option Message)) (has : HasTickets trace sum opened H tickets) (n : ℕ) where
+  -- none is read where no number was given
   never_given : slice_get tickets n ≡ None → get_or opened.tickets.items n None ≡ None
   never_given is = elim (cases_lt n (length tickets)) [
     | inl lt ↦ absurd (got_within n tickets lt is)

@@ -4,6 +4,7 @@ ghost use Rattle.sled_codec.specs.History.{ChangesPage};
 ghost use Rattle.sled_codec.specs.declared.serialization.message.LogKind.TheVariants.{Free, Skip};
 ghost use Rattle.sled_core.specs.Manifests.{manifest_page};
 ghost use Rattle.sled_log.specs.declared.session.command.Command.TheVariants as told;
+ghost use Rattle.sled_log.specs.OpenTickets.{HasRoom};
 ghost use Rattle.sled_log.specs.Reservations.{GivesBack, HoldsTicket, MakesRoom, Reserves};
 ghost use Rattle.sled_log.specs.RunPhases.{CarriesHere, RunsOn, view_by};
 ghost use Rattle.sled_core.specs.Causes.{FaultOrMemory};
@@ -100,7 +101,7 @@ fn give_back<D: Device, C: Checksum>(opened: &mut Opened<D, C>, guard: Guard, wh
 /// `Io` where the log keeps a failure, and `OutOfMemory`, also where as many pins are out as can be.
 fn room_for_ticket<D: Device, C: Checksum>(opened: &mut Opened<D, C>) -> Result<()>
     ensures room { MakesRoom opened.old opened.new }
-    ensures enough { OnOk result ((pins_of opened.old.log < 2 ^ 32 - 1) × (0 < opened.new.tickets.room)) }
+    ensures enough { OnOk result ((pins_of opened.old.log < 2 ^ 32 - 1) × HasRoom opened.new.tickets) }
     ensures whole { FaultOrMemory result ⊥ (fault_of opened.old.log) }
 {
     if let Some(e) = opened.log.failure() {
@@ -119,7 +120,7 @@ fn room_for_ticket<D: Device, C: Checksum>(opened: &mut Opened<D, C>) -> Result<
 /// As of `room_for_ticket`.
 fn room_for<D: Device, C: Checksum>(opened: &mut Opened<D, C>, page: PageId) -> Result<()>
     ensures room { MakesRoom opened.old opened.new }
-    ensures enough { OnOk result ((pins_of opened.old.log < 2 ^ 32 - 1) × (0 < opened.new.tickets.room)
+    ensures enough { OnOk result ((pins_of opened.old.log < 2 ^ 32 - 1) × HasRoom opened.new.tickets
         × (page < length opened.new.busy.items)) }
     ensures whole { FaultOrMemory result ⊥ (fault_of opened.old.log) }
 {
@@ -138,7 +139,7 @@ fn hold<D: Device, C: Checksum>(
     reservation: Reservation,
     guard: Guard,
 ) -> Reply
-    requires room { 0 < opened.old.tickets.room }
+    requires room { HasRoom opened.old.tickets }
     requires page { page < length opened.old.busy.items }
     requires message { page ≢ manifest_page }
     ensures held { HoldsTicket opened.old opened.new kind page reservation guard result }
@@ -161,7 +162,7 @@ fn hold_manifest<D: Device, C: Checksum>(
     reservation: Reservation,
     guard: Guard,
 ) -> Reply
-    requires { 0 < opened.old.tickets.room }
+    requires { HasRoom opened.old.tickets }
     ensures { HoldsTicket opened.old opened.new Skip manifest_page reservation guard result }
 {
     let number = opened.tickets.begun();

@@ -1,15 +1,15 @@
 //! The tickets of a log that is open, by number (`specs/OpenTickets.antt`).
 //!
-//! A log has as many numbers as places were kept in it, and few of their tickets are open. Only these take memory, in
-//! ascending order of their numbers. So one is found by bisection, and the oldest and the newest are taken at no cost;
-//! another one moves those in front of it or behind it, whichever are fewer.
-ghost use Rattle.std.specs.Prelude.{◌≡◌, ◌<◌, [], ◌∷◌, ◌++◌, length, get_or, set, None, Some, IfNone, IfSome, OnOk};
+//! Each place that is kept has a ticket with the next number, and few of them are open at once. Only these take memory, in
+//! ascending order of their numbers. So one is found by bisection. The oldest and the newest are taken at no cost; another one
+//! moves those in front of it or those behind it, whichever are fewer.
+ghost use Rattle.std.specs.Prelude.{◌≡◌, ◌<◌, ◌+◌, ◌-◌, if◌then◌else◌, [], ◌∷◌, ◌++◌, length, get_or, set, None, Some, IfNone, IfSome, OnOk};
 ghost use Rattle.std.specs.List.{HoldsAt};
 ghost use Rattle.std.specs.List.Sorted.{IsStrictlySortedBy};
 ghost use Rattle.std.specs.Map.{keys_of};
-ghost use Rattle.std.specs.Option.{option_copied};
+ghost use Rattle.std.specs.Option.{is_some, option_copied};
 ghost use Rattle.std.specs.Ordering.{nat_cmp};
-ghost use Rattle.sled_log.specs.OpenTickets.{of_number};
+ghost use Rattle.sled_log.specs.OpenTickets.{HasRoom, of_number};
 
 use sled_codec::result::PageId;
 use sled_codec::serialization::LogKind;
@@ -41,7 +41,7 @@ impl Ticket {
 }
 
 /// Tickets by number, from 0 on. Contracts see, for each number that was given, its ticket as long as it is open, and for how
-/// many more there is room.
+/// many more there is memory.
 pub(crate) struct Tickets {
     // Those that are open, each behind its number.
     entries: VecDeque<(usize, Ticket)>,
@@ -54,12 +54,13 @@ impl Model for Tickets {
 
     ghost Value = { TicketList };
 
+    ghost use Rattle.std.specs.Prelude.{◌-◌};
     ghost use Rattle.std.specs.VecDeque.{deque_capacity, deque_len};
-    ghost use Rattle.sled_log.specs.OpenTickets.{AreNumbered, by_number, room_left};
+    ghost use Rattle.sled_log.specs.OpenTickets.{AreNumbered, by_number};
 
     ghost view = { λ t. record {
       items = by_number t.entries.items t.begun;
-      room = room_left (deque_len t.entries) (deque_capacity t.entries) t.begun;
+      spare = deque_capacity t.entries - deque_len t.entries;
     } };
 
     ghost invariant = { λ t. AreNumbered t.entries.items t.begun };
@@ -91,10 +92,11 @@ impl Tickets {
         Some(&self.entries[at].1)
     }
 
-    /// Takes the ticket of a number, where it is open.
+    /// Takes the ticket of a number, where it is open. Its memory is there for another one.
     pub(crate) fn take(&mut self, number: usize) -> Option<Ticket>
         ensures taken { result ≡ get_or self.old.items number None }
         ensures left { self.new.items ≡ set self.old.items number None }
+        ensures spare { self.new.spare ≡ (if is_some result then self.old.spare + 1 else self.old.spare) }
     {
         let at = find(&self.entries, number)?;
         let (_, ticket) = self.entries.remove(at).unwrap();
@@ -108,7 +110,7 @@ impl Tickets {
     /// `AllocError` where there is no memory for it, or no number is left: no ticket has changed.
     pub(crate) fn reserve(&mut self) -> Result<(), AllocError>
         ensures items { self.new.items ≡ self.old.items }
-        ensures room { OnOk result (0 < self.new.room) }
+        ensures room { OnOk result (HasRoom self.new) }
     {
         if self.begun == usize::MAX {
             return Err(AllocError);
@@ -118,8 +120,9 @@ impl Tickets {
 
     /// Keeps a ticket under the next number. There is room for it.
     pub(crate) fn push_reserved(&mut self, ticket: Ticket)
-        requires { 0 < self.old.room }
-        ensures { self.new.items ≡ self.old.items ++ Some ticket ∷ [] }
+        requires { HasRoom self.old }
+        ensures items { self.new.items ≡ self.old.items ++ Some ticket ∷ [] }
+        ensures spare { self.new.spare ≡ self.old.spare - 1 }
     {
         match self.entries.push_back((self.begun, ticket)) {
             Ok(()) => self.begun += 1,

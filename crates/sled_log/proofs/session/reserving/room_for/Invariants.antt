@@ -1,4 +1,5 @@
 use Rattle.std.proofs.Common.{◌<◌, ◌-◌, ◌+◌, length}
+use Rattle.sled_log.specs.OpenTickets.{HasRoom}
 use Rattle.sled_log.specs.Reservations.{MakesRoom}
 use Rattle.sled_log.proofs.session.reserving.room_for.Given as goal
 
@@ -7,7 +8,7 @@ abbrev pub invariant-loop-opened : goal.invariant-loop-opened
 invariant-loop-opened g l =
     record {
       room : MakesRoom l.fn.opened l.opened;
-      enough : 0 < l.opened.tickets.room;
+      enough : HasRoom l.opened.tickets;
     }
 
 abbrev pub decreases-loop-opened : goal.decreases-loop-opened

@@ -4,4 +4,4 @@ use Rattle.sled_log.proofs.Sessions.NumberedTickets.{as_many}
 use Rattle.sled_log.proofs.session.tickets.Tickets.begun.Goals as goal
 
 pub returns : goal.returns
-returns c = sym (as_many c.self.inside.entries.items c.self.inside.begun c.self.invariant) ∙ ap (λ t. length t.items) c.self.view_is
+returns c = sym (as_many c.self.inside.entries.items c.self.inside.begun) ∙ ap (λ t. length t.items) c.self.view_is
