@@ -8,7 +8,7 @@ use crate::records::count_nonzero;
 use anyhow::{Error, Result, anyhow};
 use sled_log::device::Checksum;
 use sled_log::logger::Log;
-use sled_log::snapshot::{Snapshot, read_snapshot_or_default};
+use sled_log::snapshot::{Snapshot, read_startable_snapshot};
 use std::alloc::{AllocError, Global};
 
 /// A change of the files. If bytes of the log file become zeros or are cut off, also how many of them are something else.
@@ -55,7 +55,7 @@ pub(crate) fn find_all<C: Checksum + Drop>(
     findings: &mut Findings,
 ) -> Result<()> {
     let mut config = config;
-    let snapshot = match read_snapshot_or_default(&mut config) {
+    let snapshot = match read_startable_snapshot(&mut config) {
         Ok(snapshot) => snapshot,
         Err(error) => return Err(damage::explained(alloc, folder, &mut config, error)),
     };
