@@ -14,6 +14,7 @@ use std::io::ErrorKind;
 
 /// A checksum that a folder can be kept under. It names itself in the folder's file `config`.
 pub trait FolderChecksum: Checksum {
+    // The bytes of the name.
     ghost named: { List ℕ };
 
     /// Returns the name: one word, always the same, and another one for each checksum.
