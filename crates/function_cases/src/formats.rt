@@ -1,13 +1,35 @@
 //! How a folder is kept (`sled_file`): what its file `config` says, and which openings it refuses.
 //!
 //! Each case has a folder of its own where the program runs, and removes it.
+ghost use Rattle.std.specs.Prelude.{codes};
+ghost use Rattle.sled_codec.specs.Sums.{place_sum};
 
 use crate::folders::Came;
 use sled_file::{Crc32, FolderChecksum, LogCrc32, Unknown, format_of, open};
 use sled_log::config::Config;
-use sled_log::device::Checksum;
+use sled_log::device::{Checksum, PlaceSum};
 use std::alloc::AllocError;
 use std::fs;
+
+// A checksum of one's own, for a folder.
+#[derive(Clone, Copy)]
+struct Places;
+
+impl Checksum for Places {
+    ghost sum_of = { place_sum };
+
+    fn sum(&self, bytes: &[u8]) -> u32 {
+        PlaceSum.sum(bytes)
+    }
+}
+
+impl FolderChecksum for Places {
+    ghost named = { codes "places" };
+
+    fn name(&self) -> &'static str {
+        "places"
+    }
+}
 
 // What an opening tells: that it went well, or the text of its error.
 fn told<C: FolderChecksum>(
@@ -143,6 +165,23 @@ fn takes_first(rt: &HostRuntime, path: &str) -> Came {
     let is_same = fs::read(rt, "format_first/config")?.as_slice() == b"size 256\n".as_slice();
     fs::remove_dir_all(rt, path)?;
     Ok(is_known && is_told && is_same)
+}
+
+/// A folder can be kept under a checksum of one's own.
+pub fn take_own(rt: &HostRuntime) -> bool {
+    matches!(takes_own(rt, "format_own"), Ok(true))
+}
+
+fn takes_own(rt: &HostRuntime, path: &str) -> Came {
+    let _ = fs::remove_dir_all(rt, path);
+    let is_begun = told(rt, path, 256, &Places)?.as_str() == "opened"
+        && fs::read(rt, "format_own/config")?.as_slice()
+            == b"sled_file 2\nsize 256\nchecksum places\n".as_slice();
+    let is_compared = told(rt, path, 256, &LogCrc32)?.as_str()
+        == "format_own/config: the checksum is places here, and not crc32-log"
+        && told(rt, path, 256, &Places)?.as_str() == "opened";
+    fs::remove_dir_all(rt, path)?;
+    Ok(is_begun && is_compared)
 }
 
 /// A log without the file `config` is taken under `Crc32`, with the size that is asked for first, and refused under another

@@ -166,6 +166,7 @@ fn hold_formats(rt: &HostRuntime, tally: &mut Tally<'_>) {
         "a header over zeros",
         known(torn::hold(rt.alloc())),
     );
+    holds(tally, 44, "a checksum of one's own", formats::take_own(rt));
 }
 
 // Counts a case.
