@@ -64,6 +64,6 @@ pub startable_left : (sum : List ℕ → ℕ) (size : ℕ) (x : RecoveryResult) 
 startable_left sum size x old new some written =
     startable_longer size (length old.log.bytes) (length new.log.bytes) x.model some
     (let shredded = longer_shredded x.shred_range old.log in
-      let zeroed = longer_zeroed size x.unread (after_shredding x.shred_range old.log) in
-      let is = ap (λ (l : LogState). length l.bytes) written.log in
-      omega (arith, shredded, zeroed, is))
+    let zeroed = longer_zeroed size x.unread (after_shredding x.shred_range old.log) in
+    let is = ap (λ (l : LogState). length l.bytes) written.log in
+    omega (arith, shredded, zeroed, is))
