@@ -195,7 +195,7 @@ fn begins_old(rt: &HostRuntime, path: &str) -> Came {
     fs::create_dir(rt, path)?;
     fs::write(rt, "format_none/log", b"abc".as_slice())?;
     let is_refused = told(rt, path, 256, &LogCrc32)?.as_str()
-        == "format_none/config: the file is missing, and the log has 3 bytes: write 'size S' into it with the size of its segments"
+        == "format_none/config: the file is missing, and the log has 3 bytes: write what it said, or 'size S' if there never was one"
         && format_of(rt, path)?.is_none();
     let is_taken = told(rt, path, 256, &Crc32)?.as_str() == "opened"
         && fs::read(rt, "format_none/config")?.as_slice() == b"size 256\n".as_slice()

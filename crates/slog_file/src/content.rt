@@ -110,7 +110,7 @@ pub(crate) fn opening_error(error: OpenError) -> Error {
             "it has to be the lines 'sled_file 2', 'size S', 'checksum NAME', S a power of two from 256 to 8388608"
         ).context(path),
         OpenError::NoConfig { path, len } => anyhow!(
-            "the file is missing, and the log has {len} bytes: write 'size S' into it with the size of its segments"
+            "the file is missing, and the log has {len} bytes: write what it said, or 'size S' if there never was one"
         ).context(path),
         OpenError::OutOfMemory => anyhow!("out of memory"),
     }

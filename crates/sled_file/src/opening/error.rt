@@ -60,7 +60,7 @@ pub enum OpenError {
         path: String,
     },
     /// The file `config` is missing, and the log isn't empty.
-    #[error("{path}: the file is missing, and the log has {len} bytes: write 'size S' into it with the size of its segments")]
+    #[error("{path}: the file is missing, and the log has {len} bytes: write what it said, or 'size S' if there never was one")]
     NoConfig {
         /// Where the file has to be.
         path: String,
