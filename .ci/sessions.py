@@ -6,6 +6,7 @@ import os
 import re
 import shutil
 import subprocess
+import sys
 import threading
 
 ROOT = os.path.realpath(os.path.join(os.path.dirname(__file__), ".."))
@@ -21,6 +22,8 @@ class Lost(Exception):
 def program():
     """The program, which is built if it isn't there."""
     path = os.environ.get("SLOG_FILE", BUILT)
+    if not os.path.exists(path) and os.path.realpath(path) != os.path.realpath(BUILT):
+        sys.exit(f"SLOG_FILE names {path}, which isn't there")
     if not os.path.exists(path):
         subprocess.run(["rt", "run", "--", "--help"], cwd=f"{ROOT}/crates/slog_file", stdout=subprocess.DEVNULL, check=True)
     return os.path.realpath(path)
