@@ -132,6 +132,7 @@ pub mod Slots
 pub mod Spans
 pub mod Spared
 pub mod StableTargets
+pub mod Stale
 pub mod StandsThere
 pub mod StatusLaws
 pub mod StatusSeen

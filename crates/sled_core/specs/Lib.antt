@@ -54,6 +54,7 @@ pub mod Sources
 pub mod Spans
 pub mod Stable
 pub mod StableEnds
+pub mod Stale
 pub mod Starts
 pub mod Synced
 pub mod Tail

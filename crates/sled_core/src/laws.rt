@@ -54,6 +54,7 @@ ghost use Rattle.sled_core.specs.Manifests.{is_manifest, kind_for};
 ghost use Rattle.sled_core.specs.Tickets.{is_manifest_of, len_of, own_blob, place_of, pointer_of};
 ghost use Rattle.sled_core.specs.Unmarked.{without};
 ghost use Rattle.sled_core.specs.Own.{IsSomeRecord, written_out_of_order, IsReachedToEnd};
+ghost use Rattle.sled_core.specs.Stale.{NothingStale};
 ghost use Rattle.sled_core.specs.StableEnds.{LiesIn, IsContiguousEnd, IsHalfSynced, IsStableEnd, AreApart, places_of};
 ghost use Rattle.sled_codec.specs.Sums.{place_sum};
 
@@ -402,6 +403,13 @@ pub fn what_is_not_foreign_is_the_logs_own()
 pub fn what_a_log_reads_is_its_own<D: Device, C: Checksum>()
     ensures { (log : Log D C) (H : History) (A f : ℕ) (U : List Message) → Fits D.trace C.sum_of log H A f U → fault_of log ≡ None → NoHeaderOfZeros C.sum_of
         → (account_of log).mark ≤ℤ pos f → ReadsOnlyOwn C.sum_of (segment_size_of log) (state_of (D.trace (device_of log))) }
+{}
+
+/// So it is also where a higher mark joined, as long as nothing in the file is stale (`NothingStale`): free slots have zeros, and so has what
+/// isn't written yet of the segments that were begun.
+pub fn what_a_log_reads_is_its_own_unless_stale<D: Device, C: Checksum>()
+    ensures { (log : Log D C) (H : History) (A f : ℕ) (U : List Message) → Fits D.trace C.sum_of log H A f U → fault_of log ≡ None → NoHeaderOfZeros C.sum_of
+        → NothingStale D.trace log → ReadsOnlyOwn C.sum_of (segment_size_of log) (state_of (D.trace (device_of log))) }
 {}
 
 /// On an empty device nothing is foreign, where twenty zeros pass as no header (`NoHeaderOfZeros`).

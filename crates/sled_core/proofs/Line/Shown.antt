@@ -149,13 +149,13 @@ module _ (sum : List ℕ → ℕ) (size : ℕ) (big : 256 ≤ size) (t : Trace) 
           clean = λ none low. (begins_same marks (logged H) held fits.slots, idle);
         }
 
--- As long as no mark above the floor joined what is fitted over what is shown is fitted over the device itself.
-pub fits_itself : (sum : List ℕ → ℕ) (marks : JoinedMarks) (noted : List Batch) (size : ℕ) (device : State) (fault : Option IoError) (m : Machine)
-    (line : List SegmentView) (pins : ℕ) (H : History) (A f : ℕ) (U : List Message) → fault ≡ None → marks.joined ≤ℤ pos f
+-- Where the file is shown whole, what is fitted over what is shown is fitted over the device itself.
+pub fits_whole : (sum : List ℕ → ℕ) (marks : JoinedMarks) (noted : List Batch) (size : ℕ) (device : State) (fault : Option IoError) (m : Machine)
+    (line : List SegmentView) (pins : ℕ) (H : History) (A f : ℕ) (U : List Message) → fault ≡ None → cleared size m line device.log.bytes ≡ device.log.bytes
     → FitsShown sum marks noted size device fault line m pins H A f U → FitsWith sum marks noted size device fault line m pins H A f U
-fits_itself sum marks noted size device fault m line pins H A f U none low fits =
+fits_whole sum marks noted size device fault m line pins H A f U none whole fits =
     subst (λ (d : State). FitsWith sum marks noted size d fault line m pins H A f U)
-    (ap (with_log device) (shown_rests size fault m line device none ∙ ap at_rest (fits.clean none low).0 ∙ sym (fits.rests none))) fits.shows
+    (ap (with_log device) (shown_rests size fault m line device none ∙ ap at_rest whole ∙ sym (fits.rests none))) fits.shows
 
 -- Of segments of which there is one: another count of pins fits, where one is out while there are messages that aren't marked,
 module _ (sum : List ℕ → ℕ) (marks : JoinedMarks) (noted : List Batch) (size : ℕ) (device : State) (fault : Option IoError) (v : SegmentView)
