@@ -77,6 +77,7 @@ pub mod MayMarks
 pub mod Moves
 pub mod NeededSlots
 pub mod NextDue
+pub mod NextSlot
 pub mod Nexts
 pub mod NoneLeft
 pub mod Noted

@@ -55,6 +55,7 @@ pub use Rattle.sled_core.proofs.Line.ReadsOwn.{fits_reads_own, fits_reads_own_un
 pub use Rattle.sled_core.proofs.Iterated.StillThere.{still_there}
 pub use Rattle.sled_core.proofs.Line.Buffers.{first_waits}
 pub use Rattle.sled_core.proofs.Line.Fillings.{end_off}
+pub use Rattle.sled_core.proofs.Line.NextSlot.{mark_stable_end, next_not_needed}
 pub use Rattle.sled_core.proofs.Line.NoneLeft.{noted_pegs}
 -- While a pin is out no segment is freed.
 pub use Rattle.sled_core.proofs.Line.Pinned.{pinned_around, pinned_at, pinned_below, pinned_pending, pinned_some, pinned_synced}

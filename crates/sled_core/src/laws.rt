@@ -1,6 +1,6 @@
 //! Laws of logs, each the contract of a function that does nothing: what a client may rely on besides the contracts of the calls. A proof cites a
 //! law by the lemma of `proofs/PublicLaws.antt` that says the same; what that file has besides, under "Helpers", promises nothing more.
-ghost use Rattle.std.specs.Prelude.{◌≡◌, ◌↔◌, ◌⊎◌, ◌≤◌, ◌<◌, ◌≤ℤ◌, ◌<ℤ◌, ◌+ℤ◌, ◌-ℤ◌, ◌+◌, ◌*◌, ◌/◌, ◌^◌, ◌∷◌, ◌++◌, ℕ, ℤ, pos, true, Bool, List, [], replicate, Option, None, Some, Result, IfErr, IfOk, OnOk, length, map, ◌-◌, Contains, if◌then◌else◌, int_lt, unsigned_abs, take};
+ghost use Rattle.std.specs.Prelude.{◌≡◌, ◌≢◌, ◌↔◌, ◌⊎◌, ◌≤◌, ◌<◌, ◌≤ℤ◌, ◌<ℤ◌, ◌+ℤ◌, ◌-ℤ◌, ◌+◌, ◌*◌, ◌/◌, ◌^◌, ◌∷◌, ◌++◌, ℕ, ℤ, pos, true, Bool, List, [], replicate, Option, None, Some, Result, IfErr, IfOk, OnOk, length, map, ◌-◌, Contains, if◌then◌else◌, int_lt, unsigned_abs, take};
 ghost use Rattle.std.specs.Borrow.{MutBor};
 ghost use Rattle.std.specs.declared.io.Error.{Error as IoError};
 ghost use Rattle.sled_codec.specs.declared.result.Error.{Error};
@@ -17,8 +17,8 @@ ghost use Rattle.sled_store.specs.Device.{Trace, State, Left, Leaves, Crashed, s
 ghost use Rattle.sled_store.specs.Moments.{IsLater, LeavesOnly};
 ghost use Rattle.sled_store.specs.Script.{Performs};
 ghost use Rattle.sled_store.specs.Outdated.{IsNamedNow, MayName, NamesBlob};
-ghost use Rattle.sled_store.specs.Marks.{IsFormerList, info_of};
-ghost use Rattle.sled_store.specs.SegmentStates.{MayMark, slot_at};
+ghost use Rattle.sled_store.specs.Marks.{IsFormerList, IsIn, IsNeeded, info_of};
+ghost use Rattle.sled_store.specs.SegmentStates.{MayMark, next_slot, slot_at};
 ghost use Rattle.sled_store.specs.declared.segment.slot.CacheInfo.{CacheInfo};
 ghost use Rattle.sled_core.specs.Fits.{stable_end, KeepsAll, Awaits, FirstWaits, FitsInline, HasRecordOf, IsLeastOpen, IsUnchanged, IsUsedUpBelow, IsUsedUpFor, IsWritten, NoneOpen, blob_at, body_length, buffers_of, current_begin, device_of, fault_of, fillings_of, given_up_of, heads_of, held_len, holding_below, in_blob_of, is_moved, ledger_for, ledger_of, line_of, machine_at, message_for, message_rewriting, next_place, noted_in, open_of, open_places, pins_of, reserved_end, sealing_end, segment_size_of, start_behind, start_of, synced_end, target_of, waiting_behind, waiting_of, writing_below, writing_pending, writing_some};
 ghost use Rattle.sled_core.specs.invariants.Fits.{Holds};
@@ -360,6 +360,17 @@ pub fn a_history_grows_from_the_mark<D: Device, C: Checksum>()
 pub fn what_has_its_record_has_its_segment<D: Device, C: Checksum>()
     ensures { (log : Log D C) (H : History) (A f : ℕ) (U : List Message) (m : Message) → Fits D.trace C.sum_of log H A f U → Contains H.messages m
         → HasRecordOf log H m → HasSegment (machine_at log) (m.place / segment_size_of log * segment_size_of log) }
+{}
+
+/// The slot that is handed out next has no segment that a table from the stable end on needs: each of those is in another slot. The mark that
+/// joined, which is what lets segments go, isn't above the stable end. So it is as long as the log keeps no failure; what is said of slots is so
+/// with a failure, too, where twenty zeros pass as no header.
+pub fn the_next_slot_is_not_needed<D: Device, C: Checksum>()
+    ensures mark { (log : Log D C) (H : History) (A f : ℕ) (U : List Message) → Fits D.trace C.sum_of log H A f U → fault_of log ≡ None
+        → (account_of log).mark ≤ℤ pos (stable_end log) }
+    ensures needed { (log : Log D C) (H : History) (A f : ℕ) (U : List Message) (cut place : ℕ) → Fits D.trace C.sum_of log H A f U
+        → (fault_of log ≡ None) ⊎ NoHeaderOfZeros C.sum_of → stable_end log ≤ cut → IsNeeded (segment_size_of log) H cut place
+        → (k : ℕ) × IsIn (machine_at log) k place × (k ≢ next_slot (machine_at log)) }
 {}
 
 /// What can be recovered at each moment of one call and of the next can be at each moment of both.

@@ -10,6 +10,7 @@ use Rattle.sled_store.specs.Device.{State, Trace}
 use Rattle.sled_store.specs.SegmentStates.{Machine}
 use Rattle.sled_store.proofs.Histories.Ascending.{apart_ascends}
 use Rattle.sled_store.proofs.Histories.EarlierEntries.{entry_earlier}
+use Rattle.sled_store.proofs.Histories.TableParts.{from_table}
 use Rattle.sled_core.specs.inside.Shown.{shown_of}
 use Rattle.sled_core.specs.Begun.{SegmentView, segment_view}
 use Rattle.sled_core.specs.declared.logger.Log.{Log}
@@ -90,21 +91,25 @@ module _ {D C : Type 0} (trace : D → Trace) (sum : List ℕ → ℕ) (log : Lo
         let h = its_slot (m.place / size * size) b in
         (h.number, h.taken, h.is ∙ b.at)
 
-    -- And it has that of an entry of a table from the mark on, or of all that is synced, or of more: the entry is in its slot.
-    of_entry : (m : Message) → Contains H.messages m → (cut : ℕ) → (log.marks.joined ≤ℤ pos cut) ⊎ (synced_end log ≤ cut)
-        → Contains (table H cut m.page) m → HasSegment machine (m.place / size * size)
-    of_entry m there cut far entry =
+    -- An entry of a table from where what is held counts is in its slot.
+    pub entry_placed : (m : Message) → (cut : ℕ) → held_of fits.parts.holds.begun ≤ cut → Contains (table H cut m.page) m → IsInSlot size machine m
+    entry_placed m cut far entry =
         let begun = fits.parts.holds.begun in
         let held : ℕ = held_of begun in
         let slots = fits.in_slots begun.first begun.begins in
         let lie = whole_apart sum size log.segments.first.site state log.fault.kept log.segments.first.buffer.bytes.items
         log.segments.first.buffer.written_len log.segments.first.buffer.sealed.items log.segments.first.buffer.reserved.items (logged H) fits.parts.holds
         log.line.lies.in_segment in
-        let is : IsInSlot size machine m = elim (cases_lt m.place held) [
-          | inl under ↦ slots.older m.page m
-              (entry_earlier H (apart_ascends H.messages (logged_apart H lie)) held cut m.page (held_under log.marks.ordered begun cut far) m under entry)
-          | inr above ↦ slots.later m there above
-        ] in
+        elim (cases_lt m.place held) [
+          | inl under ↦ slots.older m.page m (entry_earlier H (apart_ascends H.messages (logged_apart H lie)) held cut m.page far m under entry)
+          | inr above ↦ slots.later m (from_table H cut m.page m entry).0 above
+        ]
+
+    -- So the log has its segment where the table is from the mark on, or of all that is synced, or of more.
+    of_entry : (m : Message) → (cut : ℕ) → (log.marks.joined ≤ℤ pos cut) ⊎ (synced_end log ≤ cut) → Contains (table H cut m.page) m
+        → HasSegment machine (m.place / size * size)
+    of_entry m cut far entry =
+        let is = entry_placed m cut (held_under log.marks.ordered fits.parts.holds.begun cut far) entry in
         (slot_with size m, is.taken, is.lsn)
 
 -- A log still has the segment of each message that it has the record of.
@@ -114,5 +119,5 @@ pub still_there : {D C : Type 0} (trace : D → Trace) (sum : List ℕ → ℕ) 
 unfolding Fits
 still_there trace sum log H A f U m fits there has = elim has [
   | inl above ↦ of_line trace sum log H A f U fits.shows m there above
-  | inr (cut, far, entry) ↦ of_entry trace sum log H A f U fits.shows m there cut far entry
+  | inr (cut, far, entry) ↦ of_entry trace sum log H A f U fits.shows m cut far entry
 ]
