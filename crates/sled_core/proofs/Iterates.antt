@@ -10,6 +10,7 @@ pub mod OfSlots
 pub mod OneReplay
 pub mod OverLog
 pub mod Records
+pub mod Rising
 pub mod Slots
 pub mod Spent
 pub mod TurnLemmas

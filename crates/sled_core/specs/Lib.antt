@@ -47,6 +47,7 @@ pub mod Reasons
 pub mod Recoverable
 pub mod Replayed
 pub mod Reserves
+pub mod Rising
 pub mod Running
 pub mod Scan
 pub mod SealedBuffers

@@ -42,7 +42,9 @@ ghost use Rattle.sled_core.specs.Reading.{BlobIsBelow, IsInline};
 ghost use Rattle.sled_core.specs.Ready.{IsReady};
 ghost use Rattle.sled_core.specs.declared.iterator.Segment.{Segment};
 ghost use Rattle.sled_core.specs.Replayed.{IsDamagedBefore, IsReplayed};
-ghost use Rattle.sled_core.specs.Tail.{Scanned};
+ghost use Rattle.sled_core.specs.Rising.{FollowFrom, IsReadBy, RiseFrom};
+ghost use Rattle.sled_core.specs.LogSegments.{AreSegments};
+ghost use Rattle.sled_core.specs.Tail.{IsOrdering, Scanned, begun_below};
 ghost use Rattle.sled_core.specs.Recoverable.{NoForeign, ReadsOnlyOwn, RecoverableIfOwn, LeavesRecoverable, NoHeaderOfZeros};
 ghost use Rattle.sled_core.specs.invariants.Recoverable.{Recoverable};
 ghost use Rattle.sled_core.specs.OnFile.{HasSegment};
@@ -502,6 +504,19 @@ pub fn an_iterator_only_reads_its_log<D: Device, C: Checksum>()
     ensures back { (entry : MutBor (Log D C)) (it : LogIter D C) (result : Option (MutBor (Log D C)))
         → IsOverLog D.trace C.sum_of entry it → IsLogOf it result
         → (r : MutBor (Log D C)) × (result ≡ Some r) × (r.ghost_name ≡ entry.ghost_name) × IsOnlyRead D.trace C.sum_of entry.now r.now }
+{}
+
+/// An iterator gives messages of ever greater places, whatever stands in the file: of segments one behind another (`FollowFrom`), each of which
+/// is read in some way (`IsReadBy`), as it has to be before anything can be said of what is given. The segments that are found in a file lie so,
+/// and so do those of a log.
+pub fn an_iteration_rises<D: Device, C: Checksum>()
+    ensures rises { (sum : List ℕ → ℕ) (size : ℕ) (log : List ℕ) (blobs : ℤ → Option (List ℕ)) (end : ℕ) (strict : Bool) (low : ℕ) (ss : List Segment)
+        (items : List Item) (damage : Damage) → FollowFrom size low ss → ((s : Segment) → Contains ss s → IsReadBy sum size log end s)
+        → IsIteration sum size log blobs end strict ss items damage → RiseFrom low items }
+    ensures found { (sum : List ℕ → ℕ) (size : ℕ) (log : List ℕ) (least end : ℕ) (ordering : List Segment) → 0 < size
+        → IsOrdering sum size log least ordering → FollowFrom size least (begun_below end ordering) }
+    ensures of_log { (log : Log D C) (H : History) (A f : ℕ) (U : List Message) (from to : ℕ) (ss : List Segment) → Fits D.trace C.sum_of log H A f U
+        → AreSegments (segment_size_of log) (machine_at log) from to ss → FollowFrom (segment_size_of log) from ss }
 {}
 
 /// A segment is read in one way. So one reading of it says what an iterator gives of it and of those behind it: up to a batch that is
