@@ -3,4 +3,5 @@ pub mod Listed
 pub mod OfLog
 pub mod OnFile
 pub mod ReadHere
+pub mod SegmentReads
 pub mod StillThere

@@ -1,5 +1,5 @@
 -- What a read of a pointer finds: the record that stands there with the item of its message, or for a message whose item is a blob that blob alone.
-use Rattle.std.specs.Prelude.{◌≡◌, ◌≢◌, ◌⊎◌, ◌<◌, ◌≤◌, ◌/◌, unsigned_abs, length, ℕ, ℤ, pos, List, Option, None, Some, Result, Ok, Err, Contains}
+use Rattle.std.specs.Prelude.{◌≡◌, ◌≢◌, ◌⊎◌, ◌<◌, ◌≤◌, ◌*◌, ◌/◌, unsigned_abs, length, ℕ, ℤ, pos, List, Option, None, Some, Result, Ok, Err, Contains}
 use Rattle.std.specs.IoError.{error_kind}
 use Rattle.std.specs.declared.io.Error.{Error as IoError}
 use Rattle.std.specs.declared.io.ErrorKind.TheVariants.{NotFound}
@@ -9,14 +9,16 @@ use Rattle.sled_codec.specs.declared.result.Error.{Error}
 use Rattle.sled_codec.specs.declared.result.Error.TheVariants.{Corruption, Io, OutOfMemory}
 use Rattle.sled_codec.specs.declared.serialization.message.MessageHeader.{MessageHeader}
 use Rattle.sled_codec.specs.History.{Message, History, table}
+use Rattle.sled_codec.specs.Places.{MayBegin}
 use Rattle.sled_codec.specs.Pointers.{lid_of}
 use Rattle.sled_store.specs.Blobs.{HoldsItem, IsDamagedBlob}
 use Rattle.sled_store.specs.Device.{State, Trace}
 use Rattle.sled_core.specs.declared.logger.Log.{Log}
 use Rattle.sled_core.specs.declared.logger.read_message.LogRead.{LogRead}
 use Rattle.sled_core.specs.declared.logger.read_message.LogRead.TheVariants.{Blob}
-use Rattle.sled_core.specs.Fits.{HasRecordOf, fault_of, next_place, stable_end}
+use Rattle.sled_core.specs.Fits.{fault_of, machine_at, next_place, segment_size_of, stable_end}
 use Rattle.sled_core.specs.Keeps.{IsSpared}
+use Rattle.sled_core.specs.OnFile.{HasSegment}
 use Rattle.sled_core.specs.Reading.{GivesMessage, IsInline, IsNoPlace, IsReading, IsUnreadableAs}
 use Rattle.sled_core.specs.Running.{IsStored}
 
@@ -84,12 +86,12 @@ pub record IsKeptBlob {D C : Type 0} (log : Log D C) (H : History) (m : Message)
   pub pointer : m.pointer ≡ p
   pub beside : IsInline p → ⊥
 
--- The same of any message that the log has the record of, whose blob no crash takes and no write removes: one that was replaced too, where it was stored when
--- a pin was taken that is out still.
+-- The same of any message whose blob no crash takes and no write removes: one that was replaced too, where it was stored when a pin was taken that is out
+-- still. A slot has its segment, or a record may begin at its offset at least. (No record is read of it.)
 pub record IsStoredBlob {D C : Type 0} (trace : D → Trace) (sum : List ℕ → ℕ) (log : Log D C) (H : History) (m : Message) (pid : ℕ) (lsn : ℤ) (p : DiskPtr)
     : Type 0 where
   pub known : Contains H.messages m
-  pub has : HasRecordOf log H m
+  pub has : HasSegment (machine_at log) (m.place / segment_size_of log * segment_size_of log) ⊎ MayBegin (segment_size_of log) (lid_of p)
   pub stored : IsStored trace sum log m
   pub spared : IsSpared log m
   pub page : m.page ≡ pid
@@ -97,17 +99,27 @@ pub record IsStoredBlob {D C : Type 0} (trace : D → Trace) (sum : List ℕ →
   pub pointer : m.pointer ≡ p
   pub beside : IsInline p → ⊥
 
--- The message is given, or the read has to wait or fails: its blob is neither missing nor damaged.
+-- A message of this place has its item in its record, at this pointer, and a slot has its segment: whether a table needs it or not, as where it was replaced
+-- or its page was given back while a pin is out.
+pub record IsSegmentRecord {D C : Type 0} (log : Log D C) (H : History) (m : Message) (lsn : ℤ) (p : DiskPtr) : Type 0 where
+  pub known : Contains H.messages m
+  pub has : HasSegment (machine_at log) (m.place / segment_size_of log * segment_size_of log)
+  pub place : pos m.place ≡ lsn
+  pub pointer : m.pointer ≡ p
+  pub inline : IsInline p
+
+-- The message is given, or the read has to wait or fails: its record isn't damaged, and its blob is neither missing nor damaged.
 abbrev pub GivesBlobOrWaits : Message → Option IoError → Result LogRead Error → Type 0
 GivesBlobOrWaits m kept (Ok read) = GivesMessage m read
 GivesBlobOrWaits m kept (Err (Io e)) = kept ≡ None → error_kind e ≢ NotFound
 GivesBlobOrWaits m kept (Err (Corruption at)) = ⊥
 GivesBlobOrWaits m kept (Err _) = Unit {0}
 
--- What a read of a message's blob comes to: of the table of what is stable nothing holds it, of the table of all that there is, and of what is stored, it may
--- have to wait.
-pub record ReadsBlob {D C : Type 0} (trace : D → Trace) (sum : List ℕ → ℕ) (log : Log D C) (H : History) (m : Message) (pid : ℕ) (lsn : ℤ) (p : DiskPtr)
+-- What a read of a message comes to. Of one whose item is a blob, in the table of what is stable, nothing holds it; in the table of all that there is, and of
+-- what is stored, it may have to wait. So it may of one with its item in its record, where a slot has its segment.
+pub record ReadsMessage {D C : Type 0} (trace : D → Trace) (sum : List ℕ → ℕ) (log : Log D C) (H : History) (m : Message) (pid : ℕ) (lsn : ℤ) (p : DiskPtr)
     (result : Result LogRead Error) : Type 0 where
   pub stable : IsStableBlob log H m pid lsn p → GivesBlob m (fault_of log) result
   pub kept : IsKeptBlob log H m pid lsn p → GivesBlobOrWaits m (fault_of log) result
   pub stored : IsStoredBlob trace sum log H m pid lsn p → GivesBlobOrWaits m (fault_of log) result
+  pub inline : IsSegmentRecord log H m lsn p → GivesBlobOrWaits m (fault_of log) result

@@ -102,7 +102,7 @@ impl<D: Device, C: Checksum> Log<D, C> {
     ghost use Rattle.sled_core.specs.Marked.{StartsMarked};
     ghost use Rattle.sled_core.specs.Pooled.{PoolsSome};
     ghost use Rattle.sled_core.specs.ReadBuffer.{IsUsedUpAt, ReadAnswers, RefusesPlace, SealsAround, Settles, WritesAround, held_at};
-    ghost use Rattle.sled_core.specs.ReadPointer.{IsDamageAt, IsReadOf, ReadsBlob, place_read};
+    ghost use Rattle.sled_core.specs.ReadPointer.{IsDamageAt, IsReadOf, ReadsMessage, place_read};
     ghost use Rattle.sled_core.specs.inside.ReadPointer.{IsDamageOf};
     ghost use Rattle.sled_core.specs.Ready.{IsReady};
     ghost use Rattle.sled_core.specs.invariants.Running.{Fits, Ready};
@@ -270,7 +270,8 @@ impl<D: Device, C: Checksum> Log<D, C> {
     /// Reads the message of this page and place that lies there, from the device. Where its place isn't stable, the one
     /// buffer that has it is written first, unless it is on the device: the current one is sealed for that, and no other
     /// buffer is written. Returns what stands there. A message has its record as long as it is of a segment that isn't wholly
-    /// on the device, or a table from the mark on that joined needs it; else its slot may be free or another segment's, or cut off.
+    /// on the device, or a table from the mark on that joined needs it, and it is read as long as a slot has its segment; else its slot may be
+    /// free or another segment's, or cut off.
     /// Where no pin is out segments may come free behind that write, and blobs go, as in each call that writes. Of a stable place
     /// nothing is written, and the log keeps all that it is.
     ///
@@ -278,9 +279,10 @@ impl<D: Device, C: Checksum> Log<D, C> {
     /// before all. Its header has the blob's kind, this page, the number of the segment of this place, and 0 for checksum and
     /// length; the length of its record is answered as 0.
     ///
-    /// Who took a pin goes on reading what was in the table then, until the pin goes back, also once it is replaced: the log keeps its
-    /// record (law `what_was_in_a_table_keeps_its_record`), and its blob, which no crash takes (law `what_is_in_the_table_is_stored`), and which
-    /// no call removes while a pin is out (`items` of what each keeps; an `abort` removes its own ticket's alone).
+    /// Who took a pin goes on reading what was in the table then, until the pin goes back, also once it is replaced, or its page given back: a slot
+    /// keeps its segment (law `a_pin_keeps_segments`), so that its record is read, and the log keeps its blob, which no crash takes (law
+    /// `what_is_in_the_table_is_stored`), and which no call removes while a pin is out (`items` of what each keeps; an `abort` removes its own
+    /// ticket's alone).
     ///
     /// The page isn't compared with what is read. Of an inline pointer the answer is what the record at its offset has, if it is one of
     /// the segment of this place: where place and pointer may be those of another page's message, the caller compares
@@ -305,7 +307,7 @@ impl<D: Device, C: Checksum> Log<D, C> {
             → HasRecordOf self.old H m → pos m.place ≡ lsn → m.pointer ≡ ptr → IsInline ptr → IsCorruption result → ⊥ }
         ensures blob { (H : History) (A f : ℕ) (U : List Message) (m : Message)
             → Fits D.trace C.sum_of self.old H A f U → NoHeaderOfZeros C.sum_of
-            → ReadsBlob D.trace C.sum_of self.old H m pid lsn ptr result }
+            → ReadsMessage D.trace C.sum_of self.old H m pid lsn ptr result }
         ensures reading { let size = segment_size_of self.old in
             IfOk result (IsReadOf C.sum_of size (state_of (D.trace (device_of self.new))) pid (unsigned_abs lsn / size) ptr) }
         ensures corrupt { IfErr result (IsDamageAt C.sum_of (segment_size_of self.old) (state_of (D.trace (device_of self.new))) lsn ptr) }

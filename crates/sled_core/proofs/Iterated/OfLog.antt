@@ -133,7 +133,7 @@ module _ {D C : Type 0} (trace : D → Trace) (sum : List ℕ → ℕ) (log : Lo
         let under = stable_closed size H among.stands.batched (synced_end log) b known (omega (arith, low, same_end)) in
         omega (arith, under, same_end)
 
-    apart_messages : LieApart H.messages
+    pub apart_messages : LieApart H.messages
     apart_messages = logged_apart H
         (whole_apart sum size log.segments.first.site sees None log.segments.first.buffer.bytes.items from log.segments.first.buffer.sealed.items
         log.segments.first.buffer.reserved.items (logged H) fits.parts.holds log.line.lies.in_segment)
@@ -155,7 +155,7 @@ module _ {D C : Type 0} (trace : D → Trace) (sum : List ℕ → ℕ) (log : Lo
         ]
 
     -- The older ones are whole, in what is shown, and so in the file.
-    whole : (k : ℕ) → is_free (slot_at m k).state ≡ false → (slot_at m k).lsn + size ≤ place → IsWholeSegment sum size real H (k * size) (slot_at m k).lsn
+    pub whole : (k : ℕ) → is_free (slot_at m k).state ≡ false → (slot_at m k).lsn + size ≤ place → IsWholeSegment sum size real H (k * size) (slot_at m k).lsn
     whole k used lower =
         whole_kept sum size file real (k * size) (omega (arith, some))
         (older_shown size (omega (arith, some)) m line real (line_rises size place line (line_segments log)) k used (λ j u at. slot_apart size m u k

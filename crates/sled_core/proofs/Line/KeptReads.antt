@@ -1,11 +1,13 @@
 -- A message whose item is a blob is read, or the read has to wait: a record may begin at its offset, where the log has its record, whether that is stable, is
 -- written behind a gap or behind an open batch, or lies in a buffer. So it is with one that is in the table of all that there is.
-use Rattle.std.proofs.Common.{◌≡◌, ◌⊎◌, ◌≤◌, ◌≤ℤ◌, ◌<◌, ◌+◌, ℕ, ℤ, pos, List, [], ◌∷◌, map, Option, None, Result, Ok, Err, subst, arith, inl, inr}
+use Rattle.std.proofs.Common.{◌≡◌, ◌⊎◌, ◌≤◌, ◌≤ℤ◌, ◌<◌, ◌+◌, ℕ, ℤ, pos, List, [], ◌∷◌, map, Option, None, Result, Ok, Err, IfOk, subst, arith, inl, inr}
 use Rattle.std.specs.List.{Contains}
 use Rattle.std.specs.declared.io.Error.{Error as IoError}
 use Rattle.std.proofs.lemmas.Bool.{cases_lt}
 use Rattle.std.proofs.lemmas.List.Elements.{All-contains, Contains-append_cases}
 use Rattle.sled_codec.specs.declared.result.DiskPtr.{DiskPtr}
+use Rattle.sled_codec.specs.declared.result.DiskPtr.TheVariants.{Blob, Inline}
+use Rattle.sled_codec.specs.Errors.{IsCorruption}
 use Rattle.sled_codec.specs.declared.result.Error.{Error}
 use Rattle.sled_codec.specs.declared.result.Error.TheVariants as error
 use Rattle.sled_codec.specs.History.{Batch, History, Message, table}
@@ -26,6 +28,9 @@ use Rattle.sled_core.specs.Fits.{HasRecordOf, fault_of, line_of, machine_at, nex
 use Rattle.sled_core.specs.Logged.{in_log}
 use Rattle.sled_core.specs.OpenBatches.{stable_below}
 use Rattle.sled_core.specs.inside.Reached.{StandsAmong, StandsIn, StandsTo}
+use Rattle.sled_core.specs.Causes.{IsFault}
+use Rattle.sled_core.specs.Reading.{GivesMessage, IsInline}
+use Rattle.sled_core.specs.inside.Causes.{RecordAnswers}
 use Rattle.sled_core.specs.inside.ReadBuffer.{SettleAnswers}
 use Rattle.sled_core.specs.ReadPointer.{GivesBlob, GivesBlobOrWaits, IsKeptBlob, IsStoredBlob}
 use Rattle.sled_core.specs.Recoverable.{NoHeaderOfZeros}
@@ -34,6 +39,7 @@ use Rattle.sled_core.specs.inside.Running.{FitsWith}
 use Rattle.sled_core.specs.Tail.{least_place}
 use Rattle.sled_core.proofs.Holds.HeldFrom.{held_under}
 use Rattle.sled_core.proofs.Holds.ReachLemmas.{completed_behind}
+use Rattle.sled_core.proofs.Iterated.StillThere.{still_there}
 use Rattle.sled_core.proofs.Line.BlobReads.{among}
 use Rattle.sled_core.proofs.Line.Reads.{fault_missed}
 use Rattle.sled_core.proofs.Line.Rewritten.{ordered, synced_before}
@@ -154,7 +160,7 @@ module _ {D C : Type 0} (trace : D → Trace) (sum : List ℕ → ℕ) (log : Lo
   pub kept_stored : (pid : ℕ) (lsn : ℤ) (p : DiskPtr) → IsKeptBlob log H m pid lsn p → IsStoredBlob trace sum log H m pid lsn p
   kept_stored pid lsn p is = record {
     known = (from_table H (next_place log) m.page m is.entry).0;
-    has = entry_has is.entry;
+    has = inl (still_there trace sum log H A f U m fits (from_table H (next_place log) m.page m is.entry).0 (entry_has is.entry));
     stored = entry_stored trace sum log H A f U fits m is.entry;
     spared = entry_spared trace sum log H A f U fits m is.entry;
     page = is.page;
@@ -162,6 +168,17 @@ module _ {D C : Type 0} (trace : D → Trace) (sum : List ℕ → ℕ) (log : Lo
     pointer = is.pointer;
     beside = is.beside;
   }
+
+-- What is read of a record gives its message, or waits, where it gives it as it stands and is no damage.
+pub inline_read : (sum : List ℕ → ℕ) (blobs : ℤ → Option (List ℕ)) (m : Message) (p : DiskPtr) (kept : Option IoError) (r : Result LogRead Error)
+    (old now : Option IoError) (before after : ℕ) → IsInline p → old ≡ None → IfOk r (GivesMessage m) → (IsCorruption r → ⊥)
+    → RecordAnswers sum blobs p r old now before after → GivesBlobOrWaits m kept r
+inline_read sum blobs m (Blob lid place) kept r old now before after inline none gives sound answers = absurd inline
+inline_read sum blobs m (Inline lid) kept (Ok x) old now before after inline none gives sound answers = gives
+inline_read sum blobs m (Inline lid) kept (Err (error.Io e)) old now before after inline none gives sound answers =
+    λ _ missed. fault_missed e now before after (subst (λ (o : Option IoError). IsFault e o now before after) none answers) missed
+inline_read sum blobs m (Inline lid) kept (Err (error.Corruption at)) old now before after inline none gives sound answers = absurd (sound tt)
+inline_read sum blobs m (Inline lid) kept (Err _) old now before after inline none gives sound answers = tt
 
 -- What gives it without waiting gives it.
 pub gives_at_once : (m : Message) (fault : Option IoError) (r : Result LogRead Error) → GivesBlob m fault r → GivesBlobOrWaits m fault r

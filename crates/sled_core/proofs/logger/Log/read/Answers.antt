@@ -1,5 +1,5 @@
 -- A read settles its place first, and then reads the device.
-use Rattle.std.proofs.Common.{SFits, of_z, to_z, ◌≡◌, ◌∙◌, ◌<◌, ◌⊎◌, ◌/◌, ap, sym, subst, ℕ, ℤ, arith, inl, inr, Option, IsTrue, rules, pos, refl, unsigned_abs, ◌<ℤ◌, ◌≤ℤ◌, None, List, Ok, Err}
+use Rattle.std.proofs.Common.{IfOk, SFits, of_z, to_z, ◌≡◌, ◌∙◌, ◌<◌, ◌⊎◌, ◌/◌, ap, sym, subst, ℕ, ℤ, arith, inl, inr, Option, IsTrue, rules, pos, refl, unsigned_abs, ◌<ℤ◌, ◌≤ℤ◌, None, List, Ok, Err}
 use Rattle.std.specs.Int.{w64}
 use Rattle.std.specs.List.{Contains}
 use Rattle.std.specs.declared.io.Error.{Error as IoError}
@@ -27,15 +27,18 @@ use Rattle.sled_core.specs.Fronts.{CameAround}
 use Rattle.sled_core.specs.ReadBuffer.{IsUsedUpAt, IsWrittenPlace, ReadAnswers, SealsAround, WritesAround, held_at, settling}
 use Rattle.sled_core.specs.inside.ReadBuffer.{SettleAnswers}
 use Rattle.sled_core.specs.Reading.{IsInline, IsNoPlace, GivesMessage}
+use Rattle.sled_core.specs.NoForeign.{NoHeaderOfZeros}
 use Rattle.sled_core.specs.Running.{IsStored}
+use Rattle.sled_core.specs.invariants.Running.{Fits}
+use Rattle.sled_core.proofs.Iterated.SegmentReads.{segment_begins, segment_held}
 use Rattle.sled_core.specs.inside.Recoverable.{HasItem}
-use Rattle.sled_core.specs.ReadPointer.{GivesBlob, GivesBlobOrWaits, IsStableBlob, IsStoredBlob, place_read}
+use Rattle.sled_core.specs.ReadPointer.{GivesBlob, GivesBlobOrWaits, IsSegmentRecord, IsStableBlob, IsStoredBlob, place_read}
 use Rattle.sled_core.specs.inside.ReadPointer.{IsDamageOf}
 use Rattle.sled_core.proofs.Line.KeptCalls.{holds_fast, log_still, log_writing, spared_same, writing_further, writing_still}
 use Rattle.sled_core.proofs.Line.Advanced.{same_current}
 use Rattle.sled_core.proofs.Line.CameFar.{around_none, came_behind, seals_none, still_around}
 use Rattle.sled_core.proofs.Line.BlobReads.{gives_read, item_read, reads_stable, stable_begins, stable_stored}
-use Rattle.sled_core.proofs.Line.KeptReads.{err_waits, gives_at_once, kept_stored, record_begins}
+use Rattle.sled_core.proofs.Line.KeptReads.{err_waits, gives_at_once, inline_read, kept_stored}
 use Rattle.sled_core.proofs.Line.LogSpans.{same_buffers}
 use Rattle.sled_core.proofs.Line.HeaderMarks.{segment_same}
 use Rattle.sled_core.proofs.Line.Wrote.{status_same}
@@ -61,7 +64,7 @@ nothing_sealed trace sum log at e never = (seals_none log at e never, around_non
 pub returns-in-Some-clause-blob : goal.returns-in-Some-clause-blob
 returns-in-Some-clause-blob g c = λ H A f U m fits zeros.
     let some : c.args.self.now.fault.kept ≡ None → ⊥ = λ none. let both : None ≡ c.args.self.now.fault.kept = sym none in let is = c.in-Some.is in cc in
-    record { stable = λ _ none. absurd (some none); kept = λ _ none. absurd (some none); stored = λ _ none. absurd (some none) }
+    record { stable = λ _ none. absurd (some none); kept = λ _ none. absurd (some none); stored = λ _ none. absurd (some none); inline = λ _ none. absurd (some none) }
 
 pub returns-in-Some-clause-calls : goal.returns-in-Some-clause-calls
 returns-in-Some-clause-calls g c = record { made = tt; damaged = λ is. absurd is; missed = λ none _. absurd (let both : None ≡ c.args.self.now.fault.kept = sym none in let is = c.in-Some.is in cc); at_most = performs_nothing _ _ _ refl; settled = tt; unwritten = λ _. refl }
@@ -97,12 +100,16 @@ returns-then-lsn-lt0-clause-blob g c = λ H A f U m fits zeros.
     not_there g c m.place place (subst (λ (p : DiskPtr). MayBegin (segment_size_of old) (lid_of p)) pointer begins) in
     let trace = g.D.Device.trace in
     let sum = g.C.Checksum.sum_of in
-    let stored : IsStoredBlob trace sum old H m c.args.pid c.args.lsn c.args.ptr → ⊥ = λ is.
-    never is.place is.pointer (record_begins trace sum old H A f U fits m c.in_default.is zeros is.known is.has) in
+    let begins = segment_begins trace sum old H A f U fits c.in_default.is zeros m in
+    let stored : IsStoredBlob trace sum old H m c.args.pid c.args.lsn c.args.ptr → ⊥ = λ is. elim is.has [
+      | inl segment ↦ never is.place is.pointer (begins is.known segment)
+      | inr may ↦ not_there g c m.place is.place may
+    ] in
     record {
       stable = λ is. absurd (never is.place is.pointer (stable_begins trace sum old H A f U fits c.in_default.is zeros m is.entry));
       kept = λ is. absurd (stored (kept_stored trace sum old H A f U fits m _ _ _ is));
       stored = λ is. absurd (stored is);
+      inline = λ is. absurd (never is.place is.pointer (begins is.known is.has));
     }
 
 pub returns-then-lsn-lt0-clause-calls : goal.returns-then-lsn-lt0-clause-calls
@@ -180,6 +187,7 @@ returns-in_err-settle_at-clause-blob g c = λ H A f U m fits zeros.
       stable = λ is. err_gives (Unit {0}) c.in_err-settle_at.field-0.0 m _ at _ _ _ _ _ _ _ (below is) (held_stable old sum at (below is)) (λ used. stable_up old at used.0) (err_at g c);
       kept = λ is. err_waits (Unit {0}) c.in_err-settle_at.field-0.0 m _ _ _ _ _ _ _ _ _ (err_at g c);
       stored = λ is. err_waits (Unit {0}) c.in_err-settle_at.field-0.0 m _ _ _ _ _ _ _ _ _ (err_at g c);
+      inline = λ is. err_waits (Unit {0}) c.in_err-settle_at.field-0.0 m _ _ _ _ _ _ _ _ _ (err_at g c);
     })
 
 pub returns-in_err-settle_at-clause-calls : goal.returns-in_err-settle_at-clause-calls
@@ -275,18 +283,54 @@ held_there g c H m either there has at pointer inline =
     ap (λ n. n / c.args.self.now.config.config.segment_size) place ∙ ap (λ n. m.place / n) (sym c.in_ok-settle_at.ensures.keeps.position.size) in
     subst (λ n. MessageStands sum size device.log.bytes (lid_of c.args.ptr) n m) (sym number) found.stands
 
-pub returns-clause-message : goal.returns-clause-message
-returns-clause-message g c = λ H m either there has at pointer inline.
-    let s = held_there g c H m either there has at pointer inline in
+-- so that it is given, and is no damage
+abbrev IsThere : (g : given.Over) → goal.After-read_settled g → Message → Type 0
+IsThere g c m =
+    MessageStands g.C.Checksum.sum_of (segment_size_of c.settle_at.new.self) (state_of (g.D.Device.trace c.settle_at.new.self.config.device)).log.bytes
+    (lid_of c.args.ptr) (c.unsigned_abs.result / c.args.self.now.config.config.segment_size) m
+
+there_given : (g : given.Over) (c : goal.After-read_settled g) (m : Message) → IsInline c.args.ptr → IsThere g c m → IfOk c.read_settled.result (GivesMessage m)
+there_given g c m inline s =
     let device : State = state_of (g.D.Device.trace c.settle_at.new.self.config.device) in
-    if_ok c.read_settled.result _ (GivesMessage m) (λ (r : LogRead) reads. gives g.C.Checksum.sum_of _ _ _ _ _ m s.header r s.stands s.known s.page (reads_inline g.C.Checksum.sum_of _ device _ _ c.args.ptr r inline reads)) c.read_settled.ensures.reading
+    if_ok c.read_settled.result _ (GivesMessage m) (λ (r : LogRead) reads. gives g.C.Checksum.sum_of _ _ _ _ _ m s.header r s.stands s.known s.page
+    (reads_inline g.C.Checksum.sum_of _ device _ _ c.args.ptr r inline reads)) c.read_settled.ensures.reading
+
+there_sound : (g : given.Over) (c : goal.After-read_settled g) (m : Message) → IsInline c.args.ptr → IsThere g c m → IsCorruption c.read_settled.result → ⊥
+there_sound g c m inline s damaged =
+    stands_readable g.C.Checksum.sum_of _ _ _ _ m s _
+    (damage_inline g.C.Checksum.sum_of _ (state_of (g.D.Device.trace c.settle_at.new.self.config.device)) _ c.args.ptr c.read_settled.result inline
+    c.read_settled.ensures.damage damaged)
+
+pub returns-clause-message : goal.returns-clause-message
+returns-clause-message g c = λ H m either there has at pointer inline. there_given g c m inline (held_there g c H m either there has at pointer inline)
 
 -- what a log fits is held without damage
 
 pub returns-clause-undamaged : goal.returns-clause-undamaged
-returns-clause-undamaged g c = λ H A f U m fits there has at pointer inline damaged.
-    stands_readable g.C.Checksum.sum_of _ _ _ _ m (held_there g c H m (inl (inr (A, f, U, fits))) there has at pointer inline) _
-    (damage_inline g.C.Checksum.sum_of _ (state_of (g.D.Device.trace c.settle_at.new.self.config.device)) _ c.args.ptr c.read_settled.result inline c.read_settled.ensures.damage damaged)
+returns-clause-undamaged g c = λ H A f U m fits there has at pointer inline.
+    there_sound g c m inline (held_there g c H m (inl (inr (A, f, U, fits))) there has at pointer inline)
+
+-- The record of a message stands there, too, whose segment a slot has.
+segment_there : (g : given.Over) (c : goal.After-read_settled g) (H : History) (A f : ℕ) (U : List Message) (m : Message)
+    → Fits g.D.Device.trace g.C.Checksum.sum_of c.args.self.now H A f U → NoHeaderOfZeros g.C.Checksum.sum_of
+    → IsSegmentRecord c.args.self.now H m c.args.lsn c.args.ptr → IsThere g c m
+segment_there g c H A f U m fits zeros is =
+    let old = c.args.self.now in
+    let mid = c.settle_at.new.self in
+    let trace = g.D.Device.trace in
+    let sum = g.C.Checksum.sum_of in
+    elim (segment_held trace sum old H A f U fits c.in_default.is zeros m is.known is.has (lid_of c.args.ptr) (is.pointer ∙ inline_is c.args.ptr is.inline)) [
+      | inl has ↦ held_there g c H m (inl (inr (A, f, U, fits))) is.known has is.place is.pointer is.inline
+      | inr (low, held) ↦ (
+          let here : to_z w64 (of_z w64 c.place_read.result) ≡ pos m.place = at_ok g c ∙ read_here c.args.lsn c.args.ptr is.inline ∙ sym is.place in
+          let below : m.place < synced_end old = omega (arith, low) in
+          let still : mid ≡ old = subst (λ z. z <ℤ pos (synced_end old) → mid ≡ old) here c.settle_at.ensures.still (omega (arith, ints, below)) in
+          let place : c.unsigned_abs.result ≡ m.place = place_is g c ∙ ap unsigned_abs (sym is.place) in
+          subst (λ n. MessageStands sum (segment_size_of mid) (state_of (trace mid.config.device)).log.bytes (lid_of c.args.ptr)
+          (n / c.args.self.now.config.config.segment_size) m) (sym place)
+          (subst (λ (l : Log g.row.D.Denot g.row.C.Denot). MessageStands sum (segment_size_of l) (state_of (trace l.config.device)).log.bytes
+          (lid_of c.args.ptr) (m.place / c.args.self.now.config.config.segment_size) m) (sym still) held.stands))
+    ]
 
 -- the blob of a message is there
 
@@ -314,6 +358,10 @@ returns-clause-blob g c = λ H A f U m fits zeros.
       stable = λ is. gives is.beside is.pointer is.page (subst (λ (l : Log g.row.D.Denot g.row.C.Denot). IsStored trace sum l m) (sym (still is)) (stable_stored trace sum old H A f U fits m is.entry));
       kept = λ is. stored (kept_stored trace sum old H A f U fits m _ _ _ is);
       stored = stored;
+      inline = λ is.
+          let s = segment_there g c H A f U m fits zeros is in
+          inline_read sum (state_of (trace (device_of mid))).blobs.file m c.args.ptr (fault_of old) c.read_settled.result None _ _ _ is.inline refl
+          (there_given g c m is.inline s) (there_sound g c m is.inline s) c.read_settled.ensures.answers;
     }
 
 pub returns-clause-corrupt : goal.returns-clause-corrupt
