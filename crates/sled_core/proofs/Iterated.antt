@@ -4,4 +4,5 @@ pub mod OfLog
 pub mod OnFile
 pub mod ReadHere
 pub mod SegmentReads
+pub mod SegmentsStay
 pub mod StillThere

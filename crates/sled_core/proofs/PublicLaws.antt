@@ -52,6 +52,7 @@ pub use Rattle.sled_core.proofs.Holds.ReachLemmas.{fits_holds, fits_stable, fits
 pub use Rattle.sled_core.proofs.Holds.Reasons.{end_fails, end_succeeds, reserve_fails, write_fails}
 pub use Rattle.sled_core.proofs.Line.NumbersKept.{fits_leaves}
 pub use Rattle.sled_core.proofs.Line.ReadsOwn.{fits_reads_own, fits_reads_own_unless_stale}
+pub use Rattle.sled_core.proofs.Iterated.SegmentsStay.{segment_linked, segment_next, segment_replaced, segment_reserved, segment_sealed, segment_written}
 pub use Rattle.sled_core.proofs.Iterated.StillThere.{still_there}
 pub use Rattle.sled_core.proofs.Line.Buffers.{first_waits}
 pub use Rattle.sled_core.proofs.Line.Fillings.{end_off}

@@ -18,9 +18,9 @@ ghost use Rattle.sled_store.specs.Moments.{IsLater, LeavesOnly};
 ghost use Rattle.sled_store.specs.Script.{Performs};
 ghost use Rattle.sled_store.specs.Outdated.{IsNamedNow, MayName, NamesBlob};
 ghost use Rattle.sled_store.specs.Marks.{IsFormerList, IsIn, IsNeeded, info_of};
-ghost use Rattle.sled_store.specs.SegmentStates.{MayMark, next_slot, slot_at};
+ghost use Rattle.sled_store.specs.SegmentStates.{Machine, MayMark, linked, next_slot, replaced, slot_at};
 ghost use Rattle.sled_store.specs.declared.segment.slot.CacheInfo.{CacheInfo};
-ghost use Rattle.sled_core.specs.Fits.{stable_end, KeepsAll, Awaits, FirstWaits, FitsInline, HasRecordOf, IsLeastOpen, IsUnchanged, IsUsedUpBelow, IsUsedUpFor, IsWritten, NoneOpen, blob_at, body_length, buffers_of, current_begin, device_of, fault_of, fillings_of, given_up_of, heads_of, held_len, holding_below, in_blob_of, is_moved, ledger_for, ledger_of, line_of, machine_at, message_for, message_rewriting, next_place, noted_in, open_of, open_places, pins_of, reserved_end, sealing_end, segment_size_of, start_behind, start_of, synced_end, target_of, waiting_behind, waiting_of, writing_below, writing_pending, writing_some};
+ghost use Rattle.sled_core.specs.Fits.{stable_end, KeepsAll, Awaits, FirstWaits, FitsInline, HasRecordOf, IsLeastOpen, IsUnchanged, IsUsedUpBelow, IsUsedUpFor, IsWritten, NoneOpen, blob_at, body_length, buffers_of, current_begin, device_of, fault_of, fillings_of, given_up_of, heads_of, held_len, holding_below, in_blob_of, is_moved, ledger_for, ledger_of, line_of, machine_at, machine_behind, message_for, message_rewriting, next_place, noted_in, open_of, open_places, pins_of, position_of, reserved_end, sealing_end, segment_size_of, start_behind, start_of, synced_end, target_of, waiting_behind, waiting_of, writing_below, writing_pending, writing_some};
 ghost use Rattle.sled_core.specs.invariants.Fits.{Holds};
 ghost use Rattle.sled_codec.specs.Snapshots.{SnapshotModel, empty_model, stable_place};
 ghost use Rattle.sled_store.specs.Begin.{offset_at, place_at};
@@ -373,6 +373,25 @@ pub fn the_next_slot_is_not_needed<D: Device, C: Checksum>()
     ensures needed { (log : Log D C) (H : History) (A f : ℕ) (U : List Message) (cut place : ℕ) → Fits D.trace C.sum_of log H A f U
         → (fault_of log ≡ None) ⊎ NoHeaderOfZeros C.sum_of → stable_end log ≤ cut → IsNeeded (segment_size_of log) H cut place
         → (k : ℕ) × IsIn (machine_at log) k place × (k ≢ next_slot (machine_at log)) }
+{}
+
+/// While a pin is out a slot keeps its segment, whatever is called: a reservation hands out a slot that was free, and so does a call that seals the
+/// current buffer; a write frees none then; and marks change no segment. So what was in the table when a pin was taken (law
+/// `what_has_its_record_has_its_segment`) goes on being read until the pin goes back (`stored` and `inline` of `ReadsMessage`), whatever comes to
+/// its page: also once it is replaced, and once the page is given back, in whatever order the messages are completed.
+pub fn a_pin_keeps_segments<D: Device, C: Checksum>()
+    ensures reserved { (log : Log D C) (H : History) (A f : ℕ) (U : List Message) (page n place : ℕ) → Fits D.trace C.sum_of log H A f U
+        → HasSegment (machine_at log) place → HasSegment (machine_behind log page n) place }
+    ensures next { (log : Log D C) (H : History) (A f : ℕ) (U : List Message) (place : ℕ) → Fits D.trace C.sum_of log H A f U
+        → HasSegment (machine_at log) place → HasSegment (position_of log).machine place }
+    ensures sealed { (log : Log D C) (H : History) (A f : ℕ) (U : List Message) (at place : ℕ) → Fits D.trace C.sum_of log H A f U
+        → HasSegment (machine_at log) place → HasSegment (ledger_for at log).machine place × HasSegment (ledger_at at log).machine place }
+    ensures written { (size : ℕ) (bs : List BufferAt) (l : Ledger) (place : ℕ) → l.account.pinned ≡ true → HasSegment l.machine place
+        → HasSegment (ledger_behind size bs l).machine place }
+    ensures linked { (size pid : ℕ) (info : CacheInfo) (m : Machine) (place : ℕ) → MayMark size m info [] → HasSegment m place
+        → HasSegment (linked size pid info m) place }
+    ensures replaced { (size pid : ℕ) (info : CacheInfo) (old : List CacheInfo) (m : Machine) (place : ℕ) → MayMark size m info old → HasSegment m place
+        → HasSegment (replaced size pid info old m) place }
 {}
 
 /// What can be recovered at each moment of one call and of the next can be at each moment of both.

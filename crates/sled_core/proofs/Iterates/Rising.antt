@@ -1,8 +1,7 @@
 -- What an iterator gives of segments one behind another has ever greater places; and the segments that are found in a file lie so, and those of a log.
-use Rattle.std.proofs.Common.{⊎_elim, ◌≡◌, ◌⊎◌, ◌∙◌, ◌+◌, ◌%◌, ◌/◌, ◌≤◌, ◌<◌, ◌++◌, ℕ, suc, ℤ, pos, min, Bool, true, false, nat_lt, if◌then◌else◌, List, [], ◌∷◌, Option, None, refl, sym, ap, subst, arith, inl, inr}
+use Rattle.std.proofs.Common.{◌≡◌, ◌⊎◌, ◌∙◌, ◌+◌, ◌%◌, ◌/◌, ◌≤◌, ◌<◌, ◌++◌, ℕ, suc, ℤ, min, Bool, true, false, nat_lt, if◌then◌else◌, List, [], ◌∷◌, Option, None, refl, sym, ap, subst, arith, inl, inr}
 use Rattle.std.specs.Bool.{MatchBool}
 use Rattle.std.specs.List.{Contains}
-use Rattle.std.proofs.lemmas.Bool.{true≢false}
 use Rattle.sled_codec.specs.History.{History, Message}
 use Rattle.sled_store.specs.Device.{Trace}
 use Rattle.sled_store.proofs.Segments.Elements.{in_first, in_rest}

@@ -1,7 +1,6 @@
 -- Where nothing in a log file is stale, the cleared file is the file itself.
-use Rattle.std.proofs.Common.{◌≡◌, ◌∙◌, ◌+◌, ◌-◌, ◌*◌, ◌/◌, ◌≤◌, ◌<◌, ℕ, zero, suc, Bool, true, false, if◌then◌else◌, List, [], ◌∷◌, ◌++◌, Some, refl, sym, ap, subst, arith, drop, take}
+use Rattle.std.proofs.Common.{◌≡◌, ◌∙◌, ◌+◌, ◌-◌, ◌*◌, ◌/◌, ◌<◌, ℕ, zero, suc, Bool, true, false, if◌then◌else◌, List, [], ◌∷◌, Some, sym, ap, subst, arith, drop, take}
 use Rattle.std.specs.List.{All, Contains, slice_get}
-use Rattle.std.proofs.Math.Nat.{div-eq_of_lt-le}
 use Rattle.std.proofs.lemmas.List.Elements.{All-cons, All-contains, All-head, All-nil, All-tail, Contains-append_left, Contains-append_right}
 use Rattle.sled_store.specs.SegmentStates.{Machine}
 use Rattle.sled_store.proofs.Segments.Elements.{in_first, in_rest}
