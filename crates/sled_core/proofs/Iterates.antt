@@ -1,4 +1,5 @@
 pub mod AheadLemmas
+pub mod AnyBytes
 pub mod Failures
 pub mod Headers
 pub mod KeptLemmas

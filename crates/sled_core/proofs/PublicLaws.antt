@@ -73,6 +73,7 @@ pub use Rattle.sled_core.proofs.Line.ReservedWhole.{reserves_as}
 -- What an iterator gives, by one reading of a segment.
 pub use Rattle.sled_core.proofs.Iterates.OneReplay.{iteration_damaged, iteration_replayed}
 -- It has ever greater places.
+pub use Rattle.sled_core.proofs.Iterates.AnyBytes.{bytes_rise}
 pub use Rattle.sled_core.proofs.Iterates.Rising.{found_follow, iteration_rises, log_follows}
 -- An iterator of a log only reads it, and gives it back.
 pub use Rattle.sled_core.proofs.Iterates.OverLog.{over_back, over_begun, over_next}

@@ -525,12 +525,15 @@ pub fn an_iterator_only_reads_its_log<D: Device, C: Checksum>()
         → (r : MutBor (Log D C)) × (result ≡ Some r) × (r.ghost_name ≡ entry.ghost_name) × IsOnlyRead D.trace C.sum_of entry.now r.now }
 {}
 
-/// An iterator gives messages of ever greater places, whatever stands in the file: of segments one behind another (`FollowFrom`), each of which
-/// is read in some way (`IsReadBy`), as it has to be before anything can be said of what is given. The segments that are found in a file lie so,
-/// and so do those of a log.
+/// An iterator gives messages of ever greater places, whatever bytes stand in the file, where its segments lie one behind another (`FollowFrom`):
+/// so the segments lie that are found in a file, and those of a log. Of a list with other numbers than bytes the same is said where each segment
+/// can be read in some way (`IsReadBy`).
 pub fn an_iteration_rises<D: Device, C: Checksum>()
     ensures rises { (sum : List ℕ → ℕ) (size : ℕ) (log : List ℕ) (blobs : ℤ → Option (List ℕ)) (end : ℕ) (strict : Bool) (low : ℕ) (ss : List Segment)
         (items : List Item) (damage : Damage) → FollowFrom size low ss → ((s : Segment) → Contains ss s → IsReadBy sum size log end s)
+        → IsIteration sum size log blobs end strict ss items damage → RiseFrom low items }
+    ensures bytes { (sum : List ℕ → ℕ) (size : ℕ) (log : List ℕ) (blobs : ℤ → Option (List ℕ)) (end : ℕ) (strict : Bool) (low : ℕ) (ss : List Segment)
+        (items : List Item) (damage : Damage) → All (λ b. b < 256) log → FollowFrom size low ss
         → IsIteration sum size log blobs end strict ss items damage → RiseFrom low items }
     ensures found { (sum : List ℕ → ℕ) (size : ℕ) (log : List ℕ) (least end : ℕ) (ordering : List Segment) → 0 < size
         → IsOrdering sum size log least ordering → FollowFrom size least (begun_below end ordering) }
