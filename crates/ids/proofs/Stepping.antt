@@ -14,13 +14,12 @@ use Rattle.sled_store.specs.Device.{Crashed, Left, Trace, content_left, state_of
 use Rattle.sled_store.specs.Moments.{IsLater, Throughout}
 use Rattle.sled_store.specs.Noted.{left_of}
 use Rattle.sled_store.proofs.PublicLaws.{at_last, later_same}
-use Rattle.sled_store.proofs.Traces.StopLemmas.{asked_later, asked_state}
 use Rattle.sled_core.specs.Fits.{config_of, fault_of, position_of}
 use Rattle.sled_core.specs.Keeps.{ConfigKept}
 use Rattle.sled_core.specs.Recoverable.{NoForeign, ReadsOnlyOwn}
 use Rattle.sled_log.specs.RunPhases.{traces}
 use Rattle.sled_log.specs.RunStates.{DeviceView}
-use Rattle.sled_log.proofs.PublicLaws.{may_be_left}
+use Rattle.sled_log.proofs.PublicLaws.{asked_later, asked_state, may_be_left}
 use Rattle.ids.specs.declared.generator.IdGenerator.{IdGenerator}
 use Rattle.ids.specs.declared.run.Command.{Command}
 use Rattle.ids.specs.declared.run.Command.TheVariants as told

@@ -1,8 +1,9 @@
+pub mod AnyBytes
 pub mod Given
 pub mod Listed
 pub mod OfLog
 pub mod OnFile
 pub mod ReadHere
+pub mod Rising
 pub mod SegmentReads
 pub mod SegmentsStay
-pub mod StillThere

@@ -1,5 +1,4 @@
 pub mod AheadLemmas
-pub mod AnyBytes
 pub mod Failures
 pub mod Headers
 pub mod KeptLemmas
@@ -11,7 +10,6 @@ pub mod OfSlots
 pub mod OneReplay
 pub mod OverLog
 pub mod Records
-pub mod Rising
 pub mod Slots
 pub mod Spent
 pub mod TurnLemmas

@@ -142,6 +142,7 @@ pub mod StepAlong
 pub mod StepBetween
 pub mod StepFits
 pub mod StepTaken
+pub mod StillThere
 pub mod TableKept
 pub mod Targets
 pub mod TicketEnds

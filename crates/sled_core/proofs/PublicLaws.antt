@@ -52,8 +52,10 @@ pub use Rattle.sled_core.proofs.Holds.ReachLemmas.{fits_holds, fits_stable, fits
 pub use Rattle.sled_core.proofs.Holds.Reasons.{end_fails, end_succeeds, reserve_fails, write_fails}
 pub use Rattle.sled_core.proofs.Line.NumbersKept.{fits_leaves}
 pub use Rattle.sled_core.proofs.Line.ReadsOwn.{fits_reads_own, fits_reads_own_unless_stale}
+pub use Rattle.sled_core.proofs.Blobs.FirmContent.{only_own, read_recoverable}
+pub use Rattle.sled_core.proofs.Holds.CallMoments.{own_after_crash}
 pub use Rattle.sled_core.proofs.Iterated.SegmentsStay.{segment_linked, segment_next, segment_replaced, segment_reserved, segment_sealed, segment_written}
-pub use Rattle.sled_core.proofs.Iterated.StillThere.{still_there}
+pub use Rattle.sled_core.proofs.Line.StillThere.{still_there}
 pub use Rattle.sled_core.proofs.Line.Buffers.{first_waits}
 pub use Rattle.sled_core.proofs.Line.Fillings.{end_off}
 pub use Rattle.sled_core.proofs.Line.NextSlot.{mark_stable_end, next_not_needed}
@@ -73,8 +75,8 @@ pub use Rattle.sled_core.proofs.Line.ReservedWhole.{reserves_as}
 -- What an iterator gives, by one reading of a segment.
 pub use Rattle.sled_core.proofs.Iterates.OneReplay.{iteration_damaged, iteration_replayed}
 -- It has ever greater places.
-pub use Rattle.sled_core.proofs.Iterates.AnyBytes.{bytes_rise}
-pub use Rattle.sled_core.proofs.Iterates.Rising.{found_follow, iteration_rises, log_follows}
+pub use Rattle.sled_core.proofs.Iterated.AnyBytes.{bytes_rise}
+pub use Rattle.sled_core.proofs.Iterated.Rising.{found_follow, iteration_rises, log_follows}
 -- An iterator of a log only reads it, and gives it back.
 pub use Rattle.sled_core.proofs.Iterates.OverLog.{over_back, over_begun, over_next}
 -- Intervals have one stable end, in none of whose batches it lies.

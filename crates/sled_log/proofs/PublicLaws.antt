@@ -20,9 +20,12 @@ pub use Rattle.sled_log.proofs.Histories.Beginnings.{below_begins}
 pub use Rattle.sled_log.proofs.Histories.LastBeginnings.{beginning_in_table, link_in_table, new_in_table}
 pub use Rattle.sled_log.proofs.Histories.PagesAlone.{batch_added, others_leave, own_added, own_apart, own_below, own_table}
 pub use Rattle.sled_log.proofs.Sessions.RunHistories.{orderly, none_orderly, completed, forgotten}
+pub use Rattle.sled_log.proofs.Sessions.Headline.{step_means}
 pub use Rattle.sled_log.proofs.Sessions.MadeHistories.{new_there, none_made, orderly_added}
 pub use Rattle.sled_log.proofs.Sessions.RunLemmas.{may_be_left}
 pub use Rattle.sled_log.proofs.PageTable.TableCuts.{table_below}
+-- A stop that was asked for changes nothing else of a device.
+pub use Rattle.sled_store.proofs.Traces.StopLemmas.{asked_later, asked_state}
 pub use Rattle.sled_store.proofs.Histories.TableParts.{from_table}
 -- Helpers: what is an element of a list, of a filter, or of a page's messages below a cut, and that each message has a size.
 pub use Rattle.sled_log.proofs.Histories.Sizes.{has_size}

@@ -39,7 +39,7 @@ use Rattle.sled_core.specs.inside.Running.{FitsWith}
 use Rattle.sled_core.specs.Tail.{least_place}
 use Rattle.sled_core.proofs.Holds.HeldFrom.{held_under}
 use Rattle.sled_core.proofs.Holds.ReachLemmas.{completed_behind}
-use Rattle.sled_core.proofs.Iterated.StillThere.{still_there}
+use Rattle.sled_core.proofs.Line.StillThere.{still_there}
 use Rattle.sled_core.proofs.Line.BlobReads.{among}
 use Rattle.sled_core.proofs.Line.Reads.{fault_missed}
 use Rattle.sled_core.proofs.Line.Rewritten.{ordered, synced_before}

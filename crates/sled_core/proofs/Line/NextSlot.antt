@@ -24,7 +24,7 @@ use Rattle.sled_core.specs.inside.OpenBatches.{IsOpenBatch}
 use Rattle.sled_core.specs.invariants.Running.{Fits}
 use Rattle.sled_core.proofs.Holds.FitsBatches.{stable_noted}
 use Rattle.sled_core.proofs.Holds.HeldFrom.{held_marked}
-use Rattle.sled_core.proofs.Iterated.StillThere.{entry_placed}
+use Rattle.sled_core.proofs.Line.StillThere.{entry_placed}
 use Rattle.sled_core.proofs.Reached.StableBelow.{stable_is, stable_rises}
 
 -- What lies below a place, and in none of the batches that are open there, lies below the stable place.

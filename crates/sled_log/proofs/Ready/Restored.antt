@@ -1,12 +1,13 @@
 -- What a recovery restored is good, can be recovered again, and a log can go on from it; and of what can be recovered nothing is taken for damage.
-use Rattle.std.proofs.Common.{◌≤◌, ℕ, List, sym, subst, inl, inr}
+use Rattle.std.proofs.Common.{◌≤◌, ℕ, List, Option, sym, subst, inl, inr}
+use Rattle.sled_codec.specs.declared.result.DiskPtr.{DiskPtr}
 use Rattle.sled_codec.specs.History.{History, below}
 use Rattle.sled_codec.specs.Snapshots.{SnapshotModel, stable_place}
 use Rattle.sled_store.specs.Device.{Content, Trace, content_of, state_of}
 use Rattle.sled_core.specs.Good.{IsGood}
 use Rattle.sled_core.specs.Recoverable.{LeavesRecoverable}
 use Rattle.sled_core.specs.invariants.Running.{Ready}
-use Rattle.sled_core.proofs.Blobs.FirmContent.{read_recoverable}
+use Rattle.sled_core.proofs.PublicLaws.{read_recoverable}
 use Rattle.sled_core.proofs.Numbers.Lasting.{lasting_leaves}
 use Rattle.sled_core.proofs.Start.StartedMoments.{ready_lasts}
 use Rattle.sled_log.specs.Orderly.{CanRecover}
@@ -27,9 +28,9 @@ module _ (sum : List ℕ → ℕ) (size : ℕ) (long : 256 ≤ size) (old : Trac
   reads : CanRead sum size content H A f
   reads = read_of sum size content H A f can.orderly (read_recoverable sum size old can.own H A f can.left)
 
-  pub not_damaged : size ≤ 8388608 → MeetsDamage sum size content → ⊥
-  not_damaged most (inl damaged) = read_undamaged sum size content H A f long reads damaged
-  not_damaged most (inr (x, recovers, none)) = none (startable sum size content H A f long most reads x recovers)
+  pub not_damaged : size ≤ 8388608 → (at : Option DiskPtr) → MeetsDamage sum size content at → ⊥
+  not_damaged most at (inl damaged) = read_undamaged sum size content H A f long reads at damaged
+  not_damaged most at (inr (unnamed, x, recovers, none)) = none (startable sum size content H A f long most reads x recovers)
 
   module _ (new : Trace) (s : SnapshotModel) (ok : Restores sum size old new s) where
     pub restored_good : IsGood sum size (content_of (state_of new)) H A f s

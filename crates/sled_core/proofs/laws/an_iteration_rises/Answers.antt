@@ -1,6 +1,6 @@
 -- What is given of segments one behind another has ever greater places.
-use Rattle.sled_core.proofs.Iterates.AnyBytes.{bytes_rise}
-use Rattle.sled_core.proofs.Iterates.Rising.{found_follow, iteration_rises, log_follows}
+use Rattle.sled_core.proofs.Iterated.AnyBytes.{bytes_rise}
+use Rattle.sled_core.proofs.Iterated.Rising.{found_follow, iteration_rises, log_follows}
 use Rattle.sled_core.proofs.laws.an_iteration_rises.Goals as goal
 
 pub returns : goal.returns

@@ -4,7 +4,7 @@ use Rattle.sled_store.specs.Device.{Trace, state_of}
 use Rattle.sled_store.specs.Moments.{IsLater, Throughout}
 use Rattle.sled_store.proofs.PublicLaws.{later_both}
 use Rattle.sled_core.specs.Fits.{device_of, fault_of, open_places, pins_of, position_of, segment_size_of, synced_end}
-use Rattle.sled_core.proofs.Blobs.FirmContent.{read_recoverable}
+use Rattle.sled_core.proofs.PublicLaws.{read_recoverable}
 use Rattle.sled_core.proofs.PublicLaws.{none_is_empty}
 use Rattle.ids.specs.Bounds.{GivesFrom}
 use Rattle.ids.specs.Generators.{CanOpen}

@@ -25,7 +25,7 @@ use Rattle.sled_core.specs.Reading.{IsMalformed, StandsAt, is_blob, is_inline}
 use Rattle.sled_core.specs.Rising.{FollowFrom, IsReadBy, RiseFrom}
 use Rattle.sled_core.specs.Scan.{EndsThere, IsEnd, IsMet, IsPath, Says}
 use Rattle.sled_core.specs.Tail.{open_at}
-use Rattle.sled_core.proofs.Iterates.Rising.{iteration_rises}
+use Rattle.sled_core.proofs.Iterated.Rising.{iteration_rises}
 use Rattle.sled_core.proofs.Read.ScanLemmas.{met_fits}
 
 -- Eight bytes are a number that fits a word.
