@@ -177,6 +177,7 @@ impl<D: Device, C: Checksum> Log<D, C> {
     }
 
     /// Takes a pin, and returns the guard that stands for it. There may be fewer than 2^32 - 1. While one is out no segment comes free.
+    #[inline(always)]
     pub fn pin(&mut self) -> Guard
         requires { pins_of self.old < 2 ^ 32 - 1 }
         ensures taken { self.new ≡ record self.old { pins = pins_of self.old + 1 } }
@@ -187,6 +188,7 @@ impl<D: Device, C: Checksum> Log<D, C> {
     }
 
     /// Gives a pin back. What comes free without one does so behind the next write of a buffer.
+    #[inline(always)]
     pub fn unpin(&mut self, guard: Guard)
         requires { 0 < pins_of self.old }
         ensures given { self.new ≡ record self.old { pins = pins_of self.old - 1 } }
@@ -239,6 +241,7 @@ impl<D: Device, C: Checksum> Log<D, C> {
     ///
     /// `Io` exactly where the log keeps a failure of its device. The ticket is spent all the same, and its message
     /// is not in the history.
+    #[inline(always)]
     pub fn complete(&mut self, ticket: Reservation) -> Result<(Lsn, DiskPtr)>
         requires awaited { IsOpen self.old ticket }
         requires message { is_manifest_of ticket ≡ false }
@@ -354,6 +357,7 @@ impl<D: Device, C: Checksum> Log<D, C> {
     }
 
     /// Returns whether a message with this item has it in its record. Else `reserve` puts it into a blob.
+    #[inline(always)]
     pub fn fits_inline<T: Serialize>(&self, item: &T) -> bool
         requires { T.fits (T.meaning item.now) }
         ensures { IsTrue result ↔ FitsInline (segment_size_of self.now) (length (T.short (T.meaning item.now))) }

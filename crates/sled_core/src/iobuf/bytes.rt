@@ -5,7 +5,8 @@ ghost use Rattle.sled_codec.specs.Written.{written};
 ghost use Rattle.sled_core.specs.inside.Buffers.{ending, placeholder_head};
 ghost use Rattle.sled_core.specs.invariants.Caps.{segment_rest};
 
-use crate::iobuf::record::{Head, push_placeholder, push_rest, sum_around};
+use crate::iobuf::record::{Head, push_placeholder, push_rest};
+use crate::iterator::sums::sum_in_place;
 use sled_codec::result::{Error, Result};
 use sled_codec::serialization::{Checksum, MessageKind, SegmentNumber, Serialize};
 use std::alloc::Global;
@@ -149,7 +150,7 @@ impl SegmentBytes {
         ensures bytes { self.new.items ≡ self.old.items }
         ensures room { self.new.room ≡ self.old.room }
     {
-        sum_around(checksum, &mut self.bytes, from, header_len, len)
+        sum_in_place(checksum, &mut self.bytes, from, header_len, len)
     }
 
     /// Gives them away.

@@ -63,6 +63,7 @@ impl Rest {
     }
 
     /// The next message. Behind the last one and behind an error nothing is left.
+    #[inline(always)]
     pub(crate) fn next<D: Device, C: Checksum>(
         &mut self,
         config: &mut RunningConfig<D, C>,
@@ -90,6 +91,7 @@ impl Rest {
 
     /// The next message, where one is left; else nothing is. `Corruption` comes where a damaged record is the next one that is
     /// met, or one whose blob doesn't pass for it.
+    #[inline(always)]
     fn next_message<D: Device, C: Checksum>(
         &mut self,
         config: &mut RunningConfig<D, C>,
@@ -122,6 +124,7 @@ impl Rest {
 
     /// The next message of those that were met in the segment that was read last. At the end, and at a batch that does not end below it,
     /// nothing is left. `Corruption` comes where a blob doesn't pass for its record, and behind them where a damaged record stands there.
+    #[inline(always)]
     fn next_met<D: Device, C: Checksum>(
         &mut self,
         config: &mut RunningConfig<D, C>,
@@ -163,6 +166,7 @@ impl Rest {
 
     /// Reads the next segment, and keeps what is met in it, or ahead of a damaged record in it before a batch that does not end
     /// below the end. Where the header isn't there that was asked for, nothing is left.
+    #[inline(never)]
     fn read_segment<D: Device, C: Checksum>(
         &mut self,
         config: &mut RunningConfig<D, C>,
@@ -245,6 +249,7 @@ impl Rest {
 }
 
 /// Whether an iterator ends at a record: it lies at the end or behind it, or begins a batch that does not end below it.
+#[inline(always)]
 fn stops(met: &ScannedRecord, end: u64) -> bool
     requires { end < 2 ^ 63 }
     ensures { result ≡ stops end met.now }
@@ -263,6 +268,7 @@ fn begins_at<C: Checksum>(checksum: &C, buf: &BasedBuf, place: u64) -> bool
 }
 
 /// A record as a message, where it is one.
+#[inline(always)]
 fn message_of(met: &ScannedRecord) -> Option<(LogKind, PageId, Lsn, DiskPtr, u64)>
     requires { met.now.place < 2 ^ 63 }
     ensures { items_of met.now met.now.what ≡ those_of result }

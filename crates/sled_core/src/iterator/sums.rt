@@ -1,5 +1,5 @@
 //! The sum of a record, taken where the record stands in the bytes of its slot: nothing of its body is copied.
-ghost use Rattle.std.specs.Prelude.{◌≡◌, ◌+◌, ◌-◌, ◌≤◌, ◌++◌, length};
+ghost use Rattle.std.specs.Prelude.{◌≡◌, ◌+◌, ◌-◌, ◌≤◌, ◌++◌, length, vec_capacity};
 ghost use Rattle.sled_codec.specs.Places.{part};
 ghost use Rattle.sled_codec.specs.Written.{written};
 
@@ -25,6 +25,7 @@ pub(crate) fn sum_in_place<C: Checksum>(
     requires within { from + len ≤ length bytes.old.items }
     ensures sum { result ≡ C.sum_of (part bytes.old.items (from + header_len) (len - header_len) ++ part bytes.old.items (from + 4) (header_len - 4)) }
     ensures bytes { bytes.new.items ≡ bytes.old.items }
+    ensures capacity { vec_capacity bytes.new ≡ vec_capacity bytes.old }
 {
     if header_len <= MAX_MSG_HEADER_LEN && bytes.len() - (from + len) >= CHUNK_LEN {
         return sum_over(checksum, bytes, from, header_len, len);

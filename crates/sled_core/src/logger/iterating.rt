@@ -78,6 +78,7 @@ impl<D: Device, C: Checksum> Log<D, C> {
     }
 
     /// The next item of what is left of the log. A failure of the device is kept.
+    #[inline(always)]
     pub(crate) fn next_of(
         &mut self,
         rest: &mut Rest,

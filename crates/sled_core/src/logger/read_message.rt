@@ -131,6 +131,7 @@ fn with_item<D: Device, C: Checksum>(
 ///
 /// `Corruption` where a record stands there that has to hold a place and does not. `Io` where the device failed,
 /// and `OutOfMemory`, as of `read_message`.
+#[inline(always)]
 pub fn read_record<D: Device, C: Checksum>(
     config: &mut RunningConfig<D, C>,
     buf: Option<&BasedBuf>,
@@ -155,6 +156,7 @@ pub fn read_record<D: Device, C: Checksum>(
 }
 
 /// What is laid at an offset of the buffer, or of the device's log.
+#[inline(always)]
 fn find_in<D: Device, C: Checksum>(
     config: &mut RunningConfig<D, C>,
     buf: Option<&BasedBuf>,
@@ -182,6 +184,7 @@ fn find_in<D: Device, C: Checksum>(
 }
 
 /// What a record holds, where its sum is right.
+#[inline(always)]
 fn read_found<C: Checksum>(checksum: &C, found: UnverifiedRecord) -> Result<LogRead>
     requires { found.header.kind ≢ kind.Corrupted }
     ensures reading { (size : ℕ) (log : List ℕ) (lid number : ℕ) → IsFound size log lid number found → IfOk result (IsRecordRead C.sum_of size log lid number) }
@@ -204,6 +207,7 @@ fn read_found<C: Checksum>(checksum: &C, found: UnverifiedRecord) -> Result<LogR
 }
 
 /// What is laid at an offset for a segment of this number, if it is a record but for its sum.
+#[inline(always)]
 fn find_record<R: ReadAt>(
     alloc: Global,
     reader: &mut R,
@@ -234,6 +238,7 @@ fn find_record<R: ReadAt>(
 }
 
 /// The same, where the first bytes at the offset begin with this header.
+#[inline(always)]
 fn find_announced<R: ReadAt>(
     alloc: Global,
     reader: &mut R,
@@ -280,6 +285,7 @@ fn find_announced<R: ReadAt>(
 }
 
 /// The first bytes from an offset on, and how many of them the file has. The others are anything.
+#[inline(always)]
 fn read_head<R: ReadAt>(reader: &mut R, lid: LogOffset) -> Result<([u8; READ_AHEAD], usize)>
     requires { R.begins reader.old ≤ lid }
     ensures head { IfOk result (λ read. (k : ℕ) → k ≤ 32 → lid + k ≤ length (R.file reader.old) → take k read.0 ≡ part (R.file reader.old) lid k) }
@@ -317,6 +323,7 @@ pub(crate) fn header_of(alloc: Global, bytes: &[u8]) -> Option<(MessageHeader, u
 }
 
 /// Whether a record of this header may stand where there are so many bytes, for a segment.
+#[inline(always)]
 pub(crate) fn may_be(
     header: &MessageHeader,
     header_len: usize,
@@ -340,6 +347,7 @@ fn is_offset(lid: LogOffset, len: u64) -> bool
 }
 
 /// So many bytes from an offset on, with room for a header behind them, where the file has them.
+#[inline(always)]
 fn read_body<R: ReadAt>(
     alloc: Global,
     reader: &mut R,
@@ -367,6 +375,7 @@ fn read_body<R: ReadAt>(
 }
 
 /// Whether a header carries the sum of this body and of what stands behind the sum.
+#[inline(always)]
 fn passes<C: Checksum>(
     checksum: &C,
     header: &MessageHeader,
@@ -382,6 +391,7 @@ fn passes<C: Checksum>(
 }
 
 /// Whether a header carries this sum.
+#[inline(always)]
 pub(crate) fn has_sum(header: &MessageHeader, sum: u32) -> bool
     ensures { IsTrue result ↔ (header.now.crc32 ≡ flipped sum) }
 {
@@ -389,6 +399,7 @@ pub(crate) fn has_sum(header: &MessageHeader, sum: u32) -> bool
 }
 
 /// What a record holds, by its kind.
+#[inline(always)]
 fn reading_of(header: MessageHeader, body: Vec<u8>, len: u32) -> Result<LogRead>
     requires { header.kind ≢ kind.Corrupted }
     ensures reading { IfOk result (HoldsAs header body.items len) }

@@ -40,6 +40,7 @@ impl<D: Device, C: Checksum> Log<D, C> {
     /// `OutOfMemory` where none of these is so. After each of them the log is as it was; where the blob could not be had memory for, the next segment may
     /// have been begun. `Io` for a blob where the device failed in this call, which the log keeps, and of kind `AlreadyExists` where
     /// there is a blob of that name, which it doesn't keep: the next segment may have been begun then too.
+    #[inline(always)]
     pub fn reserve<T: Serialize>(
         &mut self,
         kind: LogKind,

@@ -41,6 +41,7 @@ pub(crate) fn apply_all(
 }
 
 /// Applies one record.
+#[inline(always)]
 fn apply(alloc: Global, pages: &mut Vec<PageState>, m: &ScannedRecord) -> Result<()>
     requires { m.now.place < 2 ^ 63 }
     ensures pages { OnOk result (map page_of pages.new.items ≡ table_of (map page_of pages.old.items) (applied_of m.now m.now.what)) }
@@ -62,6 +63,7 @@ fn apply(alloc: Global, pages: &mut Vec<PageState>, m: &ScannedRecord) -> Result
 }
 
 /// Changes a table by a message.
+#[inline(always)]
 fn change(
     alloc: Global,
     pages: &mut Vec<PageState>,
@@ -85,6 +87,7 @@ fn change(
 }
 
 /// Sets a page, in a table that grows where it has to.
+#[inline(always)]
 fn put(pages: &mut Vec<PageState>, page: PageId, state: PageState) -> Result<()>
     requires { page + 1 < 2 ^ 64 }
     ensures table { OnOk result (map page_of pages.new.items ≡ set (grown (map page_of pages.old.items) (page + 1)) page (page_of state)) }
