@@ -7,13 +7,15 @@ use Rattle.sled_codec.specs.declared.result.Error.TheVariants.{Io, OutOfMemory, 
 use Rattle.sled_codec.specs.History.{Message, History}
 use Rattle.sled_store.specs.Answers.{is_fault}
 use Rattle.sled_store.specs.Blobs.{ItemAnswers}
-use Rattle.sled_store.specs.Device.{Event, Trace, state_of}
+use Rattle.sled_store.specs.Device.{Event, State, Trace, state_of}
 use Rattle.sled_store.specs.Moments.{LeavesOnly}
 use Rattle.sled_store.specs.Script.{Performs, after_all}
 use Rattle.sled_core.specs.declared.logger.Log.{Log}
 use Rattle.sled_core.specs.Fits.{device_of, fault_of, flushing, ledger_for, reserved_end, segment_size_of}
 use Rattle.sled_core.specs.Keeps.{sealed_for}
 use Rattle.sled_core.specs.Ledger.{ledger_behind}
+use Rattle.sled_core.specs.LogStatus.{status_below}
+use Rattle.sled_core.specs.Stale.{NothingStaleAt}
 use Rattle.sled_core.specs.Recoverable.{NoHeaderOfZeros, ReadsOnlyOwn, RecoverableIfOwn}
 use Rattle.sled_core.specs.Waiting.{front_below}
 use Rattle.sled_core.specs.invariants.Running.{Fits}
@@ -25,13 +27,22 @@ abbrev pub mark_flushed : {D C : Type 0} → (List ℕ → ℕ) → Log D C → 
 mark_flushed sum log =
     let to = reserved_end log in (ledger_behind (segment_size_of log) (front_below to (sealed_for sum to log)) (ledger_for to log)).account.mark
 
+-- what its device has then
+abbrev pub state_flushed : {D C : Type 0} → (D → Trace) → (List ℕ → ℕ) → Log D C → State
+state_flushed trace sum log = state_of (after_all (flushing sum log) (trace (device_of log)))
+
+-- So nothing stale stands in its file then.
+abbrev pub NothingStaleFlushed : {D C : Type 0} → (D → Trace) → (List ℕ → ℕ) → Log D C → Type 0
+NothingStaleFlushed trace sum log =
+    NothingStaleAt (segment_size_of log) (status_below sum (reserved_end log) log) (state_flushed trace sum log).log.bytes
+
 -- Only what the log itself wrote passes as its own in what a recovery reads, behind all that the flush writes: so it is where zeros pass as no header, as long
--- as no mark joins that is above the floor. (Then segments may be freed, and once slots come back, behind the end of what was written an item of an older
--- segment may stand that looks like a record of the log's.)
+-- as no mark joins that is above the floor, or nothing stale stands in the file. (Once a slot is used a second time, behind the end of what was written an item
+-- of an older segment may stand that looks like a record of the log's.)
 abbrev pub ReadsOwnFlushed : {D C : Type 0} → (D → Trace) → (List ℕ → ℕ) → Log D C → ℕ → Type 0
 ReadsOwnFlushed trace sum log f =
-    (NoHeaderOfZeros sum × (mark_flushed sum log ≤ℤ pos f))
-    ⊎ ReadsOnlyOwn sum (segment_size_of log) (state_of (after_all (flushing sum log) (trace (device_of log))))
+    (NoHeaderOfZeros sum × ((mark_flushed sum log ≤ℤ pos f) ⊎ NothingStaleFlushed trace sum log))
+    ⊎ ReadsOnlyOwn sum (segment_size_of log) (state_flushed trace sum log)
 
 -- A log fits an orderly history, and what is read behind its flush is its own.
 pub record CanRestart {D C : Type 0} (trace : D → Trace) (sum : List ℕ → ℕ) (log : Log D C) (H : History) (A f : ℕ) (U : List Message) : Type 0 where

@@ -18,6 +18,7 @@ use Rattle.sled_store.specs.Moments.{IsLater, LeavesOnly}
 use Rattle.sled_store.specs.Noted.{left_of}
 use Rattle.sled_store.specs.Stops.{KeepsToStop}
 use Rattle.sled_core.specs.Manifests.{manifest_page}
+use Rattle.sled_core.specs.Stale.{NothingStaleAt}
 use Rattle.sled_core.specs.Recoverable.{LeavesRecoverable, NoForeign, ReadsOnlyOwn, RecoverableIfOwn}
 use Rattle.sled_log.specs.declared.session.command.Command.{Command}
 use Rattle.sled_log.specs.declared.session.command.Command.TheVariants as command
@@ -73,10 +74,10 @@ abbrev pub told : Bool → Reply → Reply
 told true (reply.Failed (Io e)) = reply.Stopped
 told stopped r = r
 
--- where a log is open that keeps no failure, and no mark joined that is above this place
-abbrev pub WhileClean : ℕ → Option LogView → Type 0 → Type 0
-WhileClean floor None P = Unit {0}
-WhileClean floor (Some l) P = l.status.fault ≡ None → l.status.account.mark ≤ℤ pos floor → P
+-- where a log is open that keeps no failure, and no mark joined that is above this place, or nothing stale stands in this log file
+abbrev pub WhileClean : ℕ → ℕ → List ℕ → Option LogView → Type 0 → Type 0
+WhileClean size floor bytes None P = Unit {0}
+WhileClean size floor bytes (Some l) P = l.status.fault ≡ None → (l.status.account.mark ≤ℤ pos floor) ⊎ NothingStaleAt size l.status bytes → P
 
 -- a command counts as calling the log that is open
 abbrev pub calls_log : Command → Bool
@@ -92,10 +93,16 @@ Postpones a (reply.Failed OutOfMemory) new b = (new ≡ a.device) × (b ≡ a)
 Postpones a r new b = ⊥
 
 module _ (sum : List ℕ → ℕ) (size : ℕ) where
-  -- While a log is open that keeps no failure, and no mark joined above the last recovery's cut, so that no segment came free, what is read is the log's own:
-  -- so it is when that log is closed, and another is opened.
+  -- While a log is open that keeps no failure, what is read is the log's own as long as no mark joined above the last recovery's cut, so that no segment came
+  -- free, and also later as long as nothing stale stands in the file, so that no slot was used a second time: so it is when that log is closed, and another is
+  -- opened.
   abbrev pub KeepsOwn : RunState → Type 0
-  KeepsOwn a = WhileClean a.floor a.log (ReadsOnlyOwn sum size (state_of a.device.trace))
+  KeepsOwn a = WhileClean size a.floor (state_of a.device.trace).log.bytes a.log (ReadsOnlyOwn sum size (state_of a.device.trace))
+
+  -- What is read behind a command is the log's own: behind a crash it is, since what that left is the log's own, and behind another one it is so long.
+  abbrev pub ReadsOwnBehind : Command → Reply → RunState → Type 0
+  ReadsOwnBehind (command.Crash choice) (reply.Crashed taken) b = ReadsOnlyOwn sum size (state_of b.device.trace)
+  ReadsOwnBehind c r b = KeepsOwn b
 
   -- Only what the log itself wrote passes as its own, in what a recovery reads and in what a crash leaves. An opening that is refused reads nothing,
   -- and so nothing is asked of it: a stopped device may have any bytes where a write failed, and the crash that comes decides which of them are left.
@@ -160,7 +167,7 @@ module _ (sum : List ℕ → ℕ) (size : ℕ) where
     pub after : RunState
     pub step : IsStep a c came new after
     pub crash : IsOwn (state_of a.device.trace) c came → StaysWithin a c new after
-    pub own : IsOwn (state_of a.device.trace) c came → KeepsOwn after
+    pub own : IsOwn (state_of a.device.trace) c came → ReadsOwnBehind c came after
     pub leads : IsOwn (state_of a.device.trace) c came → Leads after
 
   -- A command was carried out on a device that is never stopped, from where a run stands, and was answered as it came (`Session::carry_out`). Else this is `Carries`.

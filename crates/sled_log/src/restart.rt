@@ -23,9 +23,9 @@ use sled_store::{Device, RunningConfig};
 
 /// Writes what a log holds, gives the log up, and recovers its device. Returns what the log ran on, and what was
 /// recovered. Where all of this succeeds, for a log that fits an orderly history, and only what the log wrote is read as
-/// its own, as it is while no mark joins above the floor (`CanRestart`), the table is that of all completed messages, its
-/// place lies past each of them, and `Log::start` on the snapshot gives a log that holds them again. No reservation may be
-/// open.
+/// its own, as it is while no mark joins above the floor, or nothing of a segment that is gone stands in the file
+/// (`CanRestart`), the table is that of all completed messages, its place lies past each of them, and `Log::start` on the
+/// snapshot gives a log that holds them again. No reservation may be open.
 ///
 /// A crash within it leaves what can be recovered: until all is flushed for a log that fits its history, and from there
 /// on where what the recovery reads is the log's own too (`LeavesInTwo`).

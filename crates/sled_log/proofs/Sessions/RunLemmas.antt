@@ -1,5 +1,5 @@
 -- What holds at the joints of a run: one trace behind another, what a crash leaves, and how a phase leads to the next one.
-use Rattle.std.proofs.Common.{◌≡◌, ◌∙◌, ◌<◌, ◌≤◌, ◌^◌, ℕ, ℤ, Bool, true, false, if◌then◌else◌, IsTrue, List, [], ◌∷◌, Option, None, Some, refl, sym, ap, subst}
+use Rattle.std.proofs.Common.{◌≡◌, ◌∙◌, ◌<◌, ◌≤◌, ◌^◌, ⊎_elim, ℕ, ℤ, Bool, true, false, if◌then◌else◌, IsTrue, List, [], ◌∷◌, Option, None, Some, refl, sym, ap, subst}
 use Rattle.std.specs.Prelude.{Result, Ok, Err, OnErr, OnOk, is_err, not, ◌&&◌, ◌↔◌}
 use Rattle.sled_codec.specs.declared.result.Error.{Error}
 use Rattle.sled_codec.specs.declared.result.Error.TheVariants as error
@@ -19,7 +19,7 @@ use Rattle.sled_core.specs.Fits.{config_of, device_of, segment_size_of}
 use Rattle.sled_core.specs.Recoverable.{NoForeign, LeavesRecoverable, ReadsOnlyOwn}
 use Rattle.sled_core.proofs.Start.FreshReady.{fresh_leaves}
 use Rattle.sled_core.proofs.Line.NumbersKept.{fits_leaves}
-use Rattle.sled_core.proofs.PublicLaws.{crash_recoverable as again, fits_reads_own}
+use Rattle.sled_core.proofs.PublicLaws.{crash_recoverable as again, fits_reads_own, fits_reads_own_unless_stale, only_own, own_after_crash}
 use Rattle.sled_log.specs.declared.session.Phase.{Phase}
 use Rattle.sled_log.specs.declared.session.Phase.TheVariants as phase
 use Rattle.sled_log.specs.declared.session.opened.Opened.{Opened}
@@ -32,7 +32,7 @@ use Rattle.sled_log.specs.declared.session.command.Reply.TheVariants as reply
 use Rattle.sled_log.specs.Refusals.{is_crash, is_for_log, reason_of, refusal_for, refused_by_log, when}
 use Rattle.sled_log.specs.RunStates.{DeviceView, LogView, RunState}
 use Rattle.sled_log.specs.OpenSteps.{IsCause, IsStartCause}
-use Rattle.sled_log.specs.Runs.{Carries, CarriesOn, CrashStep, IsOwn, IsStep, KeepsOwn, StaysRecoverable, StaysWithin, told}
+use Rattle.sled_log.specs.Runs.{Carries, CarriesOn, CrashStep, IsOwn, IsStep, KeepsOwn, ReadsOwnBehind, StaysRecoverable, StaysWithin, left_after, told}
 use Rattle.sled_log.specs.RunPhases.{AnswersFrom, AnswersIn, CarriesHere, CarriesOnIn, CarriesOut, Does, DoesBy, IsAt, IsClosedAt, IsOpenAt, RunsOn, StandsIn, Unstored, device_in, running, size_of, stands, traces}
 use Rattle.sled_log.proofs.Sessions.MadeHistories.{none_made}
 use Rattle.sled_log.proofs.Sessions.Within.{still_there, untouched}
@@ -244,7 +244,20 @@ module _ {D C : Type 0} (view : D → DeviceView) (sum : List ℕ → ℕ) (from
   -- While a log is open that keeps no failure, and no mark joined above the floor, what is read is its own.
   phase_own : (phase : Phase D C) (k : Unstored) → IsAt (traces view) sum phase k → KeepsOwn sum (size_of phase) (stands view phase k)
   phase_own (phase.Closed config) k at = tt
-  phase_own (phase.Open opened) k at = λ none low. fits_reads_own (traces view) sum opened.log k.history k.acknowledged k.floor at.unmarked at.fits none at.zeros low
+  phase_own (phase.Open opened) k at = λ none. ⊎_elim
+      (fits_reads_own (traces view) sum opened.log k.history k.acknowledged k.floor at.unmarked at.fits none at.zeros)
+      (fits_reads_own_unless_stale (traces view) sum opened.log k.history k.acknowledged k.floor at.unmarked at.fits none at.zeros)
+
+  -- So it is behind a command, and behind a crash that left nothing foreign always.
+  own_behind : (a : RunState) (d : Command) (r : Reply) (to : Phase D C) (k : Unstored) → IsStep sum (size_of from) a d r (device_in view to) (stands view to k)
+      → IsOwn sum (size_of from) (state_of a.device.trace) d r → KeepsOwn sum (size_of from) (stands view to k)
+      → ReadsOwnBehind sum (size_of from) d r (stands view to k)
+  own_behind a (command.Crash choice) (reply.Crashed taken) to k step own keeps =
+      let left : Left = left_after choice taken in
+      let old : State = state_of a.device.trace in
+      subst (λ (v : DeviceView). ReadsOnlyOwn sum (size_of from) (state_of v.trace)) (sym step.0.1)
+      (only_own sum (size_of from) (state_of (Crashed left ∷ a.device.trace)) (own_after_crash sum (size_of from) left old own))
+  own_behind a d r to k step own keeps = keeps
 
   -- Where nothing is done a crash leaves what it left.
   pub here : (phase : Phase D C) (k : Unstored) → IsAt (traces view) sum phase k → StaysRecoverable sum (size_of phase) (stands view phase k) (device_in view phase).trace (device_in view phase).trace
@@ -304,7 +317,8 @@ module _ {D C : Type 0} (view : D → DeviceView) (sum : List ℕ → ℕ) (from
         after = stands view to does.next;
         step = does.step;
         crash = does.crash;
-        own = λ own. subst (λ n. KeepsOwn sum n (stands view to does.next)) sizes (phase_own to does.next (does.at own));
+        own = λ own. own_behind (stands view from k) c came to does.next does.step own
+            (subst (λ n. KeepsOwn sum n (stands view to does.next)) sizes (phase_own to does.next (does.at own)));
         leads = λ own. (does.next, refl, does.at own);
       })
     where
@@ -326,7 +340,7 @@ module _ {D C : Type 0} (view : D → DeviceView) (sum : List ℕ → ℕ) (from
         after = stands view from k;
         step = (refl, refl);
         crash = λ own. refused_within k stands_in.2 c;
-        own = λ own. phase_own from k stands_in.2;
+        own = λ own. own_behind (stands view from k) c (reply.Refused w) from k (refl, refl) own (phase_own from k stands_in.2);
         leads = λ own. (k, refl, stands_in.2);
       })
     where

@@ -17,9 +17,10 @@ use Rattle.sled_core.specs.Ledger.{ledger_behind}
 use Rattle.sled_core.specs.LogStatus.{LogStatus, status_below, status_of}
 use Rattle.sled_core.specs.Waiting.{front_below}
 use Rattle.sled_core.proofs.Line.StatusSeen.{ledger_below_seen}
+use Rattle.sled_core.specs.Stale.{NothingStaleAt}
 use Rattle.sled_core.specs.Recoverable.{LeavesRecoverable, ReadsOnlyOwn}
 use Rattle.sled_core.specs.invariants.Running.{Fits}
-use Rattle.sled_core.proofs.PublicLaws.{fits_leaves, fits_reads_own}
+use Rattle.sled_core.proofs.PublicLaws.{fits_leaves, fits_reads_own, fits_reads_own_unless_stale}
 use Rattle.sled_log.specs.Orderly.{CanRecover}
 use Rattle.sled_log.specs.Restarts.{CanRestart, FlushFails}
 
@@ -54,10 +55,16 @@ can_recover trace sum old new device H A end f U size same came none still is ca
   left = subst (λ (t : Trace). LeavesRecoverable sum (segment_size_of old) H end f (state_of t)) (sym same)
       (subst (λ n. LeavesRecoverable sum n H end f (state_of (trace (device_of new)))) size (fits_leaves trace sum new H end f U fits));
   own = elim (can.own none) [
-    | inl (zeros, low) ↦ subst (λ (t : Trace). ReadsOnlyOwn sum (segment_size_of old) (state_of t)) (sym same)
+    | inl (zeros, inl low) ↦ subst (λ (t : Trace). ReadsOnlyOwn sum (segment_size_of old) (state_of t)) (sym same)
         (subst (λ n. ReadsOnlyOwn sum n (state_of (trace (device_of new)))) size
         (fits_reads_own trace sum new H end f U fits still zeros
         (subst (λ z. z ≤ℤ pos f) (sym (ap (λ (s : LogStatus). s.account.mark) is ∙ ap (λ (l : Ledger). (ledger_behind (segment_size_of old) (front_below to (sealed_for sum to old)) l).account.mark) (sym (ledger_below_seen old to)))) low)))
+    | inl (zeros, inr stale) ↦ subst (λ (t : Trace). ReadsOnlyOwn sum (segment_size_of old) (state_of t)) (sym same)
+        (subst (λ n. ReadsOnlyOwn sum n (state_of (trace (device_of new)))) size
+        (fits_reads_own_unless_stale trace sum new H end f U fits still zeros
+        (subst (λ n. NothingStaleAt n (status_of new) (state_of (trace (device_of new))).log.bytes) (sym size)
+        (subst (λ (s : LogStatus). NothingStaleAt (segment_size_of old) s (state_of (trace (device_of new))).log.bytes) (sym is)
+        (subst (λ (t : Trace). NothingStaleAt (segment_size_of old) (status_below sum to old) (state_of t).log.bytes) (sym came ∙ same) stale)))))
     | inr own ↦ subst (λ (t : Trace). ReadsOnlyOwn sum (segment_size_of old) (state_of t)) (sym came) own
   ];
 }
