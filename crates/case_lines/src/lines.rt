@@ -1,6 +1,6 @@
 //! The lines of a data file: their words, the numbers, pointers and bytes in them, and why one isn't read.
 
-use sled_codec::result::DiskPtr;
+use sled_codec::result::{DiskPtr, Error};
 use std::alloc::{AllocError, AllocFailed, Global};
 use std::str::Split;
 
@@ -15,6 +15,16 @@ pub type Outcome<T> = Result<T, Fault>;
 impl From<AllocError> for Fault {
     fn from(_e: AllocError) -> Fault {
         Fault("out of memory")
+    }
+}
+
+/// An error of the log, by its kind.
+impl From<Error> for Fault {
+    fn from(e: Error) -> Fault {
+        Fault(match e {
+            Error::OutOfMemory => "out of memory",
+            _ => "an error of the log",
+        })
     }
 }
 

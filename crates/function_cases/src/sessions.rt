@@ -9,7 +9,7 @@ use sled_log::serialization::snapshot::PageState;
 use sled_log::serialization::{MessageHeader, Snapshot};
 use sled_log::session::{Command, Refusal, Reply, Session};
 use sled_store::blob_io::write_blob;
-use std::alloc::{AllocError, Global};
+use std::alloc::Global;
 
 /// A page takes 254 links and no further one, as the replies and the table of a session say. Once it is halted no table is shown.
 pub fn links_pages(alloc: Global) -> Result<bool> {
@@ -139,7 +139,7 @@ fn ran_over(
     size: Config,
     device: MemDevice,
     commands: &[Command],
-) -> (std::result::Result<Vec<Reply>, AllocError>, MemDevice) {
+) -> (Result<Vec<Reply>>, MemDevice) {
     let mut session = Session::new(alloc, size, device, PlaceSum);
     let replies = session.run(commands);
     (replies, session.end())

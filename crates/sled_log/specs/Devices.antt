@@ -1,5 +1,5 @@
 -- What a run does to its device, whatever that has: also behind damage, and where what is foreign was read, of which `Runs` claims nothing.
-use Rattle.std.specs.Prelude.{◌≡◌, ◌∷◌, ◌&&◌, not, if◌then◌else◌, ℕ, Bool, true, false, List, [], Option, None, Some}
+use Rattle.std.specs.Prelude.{◌≡◌, ◌∷◌, ◌&&◌, not, is_none, if◌then◌else◌, ℕ, Bool, true, false, List, [], Option, None, Some}
 use Rattle.std.specs.Bool.{MatchBool}
 use Rattle.sled_store.specs.Device.{StopAsked}
 use Rattle.sled_store.specs.Moments.{IsLater}
@@ -13,7 +13,7 @@ use Rattle.sled_log.specs.declared.session.command.Refusal.{Refusal}
 use Rattle.sled_log.specs.declared.session.command.Refusal.TheVariants as why
 use Rattle.sled_log.specs.declared.session.command.Reply.{Reply}
 use Rattle.sled_log.specs.declared.session.command.Reply.TheVariants as reply
-use Rattle.sled_log.specs.RunStates.{DeviceView}
+use Rattle.sled_log.specs.RunStates.{DeviceView, RunState}
 use Rattle.sled_log.specs.OpenSteps.{OpenActs}
 use Rattle.sled_log.specs.Refusals.{is_crash, refused_closed}
 use Rattle.sled_log.specs.Runs.{CrashActs, told}
@@ -108,3 +108,7 @@ IsOver view (Some phase) on device = (on ≡ is_open phase) × (device ≡ devic
 -- A session has a log open or not, over a device that is seen so.
 unfoldable pub StandsOver : {D C : Type 0} → (D → DeviceView) → Session D C → Bool → DeviceView → Type 0
 StandsOver view session on device = IsOver view session.phase on device
+
+-- Some session has the device of a run, with a log open exactly where the run has one open.
+abbrev pub SomeStandsOver : (D C : Type 0) → (D → DeviceView) → RunState → Type 0
+SomeStandsOver D C view a = (session : Session D C) × StandsOver view session (not (is_none a.log)) a.device

@@ -3,7 +3,7 @@
 -- Each recovery that succeeds gives the table of the completed messages below one cut, with every batch whole or not at all. The cut passes all that was
 -- acknowledged, and isn't below that of the recovery before. A flush that succeeds acknowledges all that was completed, and a write up to a place what lies
 -- there or below it. What is completed is what was reserved, under the ticket that was answered; and nothing but a recovery forgets a completed message.
-use Rattle.std.specs.Prelude.{◌≡◌, ◌⊎◌, ◌+◌, ◌≤◌, ◌≤ℤ◌, ◌∷◌, ◌++◌, ℕ, pos, set, List, [], length, slice_get, None, Some, IsTrue, Contains}
+use Rattle.std.specs.Prelude.{◌≡◌, ◌⊎◌, ◌+◌, ◌≤◌, ◌≤ℤ◌, ◌∷◌, ◌++◌, ℕ, pos, set, List, [], length, map, slice_get, None, Some, IsTrue, Contains}
 use Rattle.sled_codec.specs.declared.serialization.message.LogKind.{LogKind}
 use Rattle.sled_codec.specs.declared.serialization.message.LogKind.TheVariants as does
 use Rattle.sled_codec.specs.Spelling.{short_bytes}
@@ -17,8 +17,8 @@ use Rattle.sled_log.specs.declared.session.command.Command.TheVariants as comman
 use Rattle.sled_log.specs.declared.session.command.Reply.{Reply}
 use Rattle.sled_log.specs.declared.session.command.Reply.TheVariants as reply
 use Rattle.sled_log.specs.OpenSteps.{IsShown, IsStartCause}
-use Rattle.sled_log.specs.Runs.{Carries}
-use Rattle.sled_log.specs.RunStates.{HasAll, RunState, page_now, tickets_of}
+use Rattle.sled_log.specs.Runs.{CrashActs, IsOwn, told}
+use Rattle.sled_log.specs.RunStates.{DeviceView, HasAll, RunState, page_now, tickets_of}
 use Rattle.sled_log.specs.TicketSteps.{blank_manifest}
 
 -- Nothing is completed, acknowledged or forgotten. Tickets may be spent, one or all.
@@ -67,12 +67,35 @@ Moves sum size p command.Open (reply.Failed e) q =
 Moves sum size p command.Open reply.Stopped q = IsTrue q.device.is_stopped × (Stays p q ⊎ ((s : SnapshotModel) × Restores sum size p s q))
 Moves sum size p c r q = Stays p q
 
--- The commands are answered one behind another, each from where the one before led to: `Carries` says of log and device which place that is, and this what it
--- means. What is claimed of each place between two commands holds there, and what is claimed of the end. All behind a command holds as long as a recovery reads
--- and a crash leaves only what the log itself wrote.
-unfoldable pub Recovers : (List ℕ → ℕ) → ℕ → (RunState → Type 0) → RunState → List Command → List Reply → (RunState → Type 0) → Type 0
-Recovers sum size Between p [] [] End = End p
-Recovers sum size Between p (c ∷ cs) (r ∷ rs) End =
-    Carries sum size p c r (λ q. Between q × Moves sum size p c r q × Recovers sum size Between q cs rs End)
-Recovers sum size Between p [] (r ∷ rs) End = ⊥
-Recovers sum size Between p (c ∷ cs) [] End = ⊥
+-- What is told besides, whatever the device has: a `Read` that is answered by items gives those of the page's messages, its Replace first, and of a page that
+-- is free there is a Free; a crash leaves what was chosen where that may be, else what was synced, and closes the log; and so does a halt.
+abbrev pub Tells : RunState → Command → Reply → RunState → Type 0
+Tells p (command.Read page) (reply.Page items) q = map (λ v. v.items) items.items ≡ map (λ m. m.bytes) (page_now p.history page)
+Tells p (command.Read page) reply.FreePage q = (m : Message) × (page_now p.history page ≡ m ∷ []) × (m.kind ≡ does.Free)
+Tells p (command.Crash choice) (reply.Crashed taken) q = CrashActs choice p.device (reply.Crashed taken) q.device × (q.log ≡ None)
+Tells p command.Halt reply.Halted q = q.log ≡ None
+Tells p c r q = Unit {0}
+
+-- A command is answered so, from where a run stands.
+pub record CommandOutcome (sum : List ℕ → ℕ) (size : ℕ) (p : RunState) (c : Command) (r : Reply) (Leads : RunState → Type 0) : Type 0 where
+  -- where the run stands then
+  pub after : RunState
+  pub tells : Tells p c r after
+  -- What that means for what was completed and acknowledged, and what is claimed of where it leads, holds where only what the log itself wrote passes as its
+  -- own, in what a recovery reads and in what a crash leaves.
+  pub means : IsOwn sum size (state_of p.device.trace) c r → Moves sum size p c r after
+  pub leads : IsOwn sum size (state_of p.device.trace) c r → Leads after
+
+-- The commands are answered one behind another, each from where the one before led to. What is claimed of each place between two commands holds there, and
+-- what is claimed of the end. `Runs` says besides what each command asks of the device, and where exactly its log stands then; and the law
+-- `what_a_step_means` says of the places that it tells of what is said here of these.
+unfoldable pub Outcomes : (List ℕ → ℕ) → ℕ → (RunState → Type 0) → RunState → List Command → List Reply → (RunState → Type 0) → Type 0
+Outcomes sum size Between p [] [] End = End p
+Outcomes sum size Between p (c ∷ cs) (r ∷ rs) End = CommandOutcome sum size p c r (λ q. Between q × Outcomes sum size Between q cs rs End)
+Outcomes sum size Between p [] (r ∷ rs) End = ⊥
+Outcomes sum size Between p (c ∷ cs) [] End = ⊥
+
+-- A step of a run, as its full account has it (`Runs`), is told so, and where only what the log itself wrote passes as its own it means this.
+pub record MeansStep (sum : List ℕ → ℕ) (size : ℕ) (a : RunState) (c : Command) (came : Reply) (new : DeviceView) (b : RunState) : Type 0 where
+  pub tells : Tells a c (told new.is_stopped came) b
+  pub means : IsOwn sum size (state_of a.device.trace) c came → Moves sum size a c (told new.is_stopped came) b

@@ -17,10 +17,15 @@ ghost use Rattle.sled_log.specs.Made.{IsMade};
 ghost use Rattle.sled_log.specs.Orderly.{IsOrderly};
 ghost use Rattle.sled_log.specs.PageHistories.{IsLastBeginning, MayAdd, of_pages};
 ghost use Rattle.sled_log.specs.Replaces.{HasLast, IsOfReplaces, MayCome};
+ghost use Rattle.sled_log.specs.declared.session.command.Command.{Command};
+ghost use Rattle.sled_log.specs.declared.session.command.Reply.{Reply};
+ghost use Rattle.sled_log.specs.Headline.{MeansStep};
+ghost use Rattle.sled_log.specs.RunPhases.{SomeStands, view_by};
 ghost use Rattle.sled_log.specs.RunStates.{DeviceView, RunState, closed};
-ghost use Rattle.sled_log.specs.Runs.{CanGoOn};
+ghost use Rattle.sled_log.specs.Runs.{CanGoOn, IsStep};
 
 use sled_codec::serialization::Checksum;
+use sled_store::CrashDevice;
 
 /// A history of Replaces in the order of pages is one that recovery goes on from. It is one at first, behind each
 /// Replace that may come, and below each cut.
@@ -111,4 +116,12 @@ pub fn what_a_crash_leaves_can_be_gone_on_from<C: Checksum>()
         → LeavesRecoverable C.sum_of size a.history a.acknowledged a.floor (state_of trace)
         → Leaves (state_of trace) (content_left left (state_of trace)) → NoForeign C.sum_of size (state_of trace) (content_left left (state_of trace))
         → device.trace ≡ Crashed left ∷ trace → CanGoOn C.sum_of size (closed a device) }
+{}
+
+/// What a step of a run means, which the clause `headline` of `Session::run` tells in full (`Carries.step`, `Carries.came`, `Carries.new` and
+/// `Carries.after`), from where some session stands, as it does between all commands of a run: for the place that is told there, what clause
+/// `recovers` says. A client that has the one clause needs it to have the other one too of the very same places.
+pub fn what_a_step_means<D: CrashDevice, C: Checksum>()
+    ensures { let view = view_by D.trace D.faults D.is_stopped in (size : ℕ) (a : RunState) (c : Command) (came : Reply) (new : DeviceView) (b : RunState)
+        → SomeStands D C view C.sum_of size a → IsStep C.sum_of size a c came new b → MeansStep C.sum_of size a c came new b }
 {}

@@ -21,10 +21,11 @@ use crate::session::carrying::{carry_out, close};
 pub use crate::session::command::{Command, Refusal, Reply};
 use crate::session::opened::Opened;
 use crate::session::step::step;
+use sled_codec::result::{Error, Result};
 use sled_codec::serialization::Checksum;
 use sled_codec::serialization::snapshot::PageState;
 use sled_store::{Config, CrashDevice, Device, RunningConfig};
-use std::alloc::{AllocError, Global};
+use std::alloc::Global;
 
 /// What a session is at: the device while no log is open, or a log that is open.
 pub(crate) enum Phase<D, C> {
@@ -124,35 +125,36 @@ impl<D: Device, C: Checksum + Drop> Session<D, C> {
 }
 
 impl<D: CrashDevice, C: Checksum> Session<D, C> {
-    ghost use Rattle.std.specs.Prelude.{◌≡◌, Bool, IfOk, OnErr};
-    ghost use Rattle.sled_log.specs.Devices.{Devices, Leaves, StandsOver};
+    ghost use Rattle.std.specs.Prelude.{◌≡◌, Bool, IfOk, IsOkUnless, OnErr};
+    ghost use Rattle.sled_log.specs.Devices.{Devices, Leaves, SomeStandsOver, StandsOver};
     ghost use Rattle.sled_log.specs.RunStates.{DeviceView, RunState};
-    ghost use Rattle.sled_log.specs.Headline.{Recovers};
+    ghost use Rattle.sled_log.specs.Headline.{Outcomes};
     ghost use Rattle.sled_log.specs.Runs.{Carries, Runs};
     ghost use Rattle.sled_log.specs.RunPhases.{SomeStands, StandsAt, segment_size_in, view_by};
 
     /// Runs these commands in order, and returns what came of each.
     ///
-    /// For every list of commands, crashes among them, within a call of the device and within a recovery too: a recovery
-    /// fails only for a failure of the device or lack of memory; where it succeeds, its page table is that of the completed
-    /// messages below one cut, which passes every acknowledged message, isn't below an earlier cut and splits no batch; every
-    /// pointer reads its own bytes; and what lies past the cut is forgotten.
+    /// For every list of calls, restarts and crashes, also inside a device call or recovery, a recovery fails only for a device
+    /// fault or want of memory; where it succeeds, its page table is that of the completed messages below one cut, which passes
+    /// every acknowledged message, isn't below an earlier cut and splits no batch; every pointer reads its own bytes; what lies
+    /// past the cut is forgotten.
     ///
     /// # Errors
     ///
-    /// `AllocError` where memory for the replies was refused; nothing was done then. An error of a command is its reply.
-    pub fn run(&mut self, commands: &[Command]) -> Result<Vec<Reply>, AllocError>
+    /// `OutOfMemory` where memory for the replies was refused; nothing was done then. An error of a command is its reply.
+    pub fn run(&mut self, commands: &[Command]) -> Result<Vec<Reply>>
         ensures headline { let view = view_by D.trace D.faults D.is_stopped in
             let size = segment_size_in self.old in (a : RunState) → StandsAt view C.sum_of self.old a → IfOk result (λ replies.
             Runs C.sum_of size (SomeStands D C view C.sum_of size) a commands.now replies.items (StandsAt view C.sum_of self.new)) }
         ensures recovers { let view = view_by D.trace D.faults D.is_stopped in
             let size = segment_size_in self.old in (a : RunState) → StandsAt view C.sum_of self.old a → IfOk result (λ replies.
-            Recovers C.sum_of size (SomeStands D C view C.sum_of size) a commands.now replies.items (StandsAt view C.sum_of self.new)) }
+            Outcomes C.sum_of size (SomeStandsOver D C view) a commands.now replies.items (StandsAt view C.sum_of self.new)) }
         ensures devices { let view = view_by D.trace D.faults D.is_stopped in
             (on : Bool) (device : DeviceView) → StandsOver view self.old on device → IfOk result (λ replies.
             Devices C.sum_of (segment_size_in self.old) on device commands.now replies.items (StandsOver view self.new)) }
         ensures size { segment_size_in self.new ≡ segment_size_in self.old }
         ensures refused { OnErr result (self.new ≡ self.old) }
+        ensures memory { IsOkUnless result Error.OutOfMemory }
     {
         let mut replies = Vec::with_capacity(self.alloc, commands.len())?;
         for command in commands {

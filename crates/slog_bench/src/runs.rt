@@ -7,8 +7,9 @@ use case_lines::tally::Tally;
 use case_lines::texts::Text;
 use sled_log::config::RunningConfig;
 use sled_log::logger::{DiskPtr, Lsn};
+use sled_log::result::Error;
 use sled_log::session::{Command, Refusal, Reply, Session};
-use std::alloc::{AllocError, Global};
+use std::alloc::Global;
 
 /// A command, and the reply that is wanted.
 #[derive(Drop)]
@@ -97,7 +98,7 @@ fn commands_of(alloc: Global, told: Vec<Told>) -> Outcome<(Vec<Command>, Wanted)
 fn compare_answer(
     alloc: Global,
     wanted: &[(usize, String)],
-    answer: Result<Vec<Reply>, AllocError>,
+    answer: Result<Vec<Reply>, Error>,
     tally: &mut Tally<'_>,
 ) -> Outcome<()> {
     let Ok(replies) = answer else {

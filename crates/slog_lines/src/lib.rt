@@ -15,6 +15,7 @@ pub mod text;
 use line::Asked;
 use sled_log::config::Config;
 use sled_log::device::{MemDevice, PlaceSum};
+use sled_log::result::Error;
 use sled_log::session::{Command, Reply, Session};
 use std::alloc::{AllocError, AllocFailed, Global};
 use std::io::{self, BufRead, Write};
@@ -34,6 +35,13 @@ enum Stop {
 // Memory for the program itself.
 impl From<AllocError> for Stop {
     fn from(_e: AllocError) -> Stop {
+        Stop::Failed
+    }
+}
+
+// Memory for the reply of a command: an error of the command itself is its reply.
+impl From<Error> for Stop {
+    fn from(_e: Error) -> Stop {
         Stop::Failed
     }
 }

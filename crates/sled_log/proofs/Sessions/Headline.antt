@@ -1,7 +1,7 @@
 -- The headline of a run follows from what each of its commands comes to.
-use Rattle.std.proofs.Common.{◌≡◌, ◌∙◌, ◌⊎◌, ◌+◌, ◌≤◌, ◌<◌, nat_lt, if◌then◌else◌, arith, ℕ, ℤ, pos, max, Bool, true, false, List, [], ◌∷◌, length, Option, None, Some, refl, sym, ap, subst, inl, inr}
+use Rattle.std.proofs.Common.{rules, ◌≡◌, ◌∙◌, ◌⊎◌, ◌+◌, ◌≤◌, ◌<◌, nat_lt, if◌then◌else◌, arith, ℕ, ℤ, pos, max, Bool, true, false, List, [], ◌∷◌, length, Option, None, Some, refl, sym, ap, subst, inl, inr}
 use Rattle.std.specs.List.{Contains}
-use Rattle.std.specs.Prelude.{◌≤ℤ◌, ◌<ℤ◌, IsTrue, set, slice_get}
+use Rattle.std.specs.Prelude.{◌≤ℤ◌, ◌<ℤ◌, IsTrue, is_none, not, set, slice_get}
 use Rattle.std.specs.declared.io.Error.{Error as IoError}
 use Rattle.std.proofs.lemmas.Int.{ints}
 use Rattle.std.proofs.lemmas.List.Elements.{All-contains}
@@ -14,7 +14,7 @@ use Rattle.sled_codec.specs.declared.serialization.message.LogKind.TheVariants a
 use Rattle.sled_codec.specs.Spelling.{short_bytes}
 use Rattle.sled_codec.specs.History.{Batch, Batched, Completed, History, HistoryEvent, Message, Step}
 use Rattle.sled_store.specs.declared.device.choice.Choice.{Choice}
-use Rattle.sled_store.specs.Device.{state_of}
+use Rattle.sled_store.specs.Device.{State, state_of}
 use Rattle.sled_core.specs.Fits.{reserved_end}
 use Rattle.sled_core.specs.Ledger.{ledger_behind}
 use Rattle.sled_core.specs.Manifests.{manifest_page}
@@ -32,14 +32,15 @@ use Rattle.sled_log.specs.declared.session.command.Command.TheVariants as comman
 use Rattle.sled_log.specs.declared.session.command.Refusal.{Refusal}
 use Rattle.sled_log.specs.declared.session.command.Reply.{Reply}
 use Rattle.sled_log.specs.declared.session.command.Reply.TheVariants as reply
-use Rattle.sled_log.specs.Headline.{Acknowledges, Comes, Moves, Recovers, Reserves, Restores, Stays}
+use Rattle.sled_log.specs.Devices.{IsOver, SomeStandsOver, StandsOver}
+use Rattle.sled_log.specs.Headline.{Acknowledges, Comes, MeansStep, Moves, Outcomes, Reserves, Restores, Stays, Tells}
 use Rattle.sled_log.specs.OpenSteps.{HasOpened, IsStartCause, OpenStep, log_opened}
 use Rattle.sled_log.specs.ReadSteps.{FailsAt, ReadStep, ReadsAll, read_around, read_at}
 use Rattle.sled_log.specs.Refusals.{reason_of}
 use Rattle.sled_log.specs.RunStates.{DeviceView, DueMark, HasAll, LogView, RunState, body_in, closed, length_of, made_ready, message_at, page_now, places_without, rewriting_at, target_in, tickets_in, tickets_of, view_at, with_log}
-use Rattle.sled_log.specs.Runs.{CrashStep, HaltStep, IsOwn, IsStep, Postpones, Runs, StepBy, StepFrom, StopStep, calls_log, told}
+use Rattle.sled_log.specs.Runs.{CrashActs, CrashStep, HaltStep, IsOwn, IsStep, Postpones, Runs, StepBy, StepFrom, StopStep, calls_log, told}
 use Rattle.sled_log.specs.SessionMarks.{mark_for, marking, marking_in, with_mark, without_pin}
-use Rattle.sled_log.specs.RunPhases.{IsAt, SomeStands, StandsAt, StandsAtPhase, Unstored, seen, stands, traces}
+use Rattle.sled_log.specs.RunPhases.{IsAt, SomeStands, StandsAt, StandsAtPhase, Unstored, device_in, seen, stands, traces}
 use Rattle.sled_log.specs.WriteSteps.{FailsTo, FlushStep, HasWrittenTo, KeepsFailing, StableStep, WriteStep, stable_from, target_by}
 use Rattle.sled_log.specs.TicketSteps.{AbortStep, CompleteStep, EndStep, HasReserved, RefusedStep, ReserveStep, RewriteStep, batch_of, blank_manifest, giving_up, keeping, noting, spent}
 use Rattle.sled_log.proofs.Sessions.Reading.{sized}
@@ -493,29 +494,99 @@ module _ (sum : List ℕ → ℕ) (size : ℕ) where
       tells (λ r. Moves sum size a c r b) new.is_stopped (reply.Refused w) (refused_moves a b c w kept.0) (λ e no. cc)
   answered a c came new b ends own step = from_due a c came new b ends own (calls_log c) (λ asks. asks) a.due step
 
+  -- What is told of what came is told of what is answered.
+  told_too : (b : Bool) (came : Reply) → (p : RunState) (c : Command) (q : RunState) → Tells p c came q → Tells p c (told b came) q
+  told_too true (reply.Failed (error.Io e)) p c q row = stopped c where
+    stopped : (c : Command) → Tells p c reply.Stopped q
+    stopped (command.Read page) = tt
+    stopped (command.Crash choice) = tt
+    stopped command.Halt = tt
+    stopped c = tt
+  told_too true came p c q row = row
+  told_too false came p c q row = row
+
+  -- What a command tells with no mark made first: a page that is read,
+  read_tells : (p : RunState) (log : Option LogView) (page : ℕ) (r : Reply) (new : DeviceView) (q : RunState) → StepBy sum size p log (command.Read page) r new q → Tells p (command.Read page) r q
+  read_tells p (Some l) page (reply.Page items) new q step = step.items_are
+  read_tells p (Some l) page reply.FreePage new q step = step.0
+  read_tells p log page r new q step = search rules
+
+  -- a crash, and a halt,
+  crash_tells : (p : RunState) (choice : Choice) (r : Reply) (new : DeviceView) (q : RunState) → CrashStep p choice r new q → Tells p (command.Crash choice) r q
+  crash_tells p choice (reply.Crashed taken) new q step = (
+    subst (λ (x : RunState). CrashActs choice p.device (reply.Crashed taken) x.device) (sym step.1) step.0,
+    ap (λ (x : RunState). x.log) step.1,
+  )
+  crash_tells p choice r new q step = search rules
+
+  halt_tells : (p : RunState) (log : Option LogView) (r : Reply) (new : DeviceView) (q : RunState) → StepBy sum size p log command.Halt r new q → Tells p command.Halt r q
+  halt_tells p (Some l) reply.Halted new q step = ap (λ (x : RunState). x.log) step.1
+  halt_tells p log r new q step = search rules
+
+  -- and with that made first, which changes no page.
+  due_tells : (p : RunState) (due : Option DueMark) (page : ℕ) (r : Reply) (new : DeviceView) (q : RunState) → StepFrom sum size p true due (command.Read page) r new q → Tells p (command.Read page) r q
+  due_tells p None page r new q step = read_tells p p.log page r new q step
+  due_tells p (Some d) page (reply.Page items) new q (inr step) = read_tells (with_mark size p d) (with_mark size p d).log page (reply.Page items) new q step
+  due_tells p (Some d) page (reply.Page items) new q (inl postpones) = absurd postpones
+  due_tells p (Some d) page reply.FreePage new q (inr step) = read_tells (with_mark size p d) (with_mark size p d).log page reply.FreePage new q step
+  due_tells p (Some d) page reply.FreePage new q (inl postpones) = absurd postpones
+  due_tells p (Some d) page r new q step = search rules
+
+  step_tells : (p : RunState) (c : Command) (r : Reply) (new : DeviceView) (q : RunState) → IsStep sum size p c r new q → Tells p c r q
+  step_tells p (command.Read page) (reply.Refused w) new q step = tt
+  step_tells p (command.Read page) r new q step = due_tells p p.due page r new q step
+  step_tells p (command.Crash choice) (reply.Refused w) new q step = tt
+  step_tells p (command.Crash choice) r new q step = crash_tells p choice r new q step
+  step_tells p command.Halt (reply.Refused w) new q step = tt
+  step_tells p command.Halt r new q step = halt_tells p p.log r new q step
+  step_tells p c r new q step = search rules
+
+  -- A step that a run makes from where some session stands means what the headline says.
+  pub step_means : {D C : Type 0} (view : D → DeviceView) (a : RunState) (c : Command) (came : Reply) (new : DeviceView) (b : RunState)
+      → SomeStands D C view sum size a → IsStep sum size a c came new b → MeansStep sum size a c came new b
+  step_means view a c came new b at step = record {
+    tells = told_too new.is_stopped came a c b (step_tells a c came new b step);
+    means = λ own. answered a c came new b (known view sum at.0 a at.2) own step;
+  }
+
+  -- What is told to be the log's own is, where it isn't told that the device is stopped.
+  own_told : (s : State) (c : Command) (b : Bool) (came : Reply) → IsOwn sum size s c (told b came) → IsOwn sum size s c came
+  own_told s command.Open true (reply.Failed (error.Io e)) own = own
+  own_told s c true (reply.Failed (error.Io e)) own = search rules
+  own_told s c b came own = own
+
+  -- Where some session stands, some session has the device.
+  stands_over : {D C : Type 0} (view : D → DeviceView) (a : RunState) → SomeStands D C view sum size a → SomeStandsOver D C view a
+  unfolding StandsAt StandsOver
+  stands_over {D} {C} view run some = by some.0.phase refl some.2 where
+    over : (p : Phase D C) (k : Unstored) → IsOver view (Some p) (not (is_none (stands view p k).log)) (device_in view p)
+    over (phase.Closed config) k = (refl, refl)
+    over (phase.Open opened) k = (refl, refl)
+
+    by : (o : Option (Phase D C)) → some.0.phase ≡ o → StandsAtPhase view sum o run → SomeStandsOver D C view run
+    by None is at = absurd at
+    by (Some p) is at = (
+      some.0,
+      subst (λ (x : Option (Phase D C)). IsOver view x (not (is_none run.log)) run.device) (sym is)
+          (subst (λ (x : RunState). IsOver view (Some p) (not (is_none x.log)) x.device) (sym at.1) (over p at.0)),
+    )
+
   -- So a run comes to what the headline says.
-  pub recovers : {D C : Type 0} (view : D → DeviceView) (Leads : RunState → Type 0) → (a : RunState) (cs : List Command) (rs : List Reply)
+  pub outcomes : {D C : Type 0} (view : D → DeviceView) (Leads : RunState → Type 0) → (a : RunState) (cs : List Command) (rs : List Reply)
       → SomeStands D C view sum size a → Runs sum size (SomeStands D C view sum size) a cs rs Leads
-      → Recovers sum size (SomeStands D C view sum size) a cs rs Leads
-  unfolding Runs Recovers
-  recovers view Leads a [] [] at runs = runs
-  recovers view Leads a (c ∷ cs) (r ∷ rs) at runs =
+      → Outcomes sum size (SomeStandsOver D C view) a cs rs Leads
+  unfolding Runs Outcomes
+  outcomes view Leads a [] [] at runs = runs
+  outcomes view Leads a (c ∷ cs) (r ∷ rs) at runs =
       let b : RunState = runs.after in
+      let step = step_means view a c runs.came runs.new b at runs.step in
+      let came = λ (own : IsOwn sum size (state_of a.device.trace) c r).
+      own_told (state_of a.device.trace) c runs.new.is_stopped runs.came (subst (λ (x : Reply). IsOwn sum size (state_of a.device.trace) c x) runs.is_told own) in
       record {
-        refused = runs.refused;
-        new = runs.new;
-        came = runs.came;
-        is_told = runs.is_told;
-        later = runs.later;
-        stops = runs.stops;
         after = b;
-        step = runs.step;
-        crash = runs.crash;
-        own = runs.own;
-        leads = λ own.
-            let leads = runs.leads own in
-            let moves = answered a c runs.came runs.new b (known view sum at.0 a at.2) own runs.step in
-            (leads.0, subst (λ (x : Reply). Moves sum size a c x b) (sym runs.is_told) moves, recovers view Leads b cs rs leads.0 leads.1);
+        tells = subst (λ (x : Reply). Tells a c x b) (sym runs.is_told) step.tells;
+        means = λ own. subst (λ (x : Reply). Moves sum size a c x b) (sym runs.is_told) (step.means (came own));
+        leads = λ own. let leads = runs.leads (came own) in (stands_over view b leads.0, outcomes view Leads b cs rs leads.0 leads.1);
       }
-  recovers view Leads a [] (r ∷ rs) at runs = absurd runs
-  recovers view Leads a (c ∷ cs) [] at runs = absurd runs
+  outcomes view Leads a [] (r ∷ rs) at runs = absurd runs
+  outcomes view Leads a (c ∷ cs) [] at runs = absurd runs

@@ -9,7 +9,7 @@ use Rattle.sled_log.specs.Runs.{Carries, Runs}
 use Rattle.sled_log.specs.RunPhases.{SomeStands, StandsAt, segment_size_in, view_by}
 use Rattle.sled_log.proofs.Sessions.DeviceLemmas.{devices_none, devices_more}
 use Rattle.sled_log.proofs.Sessions.SessionLemmas.{runs_none, runs_more}
-use Rattle.sled_log.proofs.Sessions.Headline.{recovers}
+use Rattle.sled_log.proofs.Sessions.Headline.{outcomes}
 use Rattle.sled_log.proofs.session.Session.run.Goals as goal
 
 -- Nothing was carried out yet.
@@ -73,7 +73,7 @@ returns-clause-headline g c = λ a at.
 pub returns-clause-recovers : goal.returns-clause-recovers
 returns-clause-recovers g c = λ a at.
     let view = view_by g.D.Device.trace g.D.Device.faults g.D.CrashDevice.is_stopped in
-    recovers g.C.Checksum.sum_of (segment_size_in c.args.self.now) {D = g.row.D.Denot} {C = g.row.C.Denot} view (StandsAt view g.C.Checksum.sum_of c.loop-command.self)
+    outcomes g.C.Checksum.sum_of (segment_size_in c.args.self.now) {D = g.row.D.Denot} {C = g.row.C.Denot} view (StandsAt view g.C.Checksum.sum_of c.loop-command.self)
     a c.args.commands.now c.loop-command.replies.items (c.args.self.now, refl, at) (returns-clause-headline g c a at)
 
 pub returns-clause-devices : goal.returns-clause-devices
