@@ -2,6 +2,7 @@ pub mod Ascending
 pub mod Behind
 pub mod Blobs
 pub mod Continues
+pub mod DamageNames
 pub mod Found
 pub mod Joined
 pub mod LookedUp

@@ -30,10 +30,11 @@ abbrev pub IsStartCause : Error → ℕ → ℕ → Type 0
 IsStartCause PlacesUsedUp before after = after ≡ before
 IsStartCause e before after = IsCause e before after
 
--- Why a recovery fails, whatever the device has: at damage it only synced the device, and else there is such a cause, and its calls were made up to one that failed.
+-- Why a recovery fails, whatever the device has: at damage, which is named as it was met, it only synced the device, and else there is such a cause, and its
+-- calls were made up to one that failed.
 abbrev pub RecoveryFails : (List ℕ → ℕ) → ℕ → Error → DeviceView → DeviceView → Type 0
 RecoveryFails sum size (Corruption at) old new =
-    MeetsDamage sum size (content_of (state_of old.trace)) × NamesDamage sum (state_of old.trace).blobs.file at
+    MeetsDamage sum size (content_of (state_of old.trace)) at × NamesDamage sum (state_of old.trace).blobs.file at
     × (new.trace ≡ NamesSynced ∷ Synced ∷ old.trace) × (new.failures ≡ old.failures)
 RecoveryFails sum size e old new = IsCause e old.failures new.failures × RecoveryCalls sum size old.trace new.trace
 

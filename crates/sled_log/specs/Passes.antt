@@ -2,6 +2,7 @@
 use Rattle.std.specs.Prelude.{◌≡◌, ◌⊎◌, ℤ, ◌+◌, ◌^◌, ◌≤◌, ◌<◌, ℕ, Bool, true, false, List, [], ◌∷◌, ◌++◌, length, map, is_some, if◌then◌else◌, Option, Some}
 use Rattle.std.specs.Prelude.{None, IfSome, IfNone, Contains}
 use Rattle.std.specs.List.{All}
+use Rattle.sled_codec.specs.declared.result.DiskPtr.{DiskPtr}
 use Rattle.sled_codec.specs.declared.serialization.snapshot.Snapshot.{Snapshot}
 use Rattle.sled_codec.specs.declared.result.Error.{Error}
 use Rattle.sled_codec.specs.declared.result.Error.TheVariants.{Corruption}
@@ -10,11 +11,13 @@ use Rattle.sled_store.specs.Blobs.{NamesDamage}
 use Rattle.sled_store.specs.declared.config.RunningConfig.{RunningConfig}
 use Rattle.sled_store.specs.Device.{Trace, state_of}
 use Rattle.sled_core.specs.declared.iterator.Segment.{Segment}
+use Rattle.sled_core.specs.declared.iterator.scan.RecordContent.{RecordContent}
 pub use Rattle.sled_core.specs.Replayed.{CanBeRead, IsDamagedBefore}
 use Rattle.sled_log.specs.declared.snapshot.pass.Pass.{Pass}
 use Rattle.sled_log.specs.declared.snapshot.pass.Replay.{Replay}
 use Rattle.sled_log.specs.Recovery.{AreClosed, Scanned, Outcome, AreScanned, AreReplayed, ContinuesFrom, IsDamagedPass, NamesKind, Passes, given, has_no_table}
-use Rattle.sled_log.specs.Recovery.{open_at, passed_all, stops_in, scanned_of, StopsOrGoesOn, before_open, MeetsBadBlob, HaveGoodBlobs, resolved_scan, table_of}
+use Rattle.sled_log.specs.Recovery.{open_at, passed_all, stops_in, scanned_of, StopsOrGoesOn, before_open, HaveGoodBlobs, resolved_scan, table_of}
+use Rattle.sled_log.specs.Recovery.{HasBadBlob, HasDamage, MeetsOne, NamesBadBlob}
 
 -- each of these can be read
 abbrev pub CanAllBeRead : ℕ → List ℕ → List Segment → Type 0
@@ -49,10 +52,18 @@ abbrev pub OpensLast : ℕ → List Scanned → Type 0
 OpensLast end [] = Unit {0}
 OpensLast end (s ∷ ss) = StopsOrGoesOn (open_at end s.met) ss (OpensLast end ss)
 
--- a blob that doesn't pass for its record is met in one of these, before a batch that is open
+-- this is so of a record that is met in one of these, before a batch that is open
+abbrev pub PassMeets : (RecordContent → Type 0) → ℕ → List Scanned → Type 0
+PassMeets P end [] = ⊥
+PassMeets P end (s ∷ ss) = MeetsOne P (before_open end s.met) ⊎ PassMeets P end ss
+
+-- a blob that doesn't pass for its record is met there
 abbrev pub MeetsBadPass : (List ℕ → ℕ) → (ℤ → Option (List ℕ)) → ℕ → List Scanned → Type 0
-MeetsBadPass sum blobs end [] = ⊥
-MeetsBadPass sum blobs end (s ∷ ss) = MeetsBadBlob sum blobs (before_open end s.met) ⊎ MeetsBadPass sum blobs end ss
+MeetsBadPass sum blobs end passes = PassMeets (HasBadBlob sum blobs) end passes
+
+-- and damage is named as that of the blob
+abbrev pub NamesBadPass : (List ℕ → ℕ) → (ℤ → Option (List ℕ)) → ℕ → List Scanned → Option DiskPtr → Type 0
+NamesBadPass sum blobs end passes at = PassMeets (HasDamage sum blobs at) end passes
 
 -- The segments up to the first one with a batch that is open, and that one.
 abbrev pub up_to_open : ℕ → List Scanned → List Scanned
@@ -67,10 +78,11 @@ pub record AreResolved (sum : List ℕ → ℕ) (size : ℕ) (log : List ℕ) (b
   pub fine : MeetsBadPass sum blobs end scanned → ⊥
   pub is : passes ≡ map (resolved_scan blobs end) scanned
 
--- A damaged record is met in the pass over segments, or one whose blob doesn't pass for it.
-abbrev pub IsBadPass : (List ℕ → ℕ) → ℕ → List ℕ → (ℤ → Option (List ℕ)) → ℕ → List Segment → Type 0
-IsBadPass sum size log blobs end segments =
-    IsDamagedPass sum size log end segments ⊎ ((scanned : List Scanned) × AreReplayed sum size log end segments scanned × MeetsBadPass sum blobs end scanned)
+-- A damaged record is met in the pass over segments, and the damage names no blob; or one whose blob doesn't pass for it, as that of which it is named.
+abbrev pub IsBadPass : (List ℕ → ℕ) → ℕ → List ℕ → (ℤ → Option (List ℕ)) → ℕ → List Segment → Option DiskPtr → Type 0
+IsBadPass sum size log blobs end segments at =
+    ((at ≡ None) × IsDamagedPass sum size log end segments)
+    ⊎ ((scanned : List Scanned) × AreReplayed sum size log end segments scanned × NamesBadPass sum blobs end scanned at)
 
 -- What a pass has made of a snapshot, which met these, with their blobs: its table, up to a message of the page that no table has, and where the pass stopped.
 pub record HasMade (end : ℕ) (first : SnapshotModel) (passes : List Scanned) (r : Replay) : Type 0 where
@@ -81,15 +93,15 @@ pub record HasMade (end : ℕ) (first : SnapshotModel) (passes : List Scanned) (
   pub stable : r.snapshot.stable_lsn ≡ first.stable
   pub active : r.snapshot.active_segment ≡ first.active
 
--- an error of a blob that doesn't pass for its record
-abbrev pub IsOfBlob : (List ℕ → ℕ) → (ℤ → Option (List ℕ)) → Error → Type 0
-IsOfBlob sum blobs (Corruption at) = NamesDamage sum blobs at
-IsOfBlob sum blobs _ = ⊥
+-- an error of a blob that doesn't pass for its record, where damage may be named so
+abbrev pub IsOfBlob : (List ℕ → ℕ) → (ℤ → Option (List ℕ)) → (Option DiskPtr → Type 0) → Error → Type 0
+IsOfBlob sum blobs names (Corruption at) = NamesDamage sum blobs at × names at
+IsOfBlob sum blobs names _ = ⊥
 
 -- What a pass that met these has come to: a blob that doesn't pass for its record, or else what it made of a snapshot.
 pub record IsSoFar (sum : List ℕ → ℕ) (blobs : ℤ → Option (List ℕ)) (end : ℕ) (first : SnapshotModel) (passes : List Scanned) (bad : Option Error)
     (r : Replay) : Type 0 where
-  pub meets : IfSome bad (λ e. IsOfBlob sum blobs e × MeetsBadPass sum blobs end passes)
+  pub meets : IfSome bad (IsOfBlob sum blobs (NamesBadPass sum blobs end passes))
   pub fine : IfNone bad ((MeetsBadPass sum blobs end passes → ⊥) × HasMade end first (map (resolved_scan blobs end) passes) r)
 
 -- The pass goes on behind these, where no batch is open in them, or ends with them.
@@ -118,9 +130,9 @@ pub record AreLookedUp (sum : List ℕ → ℕ) (size : ℕ) (log : List ℕ) (b
   pub good : HaveGoodBlobs sum blobs scanned
   pub is : passes ≡ map (resolved_scan blobs end) scanned
 
--- a blob that doesn't pass for its record is met in one of these
-abbrev pub MeetsBadTail : (List ℕ → ℕ) → (ℤ → Option (List ℕ)) → List Scanned → Type 0
-MeetsBadTail sum blobs scanned = (s : Scanned) × Contains scanned s × MeetsBadBlob sum blobs s.met
+-- a blob that doesn't pass for its record is met in one of these, and damage is named as that of the blob
+abbrev pub NamesBadTail : (List ℕ → ℕ) → (ℤ → Option (List ℕ)) → List Scanned → Option DiskPtr → Type 0
+NamesBadTail sum blobs scanned at = (s : Scanned) × Contains scanned s × NamesBadBlob sum blobs s.met at
 
 -- what comes of a tail whose blobs were looked at
 abbrev pub PassesBehind : (List ℕ → ℕ) → ℕ → List ℕ → (ℤ → Option (List ℕ)) → SnapshotModel → List Segment → ℕ → List Scanned → Outcome → Type 0

@@ -2,6 +2,7 @@
 -- which messages it applies, and the cut. Stated for any number of segments and for all kinds of messages.
 use Rattle.std.specs.Prelude.{◌≡◌, ◌⊎◌, ◌+◌, ◌-◌, ◌/◌, ◌%◌, ◌^◌, ◌≤◌, ℕ, ℤ, pos, nat_lt, int_lt, Bool, true, false, ◌&&◌, ◌||◌, not, ◌==◌, if◌then◌else◌, List}
 use Rattle.std.specs.Prelude.{[], ◌∷◌, ◌++◌, length, drop, set, get_or, replicate, Option, Some, None, map, Contains}
+use Rattle.sled_codec.specs.declared.result.DiskPtr.{DiskPtr}
 use Rattle.sled_codec.specs.declared.serialization.message.LogKind.{LogKind}
 use Rattle.sled_codec.specs.declared.serialization.message.LogKind.TheVariants as does
 use Rattle.sled_codec.specs.History.{Message}
@@ -15,7 +16,7 @@ use Rattle.sled_core.specs.declared.iterator.scan.RecordContent.TheVariants.{Giv
 use Rattle.sled_core.specs.declared.iterator.Segment.{Segment}
 use Rattle.sled_core.specs.Reading.{IsMalformed}
 use Rattle.sled_core.specs.Scan.{IsDamagedIn, IsPath}
-pub use Rattle.sled_core.specs.Replayed.{IsReplayed, scanned_of, NamesKind, HasBadBlob, with_blob, resolved}
+pub use Rattle.sled_core.specs.Replayed.{IsReplayed, scanned_of, NamesKind, HasBadBlob, NamesBlobOf, with_blob, resolved}
 pub use Rattle.sled_core.specs.Tail.{IsUnordered, is_ascending, IsOrdering, Scanned, IsScanned, place_of_mark, greatest_mark, tail_begins, GoesOn, IsTail}
 pub use Rattle.sled_core.specs.Tail.{IsTailPart, tail_end, begun_below, AreScanned, opens, open_at, before_open, stops_in, is_filled, cut_of, least_place}
 
@@ -36,9 +37,22 @@ AreReplayed sum size log end (s ∷ ss) (x ∷ xs) =
 
 -- Blobs.
 
+-- this is so of one of these
+abbrev pub MeetsOne : (RecordContent → Type 0) → List ScannedRecord → Type 0
+MeetsOne P ms = (m : ScannedRecord) × Contains ms m × P m.what
+
 -- one of these names a blob that is there and doesn't pass for it
 abbrev pub MeetsBadBlob : (List ℕ → ℕ) → (ℤ → Option (List ℕ)) → List ScannedRecord → Type 0
-MeetsBadBlob sum blobs ms = (m : ScannedRecord) × Contains ms m × HasBadBlob sum blobs m.what
+MeetsBadBlob sum blobs ms = MeetsOne (HasBadBlob sum blobs) ms
+
+-- the blob that a record names is there and doesn't pass for it, and damage of that blob is named so
+abbrev pub HasDamage : (List ℕ → ℕ) → (ℤ → Option (List ℕ)) → Option DiskPtr → RecordContent → Type 0
+HasDamage sum blobs at what = HasBadBlob sum blobs what × NamesBlobOf sum blobs what at
+
+-- Damage is named as that of the blob of one of these: the blob that one of them names is there and doesn't pass for it. Its name is exact: that blob where
+-- its checksum fails, and none where it is too short to have one, or holds another kind.
+abbrev pub NamesBadBlob : (List ℕ → ℕ) → (ℤ → Option (List ℕ)) → List ScannedRecord → Option DiskPtr → Type 0
+NamesBadBlob sum blobs ms at = MeetsOne (HasDamage sum blobs at) ms
 
 -- what is met, with the blobs of all that is met before a batch that is open
 abbrev pub resolved_before : (ℤ → Option (List ℕ)) → ℕ → List ScannedRecord → List ScannedRecord
@@ -135,9 +149,9 @@ pub record RecoveryResult : Type 0 where
   -- the slots of the segments that are found and that the pass did not read, by their places
   pub unread : List ℕ
 
--- what recovery answers
+-- what recovery answers: the content is damaged, and so the damage is named; or this is recovered
 pub data Outcome : Type 0 where
-  Damaged : Outcome
+  Damaged : (at : Option DiskPtr) → Outcome
   Recovered : (x : RecoveryResult) → Outcome
 
 -- The rest of the active segment behind a cut.
@@ -150,10 +164,10 @@ abbrev pub is_beyond : Option ℤ → ℕ → Bool
 is_beyond None cut = true
 is_beyond (Some place) cut = int_lt place (pos cut)
 
--- A table with this cut, unless it can't be one.
+-- A table with this cut, unless it can't be one, which is damage of no blob.
 abbrev pub concluded : ℕ → SnapshotModel → List ℕ → List Applied → ℕ × Option ℕ → Outcome
 concluded size first unread messages cut =
-    if has_no_table messages || nat_lt cut.0 (stable_place first.stable) || not (are_whole (table_of first.pages messages)) then Damaged
+    if has_no_table messages || nat_lt cut.0 (stable_place first.stable) || not (are_whole (table_of first.pages messages)) then Damaged None
     else Recovered (record {
       model = record { stable = Some (pos cut.0); active = cut.1; pages = table_of first.pages messages };
       shred_range = shred_range_of size cut.0 cut.1;
@@ -174,19 +188,25 @@ outcome_of size first end (s ∷ ss) unread =
 
 -- The whole.
 
--- a record is met in a segment whose blob doesn't pass for it
-abbrev pub MeetsBadBlobIn : (List ℕ → ℕ) → ℕ → List ℕ → (ℤ → Option (List ℕ)) → Segment → Type 0
-MeetsBadBlobIn sum size log blobs segment = (s : Scanned) × (s.segment ≡ segment) × IsScanned sum size log s × MeetsBadBlob sum blobs s.met
+-- a record is met in a segment whose blob doesn't pass for it, and damage is named as that of the blob
+abbrev pub NamesBadBlobIn : (List ℕ → ℕ) → ℕ → List ℕ → (ℤ → Option (List ℕ)) → Segment → Option DiskPtr → Type 0
+NamesBadBlobIn sum size log blobs segment at = (s : Scanned) × (s.segment ≡ segment) × IsScanned sum size log s × NamesBadBlob sum blobs s.met at
 
--- A damaged record, or one whose blob doesn't pass for it, is met where the tail is read.
-pub record IsDamagedTail (sum : List ℕ → ℕ) (size : ℕ) (log : List ℕ) (blobs : ℤ → Option (List ℕ)) (ordering : List Segment) (place : ℕ) : Type 0 where
+-- a damaged record is met in a segment, and the damage names no blob; or one whose blob doesn't pass for it
+abbrev pub NamesDamageIn : (List ℕ → ℕ) → ℕ → List ℕ → (ℤ → Option (List ℕ)) → Segment → Option DiskPtr → Type 0
+NamesDamageIn sum size log blobs segment at =
+    ((at ≡ None) × IsDamagedIn sum size log segment.slot segment.place) ⊎ NamesBadBlobIn sum size log blobs segment at
+
+-- A damaged record, or one whose blob doesn't pass for it, is met where the tail is read, and the damage is named so.
+pub record IsDamagedTail (sum : List ℕ → ℕ) (size : ℕ) (log : List ℕ) (blobs : ℤ → Option (List ℕ)) (ordering : List Segment) (place : ℕ)
+    (name : Option DiskPtr) : Type 0 where
   pub before : List Scanned
   pub next : ℕ
   pub part : IsTailPart sum size log ordering place before next
   pub segment : Segment
   pub there : Contains ordering segment
   pub at : segment.place ≡ next
-  pub damaged : IsDamagedIn sum size log segment.slot segment.place ⊎ MeetsBadBlobIn sum size log blobs segment
+  pub damaged : NamesDamageIn sum size log blobs segment name
 
 -- none of these has a batch that does not end below this place
 abbrev pub AreClosed : ℕ → List Scanned → Type 0
@@ -212,7 +232,7 @@ pub record IsDamagedPass (sum : List ℕ → ℕ) (size : ℕ) (log : List ℕ) 
 -- what comes of the segments that the pass reads, with their blobs
 abbrev pub PassesOver : (List ℕ → ℕ) → ℕ → (ℤ → Option (List ℕ)) → SnapshotModel → ℕ → List Scanned → List ℕ → Outcome → Type 0
 PassesOver sum size blobs first end passes unread o =
-    ((o ≡ Damaged) × MeetsBadBlob sum blobs (passed_all end passes))
+    ((at : Option DiskPtr) × (o ≡ Damaged at) × NamesBadBlob sum blobs (passed_all end passes) at)
     ⊎ ((MeetsBadBlob sum blobs (passed_all end passes) → ⊥) × (o ≡ outcome_of size first end (map (resolved_scan blobs end) passes) unread))
 
 -- the slots of these segments
@@ -223,7 +243,7 @@ slots_of segments = map (λ s. s.slot) segments
 abbrev pub Passes : (List ℕ → ℕ) → ℕ → List ℕ → (ℤ → Option (List ℕ)) → SnapshotModel → List Segment → Option ℕ → Outcome → Type 0
 Passes sum size log blobs first ordering None o = o ≡ Recovered (unchanged first (slots_of ordering))
 Passes sum size log blobs first ordering (Some end) o =
-    ((o ≡ Damaged) × IsDamagedPass sum size log end (begun_below end ordering))
+    ((o ≡ Damaged None) × IsDamagedPass sum size log end (begun_below end ordering))
     ⊎ ((passes : List Scanned) × AreReplayed sum size log end (begun_below end ordering) passes
     × PassesOver sum size blobs first end passes (slots_of (drop (length passes) ordering)) o)
 
@@ -234,7 +254,7 @@ HaveGoodBlobs sum blobs scanned = (s : Scanned) → Contains scanned s → Meets
 -- what comes of the segments that are found
 abbrev pub Replays : (List ℕ → ℕ) → ℕ → List ℕ → (ℤ → Option (List ℕ)) → SnapshotModel → List Segment → ℕ → Outcome → Type 0
 Replays sum size log blobs first ordering tail o =
-    ((o ≡ Damaged) × IsDamagedTail sum size log blobs ordering tail)
+    ((at : Option DiskPtr) × (o ≡ Damaged at) × IsDamagedTail sum size log blobs ordering tail at)
     ⊎ ((scanned : List Scanned) × IsTail sum size log ordering tail scanned × HaveGoodBlobs sum blobs scanned
     × Passes sum size log blobs first ordering (tail_end scanned) o)
 
@@ -242,11 +262,11 @@ Replays sum size log blobs first ordering tail o =
 unfoldable pub ContinuesFrom : (List ℕ → ℕ) → ℕ → List ℕ → (ℤ → Option (List ℕ)) → SnapshotModel → Outcome → Type 0
 ContinuesFrom sum size log blobs first o =
     let least = least_place size first in
-    ((o ≡ Damaged) × IsUnordered sum size log least)
+    ((o ≡ Damaged None) × IsUnordered sum size log least)
     ⊎ ((ordering : List Segment) × IsOrdering sum size log least ordering × Replays sum size log blobs first ordering (tail_begins size least ordering) o)
 
--- What recovery makes of what it reads.
+-- What recovery makes of what it reads. Damage names a blob exactly where a record is met whose blob has a checksum that fails.
 unfoldable pub Recovers : (List ℕ → ℕ) → ℕ → Content → Outcome → Type 0
 Recovers sum size content o =
-    ((o ≡ Damaged) × IsDamagedSnapshot sum content.snapshots)
+    ((o ≡ Damaged None) × IsDamagedSnapshot sum content.snapshots)
     ⊎ ((first : SnapshotModel) × BeginsFrom sum content.snapshots first × ContinuesFrom sum size content.log content.blobs first o)

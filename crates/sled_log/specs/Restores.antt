@@ -1,10 +1,11 @@
 -- What recovery makes of a device, and what it gives.
-use Rattle.std.specs.Prelude.{◌≡◌, ◌⊎◌, ℕ, ℤ, Bool, true, false, List, [], ◌∷◌, length, Option, Result, IfOk}
+use Rattle.std.specs.Prelude.{◌≡◌, ◌⊎◌, ℕ, ℤ, Bool, true, false, List, [], ◌∷◌, length, Option, None, Result, IfOk}
+use Rattle.sled_codec.specs.declared.result.DiskPtr.{DiskPtr}
 use Rattle.sled_codec.specs.declared.result.Error.{Error}
 use Rattle.sled_codec.specs.declared.serialization.snapshot.Snapshot.{Snapshot}
-use Rattle.sled_codec.specs.Errors.{IsCorruption}
 use Rattle.sled_codec.specs.Snapshots.{SnapshotModel, model_of}
 use Rattle.sled_store.specs.Begin.{IsStartable}
+use Rattle.sled_store.specs.Blobs.{OnDamage}
 use Rattle.sled_store.specs.Device.{Content, Trace, State, Synced, NamesSynced, state_of, content_of}
 use Rattle.sled_store.specs.Script.{Performs}
 use Rattle.sled_store.specs.SnapshotFiles.{BeginsFrom}
@@ -35,22 +36,24 @@ pub record Restores (sum : List ℕ → ℕ) (size : ℕ) (old new : Trace) (s :
   -- a recovery of what is left, where it comes to a conclusion, comes to the same table with the same place
   pub again : (y : RecoveryResult) → Recovers sum size (content_of (state_of new)) (Recovered y) → (y.model.stable ≡ s.stable) × (y.model.pages ≡ s.pages)
 
--- A recovery meets damage that concludes so, or that comes to a table on which no log can begin.
-abbrev pub MeetsDamage : (List ℕ → ℕ) → ℕ → Content → Type 0
-MeetsDamage sum size content =
-    Recovers sum size content Damaged
-    ⊎ ((x : RecoveryResult) × Recovers sum size content (Recovered x) × (IsStartable size (length content.log) x.model → ⊥))
+-- A recovery meets damage that is named so: it concludes that, or it comes to a table on which no log can begin, which is damage of no blob.
+abbrev pub MeetsDamage : (List ℕ → ℕ) → ℕ → Content → Option DiskPtr → Type 0
+MeetsDamage sum size content at =
+    Recovers sum size content (Damaged at)
+    ⊎ ((at ≡ None) × (x : RecoveryResult) × Recovers sum size content (Recovered x) × (IsStartable size (length content.log) x.model → ⊥))
 
--- what it takes for damage, by whether a log is to begin on what it gives
-abbrev pub TakesForDamage : Bool → (List ℕ → ℕ) → ℕ → Content → Type 0
-TakesForDamage false sum size content = Recovers sum size content Damaged
-TakesForDamage true sum size content = MeetsDamage sum size content
+-- what it takes for damage that is named so, by whether a log is to begin on what it gives
+abbrev pub TakesForDamage : Bool → (List ℕ → ℕ) → ℕ → Content → Option DiskPtr → Type 0
+TakesForDamage false sum size content at = Recovers sum size content (Damaged at)
+TakesForDamage true sum size content at = MeetsDamage sum size content at
 
--- What came of a recovery, whatever it answers: the calls that it made, what it gives, and that it wrote nothing where it met what it takes for damage.
-pub record ComesTo (IsDamage : Content → Type 0) (sum : List ℕ → ℕ) (size : ℕ) (old new : Trace) (result : Result Snapshot Error) : Type 0 where
+-- What came of a recovery, whatever it answers: the calls that it made, what it gives, and that it wrote nothing where it met what it takes for damage, and
+-- how that is named.
+pub record ComesTo (IsDamage : Content → Option DiskPtr → Type 0) (sum : List ℕ → ℕ) (size : ℕ) (old new : Trace) (result : Result Snapshot Error)
+    : Type 0 where
   pub calls : RecoveryCalls sum size old new
   pub ok : IfOk result (λ s. Restores sum size old new (model_of s))
-  pub corrupt : IsCorruption result → IsDamage (content_of (state_of old)) × (new ≡ NamesSynced ∷ Synced ∷ old)
+  pub corrupt : OnDamage result (λ at. IsDamage (content_of (state_of old)) at × (new ≡ NamesSynced ∷ Synced ∷ old))
 
 abbrev pub ComesOf : (List ℕ → ℕ) → ℕ → (old new : Trace) → Result Snapshot Error → Type 0
-ComesOf sum size old new result = ComesTo (λ content. Recovers sum size content Damaged) sum size old new result
+ComesOf sum size old new result = ComesTo (λ content at. Recovers sum size content (Damaged at)) sum size old new result

@@ -8,6 +8,7 @@ ghost use Rattle.sled_store.specs.Moments.{IsLater, LeavesOnly};
 ghost use Rattle.sled_store.specs.Script.{Performs};
 ghost use Rattle.std.specs.List.{All};
 ghost use Rattle.sled_store.specs.Begin.{IsStartable};
+ghost use Rattle.sled_store.specs.Blobs.{OnDamage};
 ghost use Rattle.sled_store.specs.Causes.{DeviceAnswers};
 ghost use Rattle.sled_core.specs.Causes.{ItemAnswersOver};
 ghost use Rattle.sled_core.specs.Good.{IsGood};
@@ -18,7 +19,7 @@ ghost use Rattle.sled_core.specs.Keeps.{ConfigKept, OnlyReads};
 ghost use Rattle.sled_log.specs.Restores.{ComesTo, MeetsDamage, RecoveryCalls, Restores, TakesForDamage};
 ghost use Rattle.sled_log.specs.Orderly.{CanRecover, IsOrderly, IsReadWell, RecoversFor};
 ghost use Rattle.sled_log.specs.Recovery.{least_place, IsOrdering, AreScanned, begun_below, Recovered, Damaged, Recovers};
-ghost use Rattle.sled_log.specs.Passes.{CanAllBeRead, ContinuesOn, IsPass, pass_of, AreLookedUp, MeetsBadTail, PassesBehind, PassesOn};
+ghost use Rattle.sled_log.specs.Passes.{CanAllBeRead, ContinuesOn, IsPass, pass_of, AreLookedUp, NamesBadTail, PassesBehind, PassesOn};
 ghost use Rattle.sled_log.specs.WritesBack.{result_of};
 
 pub(crate) mod blobs;
@@ -60,15 +61,15 @@ use sled_store::{Device, RunningConfig};
 /// # Errors
 ///
 /// `Corruption` where the newest snapshot is damaged, where segments are found that can't be of one log, where a
-/// damaged record is met, where the blob of a record doesn't pass for it (named where its checksum fails), or where the
-/// table can't be one; nothing was written then. `Io` where the device failed, and `OutOfMemory`.
+/// damaged record is met, where the blob of a record doesn't pass for it (exactly then a blob is named, where its checksum
+/// fails), or where the table can't be one; nothing was written then. `Io` where the device failed, and `OutOfMemory`.
 pub fn read_snapshot_or_default<D: Device, C: Checksum>(
     config: &mut RunningConfig<D, C>,
 ) -> Result<Snapshot>
     ensures ok { IfOk result (λ s. Restores C.sum_of config.old.config.segment_size (D.trace config.old.device) (D.trace config.new.device) (model_of s)) }
     ensures calls { RecoveryCalls C.sum_of config.old.config.segment_size (D.trace config.old.device) (D.trace config.new.device) }
-    ensures corrupt { IsCorruption result → Recovers C.sum_of config.old.config.segment_size (content_of (state_of (D.trace config.old.device))) Damaged
-        × (D.trace config.new.device ≡ NamesSynced ∷ Synced ∷ D.trace config.old.device) }
+    ensures corrupt { let size = config.old.config.segment_size in let old = D.trace config.old.device in
+        OnDamage result (λ at. Recovers C.sum_of size (content_of (state_of old)) (Damaged at) × (D.trace config.new.device ≡ NamesSynced ∷ Synced ∷ old)) }
     ensures answers { ItemAnswersOver D.trace D.faults C.sum_of result config.old config.new }
     ensures config { ConfigKept config.old config.new }
     ensures later { IsLater (D.trace config.old.device) (D.trace config.new.device) }
@@ -97,16 +98,16 @@ pub fn read_snapshot_or_default<D: Device, C: Checksum>(
 ///
 /// # Errors
 ///
-/// Those of `read_snapshot_or_default`, and `Corruption` where no log can begin on what is recovered; nothing was written
-/// then either. Of what it gives `Log::start` never answers `Corruption`.
+/// Those of `read_snapshot_or_default`, and `Corruption` that names no blob where no log can begin on what is recovered;
+/// nothing was written then either. Of what it gives `Log::start` never answers `Corruption`.
 pub fn read_startable_snapshot<D: Device, C: Checksum>(
     config: &mut RunningConfig<D, C>,
 ) -> Result<Snapshot>
     ensures ok { IfOk result (λ s. Restores C.sum_of config.old.config.segment_size (D.trace config.old.device) (D.trace config.new.device) (model_of s)) }
     ensures starts { IfOk result (λ s. IsStartable config.old.config.segment_size (length (state_of (D.trace config.new.device)).log.bytes) (model_of s)) }
     ensures calls { RecoveryCalls C.sum_of config.old.config.segment_size (D.trace config.old.device) (D.trace config.new.device) }
-    ensures damage { IsCorruption result → MeetsDamage C.sum_of config.old.config.segment_size (content_of (state_of (D.trace config.old.device)))
-        × (D.trace config.new.device ≡ NamesSynced ∷ Synced ∷ D.trace config.old.device) }
+    ensures damage { let size = config.old.config.segment_size in let old = D.trace config.old.device in
+        OnDamage result (λ at. MeetsDamage C.sum_of size (content_of (state_of old)) at × (D.trace config.new.device ≡ NamesSynced ∷ Synced ∷ old)) }
     ensures answers { ItemAnswersOver D.trace D.faults C.sum_of result config.old config.new }
     ensures config { ConfigKept config.old config.new }
     ensures recovers { let size = config.old.config.segment_size in let old = D.trace config.old.device in
@@ -147,7 +148,7 @@ fn conclude<D: Device, C: Checksum>(
     ensures starts { let old = state_of (D.trace config.old.device) in
         is_to_start ≡ true → IfOk result (λ x. IsStartable config.old.config.segment_size (length old.log.bytes) (model_of x.snapshot)) }
     ensures corrupt { let old = state_of (D.trace config.old.device) in
-        IsCorruption result → TakesForDamage is_to_start C.sum_of config.old.config.segment_size (content_of old) }
+        OnDamage result (TakesForDamage is_to_start C.sum_of config.old.config.segment_size (content_of old)) }
     ensures answers { ItemAnswersOver D.trace D.faults C.sum_of result config.old config.new }
     ensures reads { OnlyReads D.trace config.old config.new }
 {
@@ -198,12 +199,12 @@ fn settle<D: Device>(device: &mut D) -> Result<()>
 
 /// What recovery makes of what the device has. It only reads. `Corruption` comes where the newest snapshot is damaged, where
 /// segments are found that can't be of one log, where a damaged record is met or one whose blob doesn't pass for it, and
-/// where the table can't be one.
+/// where the table can't be one. It names the blob where one doesn't pass and its checksum fails, and else none.
 pub(crate) fn recover<D: Device, C: Checksum>(config: &mut RunningConfig<D, C>) -> Result<Recovery>
     ensures ok { let old = state_of (D.trace config.old.device) in
         IfOk result (λ x. Recovers C.sum_of config.old.config.segment_size (content_of old) (Recovered (result_of x))) }
     ensures corrupt { let old = state_of (D.trace config.old.device) in
-        IsCorruption result → Recovers C.sum_of config.old.config.segment_size (content_of old) Damaged }
+        OnDamage result (λ at. Recovers C.sum_of config.old.config.segment_size (content_of old) (Damaged at)) }
     ensures answers { ItemAnswersOver D.trace D.faults C.sum_of result config.old config.new }
     ensures reads { OnlyReads D.trace config.old config.new }
 {
@@ -219,7 +220,7 @@ fn continue_from<D: Device, C: Checksum>(
     first: Snapshot,
 ) -> Result<Recovery>
     ensures ok { IfOk result (λ x. ContinuesOn D.trace C.sum_of config.old first (Recovered (result_of x))) }
-    ensures corrupt { IsCorruption result → ContinuesOn D.trace C.sum_of config.old first Damaged }
+    ensures corrupt { OnDamage result (λ at. ContinuesOn D.trace C.sum_of config.old first (Damaged at)) }
     ensures answers { ItemAnswersOver D.trace D.faults C.sum_of result config.old config.new }
     ensures reads { OnlyReads D.trace config.old config.new }
 {
@@ -241,7 +242,7 @@ fn continue_over<D: Device, C: Checksum>(
         (least_place config.old.config.segment_size (model_of first)) segments.now }
     requires small { length (state_of (D.trace config.old.device)).log.bytes + config.old.config.segment_size < 2 ^ 63 }
     ensures ok { IfOk result (λ x. ContinuesOn D.trace C.sum_of config.old first (Recovered (result_of x))) }
-    ensures corrupt { IsCorruption result → ContinuesOn D.trace C.sum_of config.old first Damaged }
+    ensures corrupt { OnDamage result (λ at. ContinuesOn D.trace C.sum_of config.old first (Damaged at)) }
     ensures answers { ItemAnswersOver D.trace D.faults C.sum_of result config.old config.new }
     ensures reads { OnlyReads D.trace config.old config.new }
 {
@@ -277,8 +278,9 @@ fn replay_tail<D: Device, C: Checksum>(
         IfOk result (λ x. PassesBehind C.sum_of config.old.config.segment_size s.log.bytes s.blobs.file (model_of first) segments.now end
         (map pass_of tail.items) (Recovered (result_of x))) }
     ensures corrupt { let s = state_of (D.trace config.old.device) in
-        IsCorruption result → MeetsBadTail C.sum_of s.blobs.file (map pass_of tail.items)
-        ⊎ PassesBehind C.sum_of config.old.config.segment_size s.log.bytes s.blobs.file (model_of first) segments.now end (map pass_of tail.items) Damaged }
+        OnDamage result (λ at. NamesBadTail C.sum_of s.blobs.file (map pass_of tail.items) at
+        ⊎ PassesBehind C.sum_of config.old.config.segment_size s.log.bytes s.blobs.file (model_of first) segments.now end
+        (map pass_of tail.items) (Damaged at)) }
     ensures answers { ItemAnswersOver D.trace D.faults C.sum_of result config.old config.new }
     ensures reads { OnlyReads D.trace config.old config.new }
 {
@@ -305,7 +307,7 @@ fn pass_over<D: Device, C: Checksum>(
     requires tail { let s = state_of (D.trace config.old.device) in
         AreLookedUp C.sum_of config.old.config.segment_size s.log.bytes s.blobs.file end (begun_below end (drop from segments.now)) (map pass_of tail.items) }
     ensures ok { IfOk result (λ x. PassesOn D.trace C.sum_of config.old first segments.now end (Recovered (result_of x))) }
-    ensures corrupt { IsCorruption result → PassesOn D.trace C.sum_of config.old first segments.now end Damaged }
+    ensures corrupt { OnDamage result (λ at. PassesOn D.trace C.sum_of config.old first segments.now end (Damaged at)) }
     ensures answers { ItemAnswersOver D.trace D.faults C.sum_of result config.old config.new }
     ensures reads { OnlyReads D.trace config.old config.new }
 {

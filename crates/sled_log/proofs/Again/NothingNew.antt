@@ -25,7 +25,7 @@ not_beyond place cut low = grind (arith, nat_tests, low)
 
 module _ (sum : List ℕ → ℕ) (size : ℕ) (log : List ℕ) (blobs : ℤ → Option (List ℕ)) (first : SnapshotModel) (y : RecoveryResult) where
   pub none_found : (tail : ℕ) → Replays sum size log blobs first [] tail (Recovered y) → y.is_new ≡ false
-  none_found tail (inl damaged) = let no = damaged.0 in absurd (cc)
+  none_found tail (inl damaged) = let no = damaged.1 in absurd (cc)
   none_found tail (inr ([], is_tail, good, passes)) = stays first [] y passes
   none_found tail (inr (x ∷ xs, is_tail, good, passes)) = absurd (in_nothing x.segment is_tail.0)
 
@@ -70,11 +70,11 @@ module _ (sum : List ℕ → ℕ) (size : ℕ) (log : List ℕ) (blobs : ℤ →
 
       by : (ps : List Scanned) (unread : List ℕ) → AreReplayed sum size log end (s ∷ []) ps → PassesOver sum size blobs first end ps unread (Recovered y) → y.is_new ≡ false
       by [] unread are over = absurd are
-      by (p ∷ ps) unread are (inl damaged) = let no = damaged.0 in absurd (cc)
+      by (p ∷ ps) unread are (inl damaged) = let no = damaged.1 in absurd (cc)
       by (p ∷ ps) unread are (inr (good, comes)) = concludes p ps unread are comes
 
     pub one_found : (tail : ℕ) → Replays sum size log blobs first (s ∷ []) tail (Recovered y) → y.is_new ≡ false
-    one_found tail (inl damaged) = let no = damaged.0 in absurd (cc)
+    one_found tail (inl damaged) = let no = damaged.1 in absurd (cc)
     one_found tail (inr ([], is_tail, good, passes)) = stays first (slots_of (s ∷ [])) y passes
     one_found tail (inr (x ∷ xs, is_tail, good, passes)) =
         let same : x ≡ t = one_scan sum size log x t (sym (only_in s x.segment is_tail.0)) is_tail.2 scan in

@@ -218,7 +218,7 @@ module _ (sum : List ℕ → ℕ) (size : ℕ) (some : 256 ≤ size) (log : List
     by_end : (ordering : List Segment) → IsOrdering sum size log (least_place size first) ordering → (e : Option ℕ) → Passes sum size log blobs first ordering e (Recovered x) → Left x
     by_end ordering numbers None passes = stayed ordering numbers passes
     by_end ordering numbers (Some end) (inl damaged) = let no = damaged.0 in absurd (cc)
-    by_end ordering numbers (Some end) (inr (ps, are, inl damaged)) = let no = damaged.0 in absurd (cc)
+    by_end ordering numbers (Some end) (inr (ps, are, inl damaged)) = let no = damaged.1 in absurd (cc)
     by_end ordering numbers (Some end) (inr ([], are, inr (good, comes))) = stayed ordering numbers comes
     by_end ordering numbers (Some end) (inr (s ∷ ss, are, inr (good, comes))) =
         let R : Scanned → Scanned = resolved_scan blobs end in
@@ -234,7 +234,7 @@ module _ (sum : List ℕ → ℕ) (size : ℕ) (some : 256 ≤ size) (log : List
     pub nothing_new : ContinuesFrom sum size log blobs first (Recovered x) → Left x
     unfolding ContinuesFrom
     nothing_new (inl damaged) = let no = damaged.0 in absurd (cc)
-    nothing_new (inr (ordering, numbers, inl damaged)) = let no = damaged.0 in absurd (cc)
+    nothing_new (inr (ordering, numbers, inl damaged)) = let no = damaged.1 in absurd (cc)
     nothing_new (inr (ordering, numbers, inr (scanned, tail, good, passes))) = by_end ordering numbers (tail_end scanned) passes
 
 -- The snapshot that it begins from has the place and the pages, and nothing is new.

@@ -4,15 +4,16 @@ use Rattle.std.specs.List.{All}
 use Rattle.std.proofs.lemmas.List.{drop_more, take_more_set, drop-set-lt, map-append}
 use Rattle.std.proofs.lemmas.List.Elements.{All-cons, All-head, All-nil, All-tail}
 use Rattle.sled_core.specs.declared.iterator.scan.ScannedRecord.{ScannedRecord}
+use Rattle.sled_core.specs.declared.iterator.scan.RecordContent.{RecordContent}
 use Rattle.sled_core.specs.declared.iterator.Segment.{Segment}
 use Rattle.sled_store.specs.Device.{Trace, state_of}
 use Rattle.sled_store.proofs.Segments.Elements.{in_cases, in_nothing}
 use Rattle.sled_log.specs.declared.snapshot.pass.Pass.{Pass}
-use Rattle.sled_log.specs.Recovery.{Scanned, StopsOrGoesOn, AreReplayed, before_open, open_at, passed_in, passed_all, MeetsBadBlob, HaveGoodBlobs, resolved_scan, resolved_before}
-use Rattle.sled_log.specs.Passes.{HasKinds, IsPass, pass_of, OpensLast, MeetsBadPass}
+use Rattle.sled_log.specs.Recovery.{Scanned, StopsOrGoesOn, AreReplayed, before_open, open_at, passed_in, passed_all, HasBadBlob, MeetsBadBlob, MeetsOne, HaveGoodBlobs, resolved_scan, resolved_before}
+use Rattle.sled_log.specs.Passes.{HasKinds, IsPass, pass_of, OpensLast, MeetsBadPass, PassMeets}
 use Rattle.sled_core.proofs.Tail.Rows.{all_before_open}
-use Rattle.sled_log.proofs.Replay.BlobLemmas.{bad_behind, bad_first, bad_cases}
-use Rattle.sled_log.proofs.Replay.LookLemmas.{all_with_blobs, bad_still, written}
+use Rattle.sled_log.proofs.Replay.BlobLemmas.{met_behind, met_first, met_cases}
+use Rattle.sled_log.proofs.Replay.LookLemmas.{all_with_blobs, met_still, written}
 
 -- What was read in a pass: only in the last one a batch is open.
 module _ (sum : List ℕ → ℕ) (size : ℕ) (log : List ℕ) (end : ℕ) where
@@ -24,25 +25,25 @@ module _ (sum : List ℕ → ℕ) (size : ℕ) (log : List ℕ) (end : ℕ) wher
     by (Some p) on others = on
     by None on others = others on
 
--- What is bad in these segments is bad in all that the pass meets.
-module _ (sum : List ℕ → ℕ) (blobs : ℤ → Option (List ℕ)) where
-  bad_front : (xs ys : List ScannedRecord) → MeetsBadBlob sum blobs xs → MeetsBadBlob sum blobs (xs ++ ys)
-  bad_front [] ys bad = absurd (in_nothing bad.0 bad.1)
-  bad_front (x ∷ xs) ys bad = elim (bad_cases sum blobs x xs bad) [
-    | inl here ↦ bad_first sum blobs x (xs ++ ys) here
-    | inr later ↦ bad_behind sum blobs x (xs ++ ys) (bad_front xs ys later)
+-- What is met in these segments is met in all that the pass meets.
+module _ (P : RecordContent → Type 0) where
+  met_front : (xs ys : List ScannedRecord) → MeetsOne P xs → MeetsOne P (xs ++ ys)
+  met_front [] ys met = absurd (in_nothing met.0 met.1)
+  met_front (x ∷ xs) ys met = elim (met_cases P x xs met) [
+    | inl here ↦ met_first P x (xs ++ ys) here
+    | inr later ↦ met_behind P x (xs ++ ys) (met_front xs ys later)
   ]
 
-  bad_back : (xs ys : List ScannedRecord) → MeetsBadBlob sum blobs ys → MeetsBadBlob sum blobs (xs ++ ys)
-  bad_back [] ys bad = bad
-  bad_back (x ∷ xs) ys bad = bad_behind sum blobs x (xs ++ ys) (bad_back xs ys bad)
+  met_back : (xs ys : List ScannedRecord) → MeetsOne P ys → MeetsOne P (xs ++ ys)
+  met_back [] ys met = met
+  met_back (x ∷ xs) ys met = met_behind P x (xs ++ ys) (met_back xs ys met)
 
-  bad_in_two : (xs ys : List ScannedRecord) → MeetsBadBlob sum blobs (xs ++ ys) → MeetsBadBlob sum blobs xs ⊎ MeetsBadBlob sum blobs ys
-  bad_in_two [] ys bad = inr bad
-  bad_in_two (x ∷ xs) ys bad = elim (bad_cases sum blobs x (xs ++ ys) bad) [
-    | inl here ↦ inl (bad_first sum blobs x xs here)
-    | inr later ↦ elim (bad_in_two xs ys later) [
-      | inl front ↦ inl (bad_behind sum blobs x xs front)
+  met_in_two : (xs ys : List ScannedRecord) → MeetsOne P (xs ++ ys) → MeetsOne P xs ⊎ MeetsOne P ys
+  met_in_two [] ys met = inr met
+  met_in_two (x ∷ xs) ys met = elim (met_cases P x (xs ++ ys) met) [
+    | inl here ↦ inl (met_first P x xs here)
+    | inr later ↦ elim (met_in_two xs ys later) [
+      | inl front ↦ inl (met_behind P x xs front)
       | inr back ↦ inr back
     ]
   ]
@@ -52,28 +53,28 @@ module _ (sum : List ℕ → ℕ) (blobs : ℤ → Option (List ℕ)) where
     passed_none s [] = sym (append-nil s.met)
     passed_none s (t ∷ ts) = refl
 
-    none_last : (ss : List Scanned) → ss ≡ [] → MeetsBadPass sum blobs end ss → ⊥
-    none_last ss is bad = subst (λ (l : List Scanned). MeetsBadPass sum blobs end l) is bad
+    none_last : (ss : List Scanned) → ss ≡ [] → PassMeets P end ss → ⊥
+    none_last ss is met = subst (λ (l : List Scanned). PassMeets P end l) is met
 
-    pub bad_to_all : (ss : List Scanned) → OpensLast end ss → MeetsBadPass sum blobs end ss → MeetsBadBlob sum blobs (passed_all end ss)
-    bad_to_all [] last bad = absurd bad
-    bad_to_all (s ∷ ss) last bad = by (open_at end s.met) refl last bad (bad_to_all ss) where
-      by : (o : Option ℕ) → open_at end s.met ≡ o → StopsOrGoesOn o ss (OpensLast end ss) → MeetsBadBlob sum blobs (before_open end s.met) ⊎ MeetsBadPass sum blobs end ss
-          → (OpensLast end ss → MeetsBadPass sum blobs end ss → MeetsBadBlob sum blobs (passed_all end ss)) → MeetsBadBlob sum blobs (passed_in end s o ss)
+    pub met_to_all : (ss : List Scanned) → OpensLast end ss → PassMeets P end ss → MeetsOne P (passed_all end ss)
+    met_to_all [] last met = absurd met
+    met_to_all (s ∷ ss) last met = by (open_at end s.met) refl last met (met_to_all ss) where
+      by : (o : Option ℕ) → open_at end s.met ≡ o → StopsOrGoesOn o ss (OpensLast end ss) → MeetsOne P (before_open end s.met) ⊎ PassMeets P end ss
+          → (OpensLast end ss → PassMeets P end ss → MeetsOne P (passed_all end ss)) → MeetsOne P (passed_in end s o ss)
       by (Some p) is on (inl here) others = here
       by (Some p) is on (inr later) others = absurd (none_last ss on later)
       by None is on (inl here) others =
-          subst (MeetsBadBlob sum blobs) (sym (passed_none s ss)) (bad_front s.met (passed_all end ss) (subst (MeetsBadBlob sum blobs) (all_before_open end s.met is) here))
-      by None is on (inr later) others = subst (MeetsBadBlob sum blobs) (sym (passed_none s ss)) (bad_back s.met (passed_all end ss) (others on later))
+          subst (MeetsOne P) (sym (passed_none s ss)) (met_front s.met (passed_all end ss) (subst (MeetsOne P) (all_before_open end s.met is) here))
+      by None is on (inr later) others = subst (MeetsOne P) (sym (passed_none s ss)) (met_back s.met (passed_all end ss) (others on later))
 
-    pub bad_of_all : (ss : List Scanned) → OpensLast end ss → MeetsBadBlob sum blobs (passed_all end ss) → MeetsBadPass sum blobs end ss
-    bad_of_all [] last bad = absurd (in_nothing bad.0 bad.1)
-    bad_of_all (s ∷ ss) last bad = by (open_at end s.met) refl last bad (bad_of_all ss) where
-      by : (o : Option ℕ) → open_at end s.met ≡ o → StopsOrGoesOn o ss (OpensLast end ss) → MeetsBadBlob sum blobs (passed_in end s o ss)
-          → (OpensLast end ss → MeetsBadBlob sum blobs (passed_all end ss) → MeetsBadPass sum blobs end ss) → MeetsBadBlob sum blobs (before_open end s.met) ⊎ MeetsBadPass sum blobs end ss
-      by (Some p) is on bad others = inl bad
-      by None is on bad others = elim (bad_in_two s.met (passed_all end ss) (subst (MeetsBadBlob sum blobs) (passed_none s ss) bad)) [
-        | inl here ↦ inl (subst (MeetsBadBlob sum blobs) (sym (all_before_open end s.met is)) here)
+    pub met_of_all : (ss : List Scanned) → OpensLast end ss → MeetsOne P (passed_all end ss) → PassMeets P end ss
+    met_of_all [] last met = absurd (in_nothing met.0 met.1)
+    met_of_all (s ∷ ss) last met = by (open_at end s.met) refl last met (met_of_all ss) where
+      by : (o : Option ℕ) → open_at end s.met ≡ o → StopsOrGoesOn o ss (OpensLast end ss) → MeetsOne P (passed_in end s o ss)
+          → (OpensLast end ss → MeetsOne P (passed_all end ss) → PassMeets P end ss) → MeetsOne P (before_open end s.met) ⊎ PassMeets P end ss
+      by (Some p) is on met others = inl met
+      by None is on met others = elim (met_in_two s.met (passed_all end ss) (subst (MeetsOne P) (passed_none s ss) met)) [
+        | inl here ↦ inl (subst (MeetsOne P) (sym (all_before_open end s.met is)) here)
         | inr later ↦ inr (others on later)
       ]
 
@@ -89,16 +90,24 @@ module _ (sum : List ℕ → ℕ) (blobs : ℤ → Option (List ℕ)) (end : ℕ
   pub kinds_on : (x : Pass) → All HasKinds (drop i ps) → All HasKinds (drop (i + 1) (set ps i x))
   kinds_on x all = subst (All HasKinds) (sym (drop-set-lt (i + 1) ps i x (omega arith))) (All-tail HasKinds (get_or ps i d) (drop (i + 1) ps) (subst (All HasKinds) (drop_more ps i d lt) all))
 
-  pub bad_pass_on : (x : Pass) (all : Type 0) → (MeetsBadBlob sum blobs (before_open end (get_or ps i d).scan.met.items) → ⊥) → (MeetsBadPass sum blobs end (map pass_of (drop i ps)) ↔ all)
-      → MeetsBadPass sum blobs end (map pass_of (drop (i + 1) (set ps i x))) ↔ all
-  bad_pass_on x all fine both =
-      subst (λ (l : List Pass). MeetsBadPass sum blobs end (map pass_of l) ↔ all) (sym (drop-set-lt (i + 1) ps i x (omega arith))) (
-        λ bad. both.0 (subst (λ (l : List Pass). MeetsBadPass sum blobs end (map pass_of l)) (sym (drop_more ps i d lt)) (inr bad)),
-        λ bad. elim (subst (λ (l : List Pass). MeetsBadPass sum blobs end (map pass_of l)) (drop_more ps i d lt) (both.1 bad)) [
-          | inl here ↦ absurd (fine here)
-          | inr later ↦ later
-        ],
-      )
+  -- what is met in the first of those that are left
+  pub pass_meets_here : (P : RecordContent → Type 0) → MeetsOne P (before_open end (get_or ps i d).scan.met.items) → PassMeets P end (map pass_of (drop i ps))
+  pass_meets_here P met = subst (λ (l : List Pass). PassMeets P end (map pass_of l)) (sym (drop_more ps i d lt)) (inl met)
+
+  -- and behind it, when that one was set
+  pub pass_meets_on : (P : RecordContent → Type 0) (x : Pass) → PassMeets P end (map pass_of (drop (i + 1) (set ps i x))) → PassMeets P end (map pass_of (drop i ps))
+  pass_meets_on P x met =
+      let rest = subst (λ (l : List Pass). PassMeets P end (map pass_of l)) (drop-set-lt (i + 1) ps i x (omega arith)) met in
+      subst (λ (l : List Pass). PassMeets P end (map pass_of l)) (sym (drop_more ps i d lt)) (inr rest)
+
+  -- it isn't bad: what is bad lies behind it
+  pub bad_pass_on : (x : Pass) → (MeetsBadBlob sum blobs (before_open end (get_or ps i d).scan.met.items) → ⊥) → MeetsBadPass sum blobs end (map pass_of (drop i ps))
+      → MeetsBadPass sum blobs end (map pass_of (drop (i + 1) (set ps i x)))
+  bad_pass_on x fine bad = subst (λ (l : List Pass). MeetsBadPass sum blobs end (map pass_of l)) (sym (drop-set-lt (i + 1) ps i x (omega arith)))
+      (elim (subst (λ (l : List Pass). MeetsBadPass sum blobs end (map pass_of l)) (drop_more ps i d lt) bad) [
+        | inl here ↦ absurd (fine here)
+        | inr later ↦ later
+      ])
 
   pub passes_on : (x : Pass) → pass_of x ≡ R (pass_of (get_or ps i d))
       → map pass_of (take (i + 1) (set ps i x)) ++ map R (map pass_of (drop (i + 1) (set ps i x))) ≡ map pass_of (take i ps) ++ map R (map pass_of (drop i ps))
@@ -136,7 +145,7 @@ module _ (size : ℕ) (blobs : ℤ → Option (List ℕ)) (end : ℕ) where
 
 -- blobs that pass at one moment pass at another one between which the device was only read
 pub still_fine : (sum : List ℕ → ℕ) (ms : List ScannedRecord) (t u : Trace) → t ≡ u → (MeetsBadBlob sum (state_of t).blobs.file ms → ⊥) → MeetsBadBlob sum (state_of u).blobs.file ms → ⊥
-still_fine sum ms t u same fine bad = fine (bad_still sum ms ms u t refl (sym same) bad)
+still_fine sum ms t u same fine bad = fine (met_still (HasBadBlob sum) ms ms u t refl (sym same) bad)
 
 -- one more segment of the tail has blobs that pass
 pub good_more : (sum : List ℕ → ℕ) (blobs : ℤ → Option (List ℕ)) (before : List Scanned) (x : Scanned) → HaveGoodBlobs sum blobs before → (MeetsBadBlob sum blobs x.met → ⊥) → HaveGoodBlobs sum blobs (before ++ x ∷ [])

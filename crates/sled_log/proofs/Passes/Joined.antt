@@ -1,13 +1,15 @@
 -- The pass over segments and then over the tail behind them: what is met in both, up to the first batch that is open.
 use Rattle.std.proofs.Common.{◌≡◌, ◌⊎◌, ◌∙◌, ◌≤◌, ℕ, ℤ, Bool, true, false, nat_lt, List, [], ◌∷◌, ◌++◌, length, map, drop, append_assoc, Option, Some, None, is_some, if◌then◌else◌, refl, sym, ap, subst, arith, inl, inr}
 use Rattle.std.proofs.lemmas.List.{length-map, map-append}
+use Rattle.sled_codec.specs.declared.result.DiskPtr.{DiskPtr}
 use Rattle.sled_codec.specs.Snapshots.{SnapshotModel}
+use Rattle.sled_core.specs.declared.iterator.scan.RecordContent.{RecordContent}
 use Rattle.sled_core.specs.declared.iterator.Segment.{Segment}
 use Rattle.sled_store.proofs.Segments.Elements.{in_first, in_rest}
-use Rattle.sled_log.specs.Recovery.{Scanned, Outcome, Damaged, AreScanned, AreReplayed, StopsOrGoesOn, Passes, MeetsBadBlob, HaveGoodBlobs, before_open, begun_below, open_at, outcome_of, resolved_scan, slots_of}
-use Rattle.sled_log.specs.Passes.{AreLookedUp, AreResolved, IsBadPass, MeetsBadPass, OpensLast, up_to_open}
-use Rattle.sled_log.proofs.Passes.Blobs.{bad_of_all, bad_to_all, opens_last}
-use Rattle.sled_log.proofs.Replay.BlobLemmas.{bad_before, open_resolved}
+use Rattle.sled_log.specs.Recovery.{Scanned, Outcome, Damaged, AreScanned, AreReplayed, StopsOrGoesOn, Passes, HasBadBlob, HasDamage, MeetsOne, HaveGoodBlobs, before_open, begun_below, open_at, outcome_of, resolved_scan, slots_of}
+use Rattle.sled_log.specs.Passes.{AreLookedUp, AreResolved, IsBadPass, MeetsBadPass, OpensLast, PassMeets, up_to_open}
+use Rattle.sled_log.proofs.Passes.Blobs.{met_of_all, met_to_all, opens_last}
+use Rattle.sled_log.proofs.Replay.BlobLemmas.{met_before, open_resolved}
 use Rattle.sled_log.proofs.Replay.PassedLemmas.{whole_passed}
 
 -- What is read of two lists of segments, one behind the other.
@@ -62,24 +64,25 @@ begun_append end (s ∷ ss) ts = by (nat_lt s.place end) (begun_append end ss ts
   by false is = is
 
 -- Their blobs.
-module _ (sum : List ℕ → ℕ) (blobs : ℤ → Option (List ℕ)) (end : ℕ) where
-  bad_joined : (xs ys : List Scanned) → OpensLast end xs → MeetsBadPass sum blobs end xs → MeetsBadPass sum blobs end (up_to_open end (xs ++ ys))
-  bad_joined [] ys last bad = absurd bad
-  bad_joined (x ∷ xs) ys last bad = by (open_at end x.met) last bad (bad_joined xs ys) where
-    by : (o : Option ℕ) → StopsOrGoesOn o xs (OpensLast end xs) → MeetsBadBlob sum blobs (before_open end x.met) ⊎ MeetsBadPass sum blobs end xs
-        → (OpensLast end xs → MeetsBadPass sum blobs end xs → MeetsBadPass sum blobs end (up_to_open end (xs ++ ys))) → MeetsBadPass sum blobs end (if is_some o then x ∷ [] else x ∷ up_to_open end (xs ++ ys))
+module _ (P : RecordContent → Type 0) (end : ℕ) where
+  met_joined : (xs ys : List Scanned) → OpensLast end xs → PassMeets P end xs → PassMeets P end (up_to_open end (xs ++ ys))
+  met_joined [] ys last met = absurd met
+  met_joined (x ∷ xs) ys last met = by (open_at end x.met) last met (met_joined xs ys) where
+    by : (o : Option ℕ) → StopsOrGoesOn o xs (OpensLast end xs) → MeetsOne P (before_open end x.met) ⊎ PassMeets P end xs
+        → (OpensLast end xs → PassMeets P end xs → PassMeets P end (up_to_open end (xs ++ ys))) → PassMeets P end (if is_some o then x ∷ [] else x ∷ up_to_open end (xs ++ ys))
     by (Some p) on (inl here) others = inl here
-    by (Some p) on (inr later) others = absurd (subst (MeetsBadPass sum blobs end) on later)
+    by (Some p) on (inr later) others = absurd (subst (PassMeets P end) on later)
     by None on (inl here) others = inl here
     by None on (inr later) others = inr (others on later)
 
+module _ (sum : List ℕ → ℕ) (blobs : ℤ → Option (List ℕ)) (end : ℕ) where
   fine_behind : (ys : List Scanned) → HaveGoodBlobs sum blobs ys → MeetsBadPass sum blobs end (up_to_open end ys) → ⊥
   fine_behind [] good bad = bad
   fine_behind (y ∷ ys) good bad = by (open_at end y.met) bad (fine_behind ys (λ s there. good s (in_rest y s ys there))) where
     by : (o : Option ℕ) → MeetsBadPass sum blobs end (if is_some o then y ∷ [] else y ∷ up_to_open end ys) → (MeetsBadPass sum blobs end (up_to_open end ys) → ⊥) → ⊥
-    by (Some p) (inl here) others = good y (in_first y ys) (bad_before sum blobs end y.met here)
+    by (Some p) (inl here) others = good y (in_first y ys) (met_before (HasBadBlob sum blobs) end y.met here)
     by (Some p) (inr later) others = later
-    by None (inl here) others = good y (in_first y ys) (bad_before sum blobs end y.met here)
+    by None (inl here) others = good y (in_first y ys) (met_before (HasBadBlob sum blobs) end y.met here)
     by None (inr later) others = others later
 
   fine_joined : (xs ys : List Scanned) → (MeetsBadPass sum blobs end xs → ⊥) → HaveGoodBlobs sum blobs ys → MeetsBadPass sum blobs end (up_to_open end (xs ++ ys)) → ⊥
@@ -120,24 +123,27 @@ module _ (sum : List ℕ → ℕ) (size : ℕ) (log : List ℕ) (blobs : ℤ →
         ∙ up_to_resolved sum blobs end (one.scanned ++ two.scanned);
   }
 
-  pub bad_on : (ss ts : List Segment) (qs : List Scanned) → IsBadPass sum size log blobs end ss → AreLookedUp sum size log blobs end ts qs → IsBadPass sum size log blobs end (ss ++ ts)
-  bad_on ss ts qs (inl damaged) two = inl (record {
-    first = damaged.first;
-    segment = damaged.segment;
-    rest = damaged.rest ++ ts;
-    is = ap (λ (l : List Segment). l ++ ts) damaged.is ∙ append_assoc damaged.first (damaged.segment ∷ damaged.rest) ts;
-    before = damaged.before;
-    scanned = damaged.scanned;
-    closed = damaged.closed;
-    met = damaged.met;
-    next = damaged.next;
-    path = damaged.path;
-    not_open = damaged.not_open;
-    room = damaged.room;
-    damaged = damaged.damaged;
-  })
-  bad_on ss ts qs (inr (xs, are, bad)) two =
-      inr (up_to_open end (xs ++ two.scanned), replayed_on sum size log end ss ts xs two.scanned are two.are, bad_joined sum blobs end xs two.scanned (opens_last sum size log end ss xs are) bad)
+  pub bad_on : (ss ts : List Segment) (qs : List Scanned) (at : Option DiskPtr) → IsBadPass sum size log blobs end ss at → AreLookedUp sum size log blobs end ts qs → IsBadPass sum size log blobs end (ss ++ ts) at
+  bad_on ss ts qs at (inl (none, damaged)) two = inl (
+    none,
+    record {
+      first = damaged.first;
+      segment = damaged.segment;
+      rest = damaged.rest ++ ts;
+      is = ap (λ (l : List Segment). l ++ ts) damaged.is ∙ append_assoc damaged.first (damaged.segment ∷ damaged.rest) ts;
+      before = damaged.before;
+      scanned = damaged.scanned;
+      closed = damaged.closed;
+      met = damaged.met;
+      next = damaged.next;
+      path = damaged.path;
+      not_open = damaged.not_open;
+      room = damaged.room;
+      damaged = damaged.damaged;
+    },
+  )
+  bad_on ss ts qs at (inr (xs, are, bad)) two =
+      inr (up_to_open end (xs ++ two.scanned), replayed_on sum size log end ss ts xs two.scanned are two.are, met_joined (HasDamage sum blobs at) end xs two.scanned (opens_last sum size log end ss xs are) bad)
 
   module _ (first : SnapshotModel) (ordering : List Segment) where
     -- what comes of segments with their blobs
@@ -148,16 +154,16 @@ module _ (sum : List ℕ → ℕ) (size : ℕ) (log : List ℕ) (blobs : ℤ →
           are.scanned,
           are.replayed,
           inr (
-            λ bad. are.fine (bad_of_all sum blobs end are.scanned (opens_last sum size log end (begun_below end ordering) are.scanned are.replayed) bad),
+            λ bad. are.fine (met_of_all (HasBadBlob sum blobs) end are.scanned (opens_last sum size log end (begun_below end ordering) are.scanned are.replayed) bad),
             sym comes ∙ ap (λ (l : List Scanned). outcome_of size first end l (slots_of (drop (length ps) ordering))) are.is
                 ∙ ap (λ n. outcome_of size first end (map R are.scanned) (slots_of (drop n ordering))) long,
           ),
         )
 
     -- where one of them is damaged, or a blob doesn't pass
-    pub passes_damaged : IsBadPass sum size log blobs end (begun_below end ordering) → Passes sum size log blobs first ordering (Some end) Damaged
-    passes_damaged (inl damaged) = inl (refl, damaged)
-    passes_damaged (inr (xs, are, bad)) = inr (xs, are, inl (refl, bad_to_all sum blobs end xs (opens_last sum size log end (begun_below end ordering) xs are) bad))
+    pub passes_damaged : (at : Option DiskPtr) → IsBadPass sum size log blobs end (begun_below end ordering) at → Passes sum size log blobs first ordering (Some end) (Damaged at)
+    passes_damaged at (inl (none, damaged)) = inl (ap Damaged none, damaged)
+    passes_damaged at (inr (xs, are, bad)) = inr (xs, are, inl (at, refl, met_to_all (HasDamage sum blobs at) end xs (opens_last sum size log end (begun_below end ordering) xs are) bad))
 
   -- no more of them than there are
   pub resolved_length : (ordering : List Segment) (ps : List Scanned) → AreResolved sum size log blobs end (begun_below end ordering) ps → length ps ≤ length ordering

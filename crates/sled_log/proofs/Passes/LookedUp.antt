@@ -3,15 +3,16 @@ use Rattle.std.proofs.Common.{◌≡◌, ◌+◌, ◌<◌, ℕ, ℤ, List, [], �
 use Rattle.std.specs.List.{All, Contains}
 use Rattle.std.proofs.lemmas.List.{map-append, take_more}
 use Rattle.std.proofs.lemmas.List.Elements.{All-cons, All-head, All-nil, All-tail, Contains-get_or}
+use Rattle.sled_codec.specs.declared.result.DiskPtr.{DiskPtr}
 use Rattle.sled_store.specs.Device.{Trace, state_of}
 use Rattle.sled_store.proofs.Segments.Elements.{in_cases, in_first, in_map, in_nothing, in_rest}
 use Rattle.sled_core.specs.declared.iterator.Segment.{Segment}
 use Rattle.sled_core.specs.declared.iterator.scan.ScannedRecord.{ScannedRecord}
 use Rattle.sled_log.specs.declared.snapshot.pass.Pass.{Pass}
-use Rattle.sled_log.specs.Recovery.{Scanned, AreScanned, HaveGoodBlobs, MeetsBadBlob, NamesKind, before_open, resolved_before, resolved_scan}
-use Rattle.sled_log.specs.Passes.{HasKinds, MeetsBadPass, MeetsBadTail, pass_of}
+use Rattle.sled_log.specs.Recovery.{Scanned, AreScanned, HaveGoodBlobs, HasDamage, MeetsBadBlob, NamesBadBlob, NamesKind, before_open, resolved_before, resolved_scan}
+use Rattle.sled_log.specs.Passes.{HasKinds, MeetsBadPass, NamesBadPass, NamesBadTail, pass_of}
 use Rattle.sled_log.proofs.Passes.Blobs.{good_more}
-use Rattle.sled_log.proofs.Replay.BlobLemmas.{bad_before, bad_either, bad_left}
+use Rattle.sled_log.proofs.Replay.BlobLemmas.{met_before, bad_either, bad_left}
 use Rattle.sled_core.proofs.Iterates.Kinds.{scan_kinds}
 use Rattle.sled_log.proofs.Replay.LookLemmas.{kinds_with_blobs}
 
@@ -31,17 +32,17 @@ module _ (sum : List ℕ → ℕ) (blobs : ℤ → Option (List ℕ)) (end : ℕ
   ]
 
   -- what is bad up to such a batch
-  pub bad_in_pass : (ss : List Scanned) → MeetsBadPass sum blobs end ss → MeetsBadTail sum blobs ss
-  bad_in_pass [] bad = absurd bad
-  bad_in_pass (s ∷ ss) (inl here) = (s, in_first s ss, bad_before sum blobs end s.met here)
-  bad_in_pass (s ∷ ss) (inr later) = let rest = bad_in_pass ss later in (rest.0, in_rest s rest.0 ss rest.1, rest.2)
+  pub bad_in_pass : (at : Option DiskPtr) (ss : List Scanned) → NamesBadPass sum blobs end ss at → NamesBadTail sum blobs ss at
+  bad_in_pass at [] bad = absurd bad
+  bad_in_pass at (s ∷ ss) (inl here) = (s, in_first s ss, met_before (HasDamage sum blobs at) end s.met here)
+  bad_in_pass at (s ∷ ss) (inr later) = let rest = bad_in_pass at ss later in (rest.0, in_rest s rest.0 ss rest.1, rest.2)
 
   -- and what is with those blobs
-  pub bad_in_looked : (ss : List Scanned) → MeetsBadTail sum blobs (map (resolved_scan blobs end) ss) → MeetsBadTail sum blobs ss
-  bad_in_looked [] bad = absurd (in_nothing bad.0 bad.1)
-  bad_in_looked (s ∷ ss) bad = elim (in_cases (resolved_scan blobs end s) bad.0 (map (resolved_scan blobs end) ss) bad.1) [
-    | inl same ↦ (s, in_first s ss, bad_left sum blobs end s.met (subst (λ (x : Scanned). MeetsBadBlob sum blobs x.met) (sym same) bad.2))
-    | inr later ↦ let rest = bad_in_looked ss (bad.0, later, bad.2) in (rest.0, in_rest s rest.0 ss rest.1, rest.2)
+  pub bad_in_looked : (at : Option DiskPtr) (ss : List Scanned) → NamesBadTail sum blobs (map (resolved_scan blobs end) ss) at → NamesBadTail sum blobs ss at
+  bad_in_looked at [] bad = absurd (in_nothing bad.0 bad.1)
+  bad_in_looked at (s ∷ ss) bad = elim (in_cases (resolved_scan blobs end s) bad.0 (map (resolved_scan blobs end) ss) bad.1) [
+    | inl same ↦ (s, in_first s ss, bad_left sum blobs end at s.met (subst (λ (x : Scanned). NamesBadBlob sum blobs x.met at) (sym same) bad.2))
+    | inr later ↦ let rest = bad_in_looked at ss (bad.0, later, bad.2) in (rest.0, in_rest s rest.0 ss rest.1, rest.2)
   ]
 
   -- kinds stay known
@@ -63,11 +64,12 @@ good_next sum t u ps i d lt same fine good =
     subst (HaveGoodBlobs sum (state_of u).blobs.file) (sym more) (good_more sum (state_of u).blobs.file (map pass_of (take i ps)) (pass_of (get_or ps i d)) good still)
 
 -- a segment whose blobs are bad
-pub bad_here : (sum : List ℕ → ℕ) (t u : Trace) (ps : List Pass) (i : ℕ) (d : Pass) → i < length ps → t ≡ u → MeetsBadBlob sum (state_of t).blobs.file (get_or ps i d).scan.met.items → MeetsBadTail sum (state_of u).blobs.file (map pass_of ps)
-bad_here sum t u ps i d lt same bad = (
+pub bad_here : (sum : List ℕ → ℕ) (t u : Trace) (ps : List Pass) (i : ℕ) (d : Pass) (at : Option DiskPtr) → i < length ps → t ≡ u → NamesBadBlob sum (state_of t).blobs.file (get_or ps i d).scan.met.items at
+    → NamesBadTail sum (state_of u).blobs.file (map pass_of ps) at
+bad_here sum t u ps i d at lt same bad = (
   pass_of (get_or ps i d),
   in_map pass_of ps (get_or ps i d) (Contains-get_or ps i d lt),
-  subst (λ (x : Trace). MeetsBadBlob sum (state_of x).blobs.file (get_or ps i d).scan.met.items) same bad,
+  subst (λ (x : Trace). NamesBadBlob sum (state_of x).blobs.file (get_or ps i d).scan.met.items at) same bad,
 )
 
 -- what was read to the end is of kinds that are known

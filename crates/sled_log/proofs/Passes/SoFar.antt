@@ -2,14 +2,16 @@
 use Rattle.std.proofs.Common.{◌≡◌, ◌∙◌, ◌+◌, ◌<◌, ◌≤◌, ℕ, ℤ, Bool, true, false, nat_lt, List, [], ◌∷◌, ◌++◌, length, map, drop, get_or, append_assoc, Option, Some, None, Err, IfSome, is_some, if◌then◌else◌, refl, sym, ap, subst, arith, inl, inr}
 use Rattle.std.proofs.lemmas.Bool.Decides.{nat_tests}
 use Rattle.std.proofs.lemmas.List.{append-nil, drop_all, map-append}
+use Rattle.sled_codec.specs.declared.result.DiskPtr.{DiskPtr}
 use Rattle.sled_codec.specs.declared.result.Error.{Error}
 use Rattle.sled_codec.specs.declared.result.Error.TheVariants.{Corruption, Unsupported, Io, OutOfMemory, Held, NotReserved, PlacesUsedUp, CollectionNotFound, ReportableBug}
 use Rattle.sled_codec.specs.Snapshots.{SnapshotModel}
-use Rattle.sled_store.specs.Blobs.{ItemAnswers}
+use Rattle.sled_store.specs.Blobs.{ItemAnswers, NamesDamage, OnDamage}
+use Rattle.sled_core.specs.declared.iterator.scan.RecordContent.{RecordContent}
 use Rattle.sled_core.specs.declared.iterator.Segment.{Segment}
 use Rattle.sled_log.specs.declared.snapshot.pass.Replay.{Replay}
-use Rattle.sled_log.specs.Recovery.{AreClosed, AreReplayed, AreScanned, IsDamagedPass, IsReplayed, Scanned, before_open, begun_below, open_at, resolved_scan, MeetsBadBlob}
-use Rattle.sled_log.specs.Passes.{GoesOnBehind, HasMade, IsBadPass, IsDamagedBefore, IsOfBlob, IsReplay, IsSoFar, MeetsBadPass, up_to_open}
+use Rattle.sled_log.specs.Recovery.{AreClosed, AreReplayed, AreScanned, IsDamagedPass, IsReplayed, Scanned, before_open, begun_below, open_at, resolved_scan, HasDamage, MeetsBadBlob, MeetsOne, NamesBadBlob}
+use Rattle.sled_log.specs.Passes.{GoesOnBehind, HasMade, IsBadPass, IsDamagedBefore, IsOfBlob, IsReplay, IsSoFar, MeetsBadPass, NamesBadPass, PassMeets, up_to_open}
 use Rattle.sled_log.proofs.Passes.Behind.{behind}
 use Rattle.sled_log.proofs.Passes.Replays.{made_open, up_to_here}
 use Rattle.sled_log.proofs.Passes.TailRead.{scanned_more}
@@ -30,16 +32,29 @@ begun_not_here end ss i d lt above =
     ap (begun_below end) (behind ss i d lt) ∙ ap (λ (b : Bool). if b then s ∷ begun_below end (drop (i + 1) ss) else begun_below end (drop (i + 1) ss)) is
 
 -- Blobs that don't pass, in one more segment.
-module _ (sum : List ℕ → ℕ) (blobs : ℤ → Option (List ℕ)) (end : ℕ) where
-  pub meets_before : (xs ys : List Scanned) → MeetsBadPass sum blobs end xs → MeetsBadPass sum blobs end (xs ++ ys)
+module _ (P : RecordContent → Type 0) (end : ℕ) where
+  pub meets_before : (xs ys : List Scanned) → PassMeets P end xs → PassMeets P end (xs ++ ys)
   meets_before [] ys meets = absurd meets
   meets_before (x ∷ xs) ys (inl here) = inl here
   meets_before (x ∷ xs) ys (inr later) = inr (meets_before xs ys later)
 
-  pub meets_last : (xs : List Scanned) (x : Scanned) → MeetsBadBlob sum blobs (before_open end x.met) → MeetsBadPass sum blobs end (xs ++ x ∷ [])
+  pub meets_last : (xs : List Scanned) (x : Scanned) → MeetsOne P (before_open end x.met) → PassMeets P end (xs ++ x ∷ [])
   meets_last [] x bad = inl bad
   meets_last (y ∷ xs) x bad = inr (meets_last xs x bad)
 
+-- the error of a blob, where more is known of what it names
+of_blob_as : (sum : List ℕ → ℕ) (blobs : ℤ → Option (List ℕ)) (P Q : Option DiskPtr → Type 0) (e : Error) → ((at : Option DiskPtr) → P at → Q at) → IsOfBlob sum blobs P e → IsOfBlob sum blobs Q e
+of_blob_as sum blobs P Q (Corruption at) so names = (names.0, so at names.1)
+of_blob_as sum blobs P Q (Unsupported text) so names = absurd names
+of_blob_as sum blobs P Q (Io io) so names = absurd names
+of_blob_as sum blobs P Q OutOfMemory so names = absurd names
+of_blob_as sum blobs P Q (Held place) so names = absurd names
+of_blob_as sum blobs P Q (NotReserved place) so names = absurd names
+of_blob_as sum blobs P Q PlacesUsedUp so names = absurd names
+of_blob_as sum blobs P Q (CollectionNotFound name) so names = absurd names
+of_blob_as sum blobs P Q (ReportableBug text) so names = absurd names
+
+module _ (sum : List ℕ → ℕ) (blobs : ℤ → Option (List ℕ)) (end : ℕ) where
   pub meets_none : (xs : List Scanned) (x : Scanned) → (MeetsBadPass sum blobs end xs → ⊥) → (MeetsBadBlob sum blobs (before_open end x.met) → ⊥) → MeetsBadPass sum blobs end (xs ++ x ∷ []) → ⊥
   meets_none [] x fine own (inl here) = own here
   meets_none [] x fine own (inr later) = later
@@ -49,11 +64,15 @@ module _ (sum : List ℕ → ℕ) (blobs : ℤ → Option (List ℕ)) (end : ℕ
   -- what was bad stays so
   pub so_far_bad : (first : SnapshotModel) (xs : List Scanned) (x : Scanned) (bad : Option Error) (r : Replay) → is_some bad ≡ true → IsSoFar sum blobs end first xs bad r → IsSoFar sum blobs end first (xs ++ x ∷ []) bad r
   so_far_bad first xs x None r some so = absurd (cc)
-  so_far_bad first xs x (Some e) r some so = record { meets = (so.meets.0, meets_before xs (x ∷ []) so.meets.1); fine = tt }
+  so_far_bad first xs x (Some e) r some so = record {
+    meets = of_blob_as sum blobs (NamesBadPass sum blobs end xs) (NamesBadPass sum blobs end (xs ++ x ∷ [])) e (λ at. meets_before (HasDamage sum blobs at) end xs (x ∷ [])) so.meets;
+    fine = tt;
+  }
 
   -- a blob that doesn't pass is met
-  pub so_far_meets : (first : SnapshotModel) (xs : List Scanned) (x : Scanned) (e : Error) (r : Replay) → IsOfBlob sum blobs e → MeetsBadBlob sum blobs (before_open end x.met) → IsSoFar sum blobs end first (xs ++ x ∷ []) (Some e) r
-  so_far_meets first xs x e r names bad = record { meets = (names, meets_last xs x bad); fine = tt }
+  pub so_far_meets : (first : SnapshotModel) (xs : List Scanned) (x : Scanned) (at : Option DiskPtr) (r : Replay) → NamesDamage sum blobs at → NamesBadBlob sum blobs (before_open end x.met) at
+      → IsSoFar sum blobs end first (xs ++ x ∷ []) (Some (Corruption at)) r
+  so_far_meets first xs x at r names bad = record { meets = (names, meets_last (HasDamage sum blobs at) end xs x bad); fine = tt }
 
   -- all of them pass
   pub so_far_fine : (first : SnapshotModel) (xs : List Scanned) (x : Scanned) (bad : Option Error) (r s : Replay) → is_some bad ≡ false → IsSoFar sum blobs end first xs bad r → (MeetsBadBlob sum blobs (before_open end x.met) → ⊥)
@@ -161,18 +180,30 @@ module _ (sum : List ℕ → ℕ) (size : ℕ) (log : List ℕ) (blobs : ℤ →
 -- A pass that met a blob which doesn't pass for its record.
 module _ (sum : List ℕ → ℕ) (blobs : ℤ → Option (List ℕ)) where
   pub replay_bad : (size : ℕ) (log : List ℕ) (end : ℕ) (first : SnapshotModel) (segments : List Segment) (bad : Option Error) (e : Error) (r : Replay) → bad ≡ Some e → IsReplay sum size log blobs end first segments bad r
-      → IsOfBlob sum blobs e × IsBadPass sum size log blobs end segments
+      → IsOfBlob sum blobs (IsBadPass sum size log blobs end segments) e
   replay_bad size log end first segments bad e r is all =
-      let meets = subst (λ (o : Option Error). IfSome o (λ x. IsOfBlob sum blobs x × MeetsBadPass sum blobs end all.passes)) is all.so_far.meets in
-      (meets.0, inr (all.passes, all.replayed, meets.1))
+      let meets = subst (λ (o : Option Error). IfSome o (IsOfBlob sum blobs (NamesBadPass sum blobs end all.passes))) is all.so_far.meets in
+      of_blob_as sum blobs (NamesBadPass sum blobs end all.passes) (IsBadPass sum size log blobs end segments) e (λ at met. inr (all.passes, all.replayed, met)) meets
 
-  pub answers_of : (T : Type 0) (e : Error) (before after : ℕ) → IsOfBlob sum blobs e → after ≡ before → ItemAnswers {T = T} sum blobs (Err e) before after
-  answers_of T (Corruption at) before after names same = (same, names)
-  answers_of T (Unsupported text) before after names same = absurd names
-  answers_of T (Io io) before after names same = absurd names
-  answers_of T OutOfMemory before after names same = absurd names
-  answers_of T (Held place) before after names same = absurd names
-  answers_of T (NotReserved place) before after names same = absurd names
-  answers_of T PlacesUsedUp before after names same = absurd names
-  answers_of T (CollectionNotFound name) before after names same = absurd names
-  answers_of T (ReportableBug text) before after names same = absurd names
+  -- what damage names then
+  pub damage_of : (T : Type 0) (names : Option DiskPtr → Type 0) (e : Error) → IsOfBlob sum blobs names e → OnDamage {T = T} (Err e) names
+  damage_of T names (Corruption at) is = is.1
+  damage_of T names (Unsupported text) is = tt
+  damage_of T names (Io io) is = tt
+  damage_of T names OutOfMemory is = tt
+  damage_of T names (Held place) is = tt
+  damage_of T names (NotReserved place) is = tt
+  damage_of T names PlacesUsedUp is = tt
+  damage_of T names (CollectionNotFound name) is = tt
+  damage_of T names (ReportableBug text) is = tt
+
+  pub answers_of : (T : Type 0) (may : Option DiskPtr → Type 0) (e : Error) (before after : ℕ) → IsOfBlob sum blobs may e → after ≡ before → ItemAnswers {T = T} sum blobs (Err e) before after
+  answers_of T may (Corruption at) before after names same = (same, names.0)
+  answers_of T may (Unsupported text) before after names same = absurd names
+  answers_of T may (Io io) before after names same = absurd names
+  answers_of T may OutOfMemory before after names same = absurd names
+  answers_of T may (Held place) before after names same = absurd names
+  answers_of T may (NotReserved place) before after names same = absurd names
+  answers_of T may PlacesUsedUp before after names same = absurd names
+  answers_of T may (CollectionNotFound name) before after names same = absurd names
+  answers_of T may (ReportableBug text) before after names same = absurd names

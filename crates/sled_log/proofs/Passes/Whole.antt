@@ -3,6 +3,7 @@ use Rattle.std.proofs.Common.{◌≡◌, ◌∙◌, ◌+◌, ◌≤◌, ℕ, ℤ
 use Rattle.std.specs.List.{All}
 use Rattle.std.proofs.lemmas.List.{length-map}
 use Rattle.std.proofs.lemmas.List.Elements.{All-same}
+use Rattle.sled_codec.specs.declared.result.DiskPtr.{DiskPtr}
 use Rattle.sled_codec.specs.Snapshots.{SnapshotModel}
 use Rattle.sled_core.specs.declared.iterator.Segment.{Segment}
 use Rattle.sled_store.specs.declared.config.Config.{Config}
@@ -27,8 +28,9 @@ module _ (sum : List ℕ → ℕ) (size : ℕ) (log : List ℕ) (blobs : ℤ →
   joined_all n ps qs all one two is =
       subst (λ (l : List Segment). AreResolved sum size log blobs end l all) (sym (begun_split end n ss)) (joined sum size log blobs end (begun_below end (take n ss)) (begun_below end (drop n ss)) ps qs all one two is)
 
-  pub bad_all : (n : ℕ) (qs : List Scanned) → IsBadPass sum size log blobs end (begun_below end (take n ss)) → AreLookedUp sum size log blobs end (begun_below end (drop n ss)) qs → IsBadPass sum size log blobs end (begun_below end ss)
-  bad_all n qs bad two = subst (IsBadPass sum size log blobs end) (sym (begun_split end n ss)) (bad_on sum size log blobs end (begun_below end (take n ss)) (begun_below end (drop n ss)) qs bad two)
+  pub bad_all : (n : ℕ) (qs : List Scanned) (at : Option DiskPtr) → IsBadPass sum size log blobs end (begun_below end (take n ss)) at → AreLookedUp sum size log blobs end (begun_below end (drop n ss)) qs → IsBadPass sum size log blobs end (begun_below end ss) at
+  bad_all n qs at bad two =
+      subst (λ (l : List Segment). IsBadPass sum size log blobs end l at) (sym (begun_split end n ss)) (bad_on sum size log blobs end (begun_below end (take n ss)) (begun_below end (drop n ss)) qs at bad two)
 
   -- the segments of a pass that met no blob which doesn't pass
   pub resolved_of : (first : SnapshotModel) (segments : List Segment) (r : Replay) (all : IsReplay sum size log blobs end first segments None r) → AreResolved sum size log blobs end segments (map (resolved_scan blobs end) all.passes)

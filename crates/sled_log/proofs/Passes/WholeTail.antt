@@ -3,12 +3,13 @@ use Rattle.std.proofs.Common.{◌≡◌, ◌≢◌, ◌%◌, ◌+◌, ◌<◌, �
 use Rattle.std.specs.List.{All, Contains}
 use Rattle.std.proofs.lemmas.List.{take-append-drop, take_all}
 use Rattle.std.proofs.lemmas.List.Elements.{All-contains, Contains-append_cases, Contains-append_left, Contains-append_right}
+use Rattle.sled_codec.specs.declared.result.DiskPtr.{DiskPtr}
 use Rattle.sled_core.specs.declared.iterator.Segment.{Segment}
 use Rattle.sled_core.specs.declared.iterator.scan.ScanEnd.{ScanEnd}
 use Rattle.sled_core.specs.declared.iterator.scan.ScanEnd.TheVariants.{Full, Capped, Broken}
 use Rattle.sled_store.proofs.Segments.Elements.{in_cases, in_nothing, all_from_in}
 use Rattle.sled_log.specs.Recovery.{Scanned, IsScanned, IsOrdering, IsTail, IsTailPart, IsDamagedTail, GoesOn, HaveGoodBlobs, tail_end}
-use Rattle.sled_log.specs.Passes.{MeetsBadTail}
+use Rattle.sled_log.specs.Passes.{NamesBadTail}
 
 -- those from an index on are among all
 pub in_dropped : (n : ℕ) (ss : List Segment) (s : Segment) → Contains (drop n ss) s → Contains ss s
@@ -65,8 +66,8 @@ module _ (sum : List ℕ → ℕ) (size : ℕ) (log : List ℕ) where
   part_of_all n ss place [] next part = part
   part_of_all n ss place (x ∷ xs) next part = (in_dropped n ss x.segment part.0, part.1, part.2, part.3, part_of_all n ss (place + size) xs next part.4)
 
-  pub damaged_of_all : (blobs : ℤ → Option (List ℕ)) (n : ℕ) (ss : List Segment) (place : ℕ) → IsDamagedTail sum size log blobs (drop n ss) place → IsDamagedTail sum size log blobs ss place
-  damaged_of_all blobs n ss place bad = record {
+  pub damaged_of_all : (blobs : ℤ → Option (List ℕ)) (n : ℕ) (ss : List Segment) (place : ℕ) (name : Option DiskPtr) → IsDamagedTail sum size log blobs (drop n ss) place name → IsDamagedTail sum size log blobs ss place name
+  damaged_of_all blobs n ss place name bad = record {
     before = bad.before;
     next = bad.next;
     part = part_of_all n ss place bad.before bad.next bad.part;
@@ -98,9 +99,9 @@ module _ (sum : List ℕ → ℕ) (size : ℕ) (log : List ℕ) where
           (x ∷ rest.0, rest.1, (tail.0, tail.1, tail.2, goes.0, rest.2), rest.3, rest.4, rest.5)
     ]
 
-    pub damaged_blob : (place : ℕ) (xs : List Scanned) → IsTail sum size log ss place xs → MeetsBadTail sum blobs xs → IsDamagedTail sum size log blobs ss place
+    pub damaged_blob : (place : ℕ) (xs : List Scanned) (name : Option DiskPtr) → IsTail sum size log ss place xs → NamesBadTail sum blobs xs name → IsDamagedTail sum size log blobs ss place name
     unfolding LeadsTo
-    damaged_blob place xs tail bad =
+    damaged_blob place xs name tail bad =
         let led = leads_to place xs tail bad.0 bad.1 in
         record {
           before = led.0;

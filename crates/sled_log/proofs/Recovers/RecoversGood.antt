@@ -131,7 +131,7 @@ module _ (sum : List ℕ → ℕ) (size : ℕ) (content : Content) (H : History)
 
 -- outcomes that are one give one result
 result_in : RecoveryResult → Outcome → RecoveryResult
-result_in x Damaged = x
+result_in x (Damaged at) = x
 result_in x (Recovered y) = y
 
 pub one_result : (x y : RecoveryResult) → Recovered x ≡ Recovered y → x ≡ y
@@ -160,10 +160,10 @@ module _ (sum : List ℕ → ℕ) (size : ℕ) (content : Content) (H : History)
   comes : (o : Outcome) → Recovers sum size content o → (x : RecoveryResult) × (o ≡ Recovered x) × (stable_place x.model.stable ≡ can.cut.0) × IsGood sum size content H A f x.model
   comes = recovers_good sum size content H A f some can.orderly can.first can.cut can.snapshots can.log can.blobs
 
-  pub read_undamaged : Recovers sum size content Damaged → ⊥
-  read_undamaged recovers =
-      let came = comes Damaged recovers in
-      let no : Damaged ≡ Recovered came.0 = came.1 in
+  pub read_undamaged : (at : Option DiskPtr) → Recovers sum size content (Damaged at) → ⊥
+  read_undamaged at recovers =
+      let came = comes (Damaged at) recovers in
+      let no : Damaged at ≡ Recovered came.0 = came.1 in
       cc
 
   pub read_good : (x : RecoveryResult) → Recovers sum size content (Recovered x) → IsGood sum size content H A f x.model

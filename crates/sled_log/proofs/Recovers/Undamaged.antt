@@ -3,6 +3,7 @@ use Rattle.std.proofs.Common.{⊎_elim, ◌≡◌, ◌⊎◌, ◌∙◌, ℕ, �
 use Rattle.std.specs.List.{Contains}
 use Rattle.std.proofs.lemmas.List.Elements.{Contains-append_cases, Contains-append_right}
 use Rattle.sled_codec.specs.History.{History}
+use Rattle.sled_codec.specs.declared.result.DiskPtr.{DiskPtr}
 use Rattle.sled_codec.specs.Snapshots.{SnapshotModel, stable_place}
 use Rattle.sled_core.specs.declared.iterator.Segment.{Segment}
 use Rattle.sled_core.specs.declared.iterator.scan.ScannedRecord.{ScannedRecord}
@@ -69,10 +70,10 @@ module _ (sum : List ℕ → ℕ) (size : ℕ) (log : List ℕ) (blobs : ℤ →
   no_bad_in : (s : Scanned) → Contains is.scanned s → MeetsBadBlob sum blobs s.met → ⊥
   no_bad_in s there bad = none_bad bad.0 (is.truth s bad.0 there bad.1) bad.2
 
-  no_damaged_tail : IsDamagedTail sum size log blobs is.ordering (tail_begins size least is.ordering) → ⊥
-  no_damaged_tail damaged = elim damaged.damaged [
-    | inl here ↦ no_damage_in damaged.segment damaged.there here
-    | inr bad ↦ no_bad_in bad.0 (known bad.0 (subst (Contains is.ordering) (sym bad.1) damaged.there) bad.2) bad.3
+  no_damaged_tail : (name : Option DiskPtr) → IsDamagedTail sum size log blobs is.ordering (tail_begins size least is.ordering) name → ⊥
+  no_damaged_tail name damaged = elim damaged.damaged [
+    | inl here ↦ no_damage_in damaged.segment damaged.there here.1
+    | inr bad ↦ no_bad_in bad.0 (known bad.0 (subst (Contains is.ordering) (sym bad.1) damaged.there) bad.2) (bad.3.0, bad.3.1, bad.3.2.0)
   ]
 
   -- The segments that begin below the end of the tail.
@@ -137,13 +138,13 @@ module _ (sum : List ℕ → ℕ) (size : ℕ) (log : List ℕ) (blobs : ℤ →
   over end ends passes replayed o result =
       by (scanned_below end is.scanned) passes refl (same_pass sum size log end (begun_below end is.ordering) (scanned_below end is.scanned) passes (scans_below sum size log end is.ordering is.scanned is.reads) replayed) result where
         by : (xs ps : List Scanned) → scanned_below end is.scanned ≡ xs → IsSamePass end xs ps → PassesOver sum size blobs first end ps (left_of passes) o → Comes o
-        by [] [] below same (inl bad) = let there = bad.1 in absurd (in_nothing there.0 there.1)
+        by [] [] below same (inl bad) = let there = bad.2 in absurd (in_nothing there.0 there.1)
         by [] [] below same (inr fine) = inl (left_of passes, inr (end, ends, below), cut_at (Some end) ends ∙ ap (cut_over size first end) below, fine.1)
         by [] (p ∷ ps) below same result = absurd same
         by (x ∷ xs) [] below same result = absurd same
         by (x ∷ xs) (p ∷ ps) below same (inl bad) =
-            let there = bad.1 in
-            absurd (none_bad there.0 (passed_truth end x xs below there.0 (subst (λ (l : List ScannedRecord). Contains l there.0) same.0 there.1)) there.2)
+            let there = bad.2 in
+            absurd (none_bad there.0 (passed_truth end x xs below there.0 (subst (λ (l : List ScannedRecord). Contains l there.0) same.0 there.1)) there.2.0)
         by (x ∷ xs) (p ∷ ps) below same (inr fine) = inr (end, x, xs, passes, ends, below, replayed, comes_of end x p xs ps (left_of passes) o same fine.1)
 
   passes_come : (o : Outcome) (e : Option ℕ) → tail_end is.tail ≡ e → Passes sum size log blobs first is.ordering e o → Comes o
@@ -152,7 +153,7 @@ module _ (sum : List ℕ → ℕ) (size : ℕ) (log : List ℕ) (blobs : ℤ →
   passes_come o (Some end) ends (inr (passes, replayed, result)) = over end ends passes replayed o result
 
   replays_come : (o : Outcome) → Replays sum size log blobs first is.ordering (tail_begins size least is.ordering) o → Comes o
-  replays_come o (inl damaged) = absurd (no_damaged_tail damaged.1)
+  replays_come o (inl damaged) = absurd (no_damaged_tail damaged.0 damaged.2)
   replays_come o (inr (tail, is_tail, good, result)) =
       let same : tail ≡ is.tail = one_tail sum size log is.ordering rises (tail_begins size least is.ordering) tail is.tail is_tail is.is_tail in
       passes_come o (tail_end is.tail) refl (subst (λ (t : List Scanned). Passes sum size log blobs first is.ordering (tail_end t) o) same result)

@@ -1,13 +1,14 @@
 -- What the blobs of records change in what a pass meets: neither where it stops nor where its records lie.
 use Rattle.std.proofs.Common.{◌≡◌, ◌⊎◌, ◌∙◌, ◌≤◌, ℕ, ℤ, suc, Bool, true, false, if◌then◌else◌, List, [], ◌∷◌, ◌++◌, map, is_some, Option, Some, None, refl, sym, ap, subst, arith, inl, inr}
 use Rattle.sled_codec.specs.Kinds.{log_kind_of}
+use Rattle.sled_codec.specs.declared.result.DiskPtr.{DiskPtr}
 use Rattle.sled_codec.specs.declared.result.DiskPtr.TheVariants.{Blob}
 use Rattle.sled_store.proofs.Segments.Elements.{in_cases, in_nothing}
 use Rattle.sled_core.specs.declared.iterator.scan.ScannedRecord.{ScannedRecord}
 use Rattle.sled_core.specs.declared.iterator.scan.RecordContent.{RecordContent}
 use Rattle.sled_core.specs.declared.iterator.scan.RecordContent.TheVariants.{Gives, NamesBlob, Skipped, BatchStart}
 use Rattle.sled_core.proofs.Tail.Rows.{all_before_open}
-use Rattle.sled_log.specs.Recovery.{Scanned, opens, before_open, open_at, stops_in, passed_in, cut_of, HasBadBlob, MeetsBadBlob, with_blob, resolved, resolved_before, resolved_scan}
+use Rattle.sled_log.specs.Recovery.{Scanned, opens, before_open, open_at, stops_in, passed_in, cut_of, HasBadBlob, HasDamage, MeetsBadBlob, MeetsOne, NamesBadBlob, with_blob, resolved, resolved_before, resolved_scan}
 use Rattle.sled_log.proofs.Replay.LineLemmas.{LieBelow, IsLine, all_below}
 
 module _ (blobs : ℤ → Option (List ℕ)) (end : ℕ) where
@@ -81,20 +82,36 @@ module _ (blobs : ℤ → Option (List ℕ)) (end : ℕ) where
       subst (λ at. LieBelow (cut_of size at).0 (passed_in end (R s) (open_at end (R s).met) (map R ss))) (sym stops)
       (subst (LieBelow (cut_of size (stops_in end s (open_at end s.met) ss)).0) (sym passed) below)
 
--- Blobs that don't pass.
-module _ (sum : List ℕ → ℕ) (blobs : ℤ → Option (List ℕ)) where
-  pub bad_behind : (x : ScannedRecord) (ms : List ScannedRecord) → MeetsBadBlob sum blobs ms → MeetsBadBlob sum blobs (x ∷ ms)
-  bad_behind x ms bad = (bad.0, (suc bad.1.0, let below = bad.1.1 in omega (arith, below), bad.1.2), bad.2)
+-- What is met among records.
+module _ (P : RecordContent → Type 0) where
+  pub met_behind : (x : ScannedRecord) (ms : List ScannedRecord) → MeetsOne P ms → MeetsOne P (x ∷ ms)
+  met_behind x ms met = (met.0, (suc met.1.0, let below = met.1.1 in omega (arith, below), met.1.2), met.2)
 
-  pub bad_first : (x : ScannedRecord) (ms : List ScannedRecord) → HasBadBlob sum blobs x.what → MeetsBadBlob sum blobs (x ∷ ms)
-  bad_first x ms bad = (x, (0, omega arith, refl), bad)
+  pub met_first : (x : ScannedRecord) (ms : List ScannedRecord) → P x.what → MeetsOne P (x ∷ ms)
+  met_first x ms met = (x, (0, omega arith, refl), met)
 
   -- one of these, or one behind it
-  pub bad_cases : (x : ScannedRecord) (ms : List ScannedRecord) → MeetsBadBlob sum blobs (x ∷ ms) → HasBadBlob sum blobs x.what ⊎ MeetsBadBlob sum blobs ms
-  bad_cases x ms bad = elim (in_cases x bad.0 ms bad.1) [
-    | inl same ↦ inl (subst (λ (y : ScannedRecord). HasBadBlob sum blobs y.what) (sym same) bad.2)
-    | inr later ↦ inr (bad.0, later, bad.2)
+  pub met_cases : (x : ScannedRecord) (ms : List ScannedRecord) → MeetsOne P (x ∷ ms) → P x.what ⊎ MeetsOne P ms
+  met_cases x ms met = elim (in_cases x met.0 ms met.1) [
+    | inl same ↦ inl (subst (λ (y : ScannedRecord). P y.what) (sym same) met.2)
+    | inr later ↦ inr (met.0, later, met.2)
   ]
+
+  -- it is met before a batch that is open, so it is met
+  pub met_before : (end : ℕ) (ms : List ScannedRecord) → MeetsOne P (before_open end ms) → MeetsOne P ms
+  met_before end [] met = met
+  met_before end (m ∷ ms) met = by_test (opens end m.what) (met_before end ms) met where
+    by_test : (b : Bool) → (MeetsOne P (before_open end ms) → MeetsOne P ms) → MeetsOne P (if b then [] else m ∷ before_open end ms) → MeetsOne P (m ∷ ms)
+    by_test true rest met = absurd (in_nothing met.0 met.1)
+    by_test false rest met = elim (met_cases m (before_open end ms) met) [
+      | inl here ↦ met_first m ms here
+      | inr later ↦ met_behind m ms (rest later)
+    ]
+
+-- Blobs that don't pass.
+module _ (sum : List ℕ → ℕ) (blobs : ℤ → Option (List ℕ)) where
+  abbrev bad_of : RecordContent → Type 0
+  bad_of = HasBadBlob sum blobs
 
   -- where there are no blobs
   none_bad : ((n : ℤ) → blobs n ≡ None) → (what : RecordContent) → HasBadBlob sum blobs what → ⊥
@@ -121,32 +138,22 @@ module _ (sum : List ℕ → ℕ) (blobs : ℤ → Option (List ℕ)) where
       by_test : (b : Bool) → (MeetsBadBlob sum blobs ms → MeetsBadBlob sum blobs (before_open end ms) ⊎ MeetsBadBlob sum blobs (resolved_before blobs end ms))
           → MeetsBadBlob sum blobs (if b then [] else m ∷ before_open end ms) ⊎ MeetsBadBlob sum blobs (if b then m ∷ ms else resolved blobs m ∷ resolved_before blobs end ms)
       by_test true rest = inr bad
-      by_test false rest = elim (bad_cases m ms bad) [
-        | inl here ↦ inl (bad_first m (before_open end ms) here)
+      by_test false rest = elim (met_cases bad_of m ms bad) [
+        | inl here ↦ inl (met_first bad_of m (before_open end ms) here)
         | inr later ↦ elim (rest later) [
-          | inl before ↦ inl (bad_behind m (before_open end ms) before)
-          | inr left ↦ inr (bad_behind (resolved blobs m) (resolved_before blobs end ms) left)
+          | inl before ↦ inl (met_behind bad_of m (before_open end ms) before)
+          | inr left ↦ inr (met_behind bad_of (resolved blobs m) (resolved_before blobs end ms) left)
         ]
       ]
 
     -- and none is left that wasn't there
-    pub bad_left : (ms : List ScannedRecord) → MeetsBadBlob sum blobs (resolved_before blobs end ms) → MeetsBadBlob sum blobs ms
-    bad_left [] bad = bad
-    bad_left (m ∷ ms) bad = by_test (opens end m.what) (bad_left ms) bad where
-      by_test : (b : Bool) → (MeetsBadBlob sum blobs (resolved_before blobs end ms) → MeetsBadBlob sum blobs ms)
-          → MeetsBadBlob sum blobs (if b then m ∷ ms else resolved blobs m ∷ resolved_before blobs end ms) → MeetsBadBlob sum blobs (m ∷ ms)
+    pub bad_left : (at : Option DiskPtr) (ms : List ScannedRecord) → NamesBadBlob sum blobs (resolved_before blobs end ms) at → NamesBadBlob sum blobs ms at
+    bad_left at [] bad = bad
+    bad_left at (m ∷ ms) bad = by_test (opens end m.what) (bad_left at ms) bad where
+      by_test : (b : Bool) → (NamesBadBlob sum blobs (resolved_before blobs end ms) at → NamesBadBlob sum blobs ms at)
+          → NamesBadBlob sum blobs (if b then m ∷ ms else resolved blobs m ∷ resolved_before blobs end ms) at → NamesBadBlob sum blobs (m ∷ ms) at
       by_test true rest bad = bad
-      by_test false rest bad = elim (bad_cases (resolved blobs m) (resolved_before blobs end ms) bad) [
-        | inl here ↦ absurd (with_none_bad m.what here)
-        | inr later ↦ bad_behind m ms (rest later)
-      ]
-
-    pub bad_before : (ms : List ScannedRecord) → MeetsBadBlob sum blobs (before_open end ms) → MeetsBadBlob sum blobs ms
-    bad_before [] bad = bad
-    bad_before (m ∷ ms) bad = by_test (opens end m.what) (bad_before ms) bad where
-      by_test : (b : Bool) → (MeetsBadBlob sum blobs (before_open end ms) → MeetsBadBlob sum blobs ms) → MeetsBadBlob sum blobs (if b then [] else m ∷ before_open end ms) → MeetsBadBlob sum blobs (m ∷ ms)
-      by_test true rest bad = absurd (in_nothing bad.0 bad.1)
-      by_test false rest bad = elim (bad_cases m (before_open end ms) bad) [
-        | inl here ↦ bad_first m ms here
-        | inr later ↦ bad_behind m ms (rest later)
+      by_test false rest bad = elim (met_cases (HasDamage sum blobs at) (resolved blobs m) (resolved_before blobs end ms) bad) [
+        | inl here ↦ absurd (with_none_bad m.what here.0)
+        | inr later ↦ met_behind (HasDamage sum blobs at) m ms (rest later)
       ]

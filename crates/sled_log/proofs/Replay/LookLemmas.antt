@@ -11,8 +11,8 @@ use Rattle.sled_store.specs.Device.{Trace, state_of}
 use Rattle.sled_core.specs.declared.iterator.scan.ScannedRecord.{ScannedRecord}
 use Rattle.sled_core.specs.declared.iterator.scan.RecordContent.{RecordContent}
 use Rattle.sled_core.specs.declared.iterator.scan.RecordContent.TheVariants.{Gives, NamesBlob, Skipped, BatchStart}
-use Rattle.sled_log.specs.Recovery.{opens, before_open, NamesKind, HasBadBlob, MeetsBadBlob, with_blob, resolved, resolved_before}
-use Rattle.sled_log.proofs.Replay.BlobLemmas.{bad_behind, bad_first, bad_cases}
+use Rattle.sled_log.specs.Recovery.{opens, before_open, NamesKind, HasBadBlob, MeetsBadBlob, MeetsOne, with_blob, resolved, resolved_before}
+use Rattle.sled_log.proofs.Replay.BlobLemmas.{met_behind, met_first, met_cases}
 
 -- what code reads where no record stands
 abbrev pub no_record : ScannedRecord
@@ -28,16 +28,8 @@ all_on P ms i d x lt all =
     subst (All P) (sym (drop-set-lt (i + 1) ms i x (omega arith))) (All-tail P (get_or ms i d) (drop (i + 1) ms) (subst (All P) (drop_more ms i d lt) all))
 
 module _ (sum : List ℕ → ℕ) (blobs : ℤ → Option (List ℕ)) where
-  -- the first of those that are left is bad
-  pub bad_here : (ms : List ScannedRecord) (i : ℕ) (d : ScannedRecord) → i < length ms → HasBadBlob sum blobs (get_or ms i d).what → MeetsBadBlob sum blobs (drop i ms)
-  bad_here ms i d lt bad = subst (MeetsBadBlob sum blobs) (sym (drop_more ms i d lt)) (bad_first sum blobs (get_or ms i d) (drop (i + 1) ms) bad)
-
-  -- or one behind it
-  pub bad_more : (ms : List ScannedRecord) (i : ℕ) (d : ScannedRecord) → i < length ms → MeetsBadBlob sum blobs (drop (i + 1) ms) → MeetsBadBlob sum blobs (drop i ms)
-  bad_more ms i d lt bad = subst (MeetsBadBlob sum blobs) (sym (drop_more ms i d lt)) (bad_behind sum blobs (get_or ms i d) (drop (i + 1) ms) bad)
-
   other : (x : ScannedRecord) (ms : List ScannedRecord) → (HasBadBlob sum blobs x.what → ⊥) → MeetsBadBlob sum blobs (x ∷ ms) → MeetsBadBlob sum blobs ms
-  other x ms fine bad = elim (bad_cases sum blobs x ms bad) [
+  other x ms fine bad = elim (met_cases (HasBadBlob sum blobs) x ms bad) [
     | inl here ↦ absurd (fine here)
     | inr later ↦ later
   ]
@@ -56,20 +48,23 @@ module _ (sum : List ℕ → ℕ) (blobs : ℤ → Option (List ℕ)) where
         ap (resolved_before blobs end) (drop_more ms i d lt)
         ∙ ap (λ (b : Bool). if b then get_or ms i d ∷ drop (i + 1) ms else resolved blobs (get_or ms i d) ∷ resolved_before blobs end (drop (i + 1) ms)) shut
 
-    -- a bad one is met before a batch that is open
-    pub bad_before_here : HasBadBlob sum blobs (get_or ms i d).what → MeetsBadBlob sum blobs (before_open end (drop i ms))
-    bad_before_here bad = subst (MeetsBadBlob sum blobs) (sym before_more) (bad_first sum blobs (get_or ms i d) (before_open end (drop (i + 1) ms)) bad)
+    -- what is so of that one is met before a batch that is open
+    pub met_before_here : (P : RecordContent → Type 0) → P (get_or ms i d).what → MeetsOne P (before_open end (drop i ms))
+    met_before_here P met = subst (MeetsOne P) (sym before_more) (met_first P (get_or ms i d) (before_open end (drop (i + 1) ms)) met)
 
-    -- one that isn't bad was set: the others are bad as before
-    pub bad_on : (x : ScannedRecord) (all : List ScannedRecord) → (HasBadBlob sum blobs (get_or ms i d).what → ⊥) → (MeetsBadBlob sum blobs (before_open end (drop i ms)) ↔ MeetsBadBlob sum blobs all)
-        → MeetsBadBlob sum blobs (before_open end (drop (i + 1) (set ms i x))) ↔ MeetsBadBlob sum blobs all
-    bad_on x all fine both =
+    -- that one was set: what is met behind it was met
+    pub met_on : (P : RecordContent → Type 0) (x : ScannedRecord) → MeetsOne P (before_open end (drop (i + 1) (set ms i x))) → MeetsOne P (before_open end (drop i ms))
+    met_on P x met =
         let same = drop-set-lt (i + 1) ms i x (omega arith) in
         let rest : List ScannedRecord = before_open end (drop (i + 1) ms) in
-        subst (λ (l : List ScannedRecord). MeetsBadBlob sum blobs (before_open end l) ↔ MeetsBadBlob sum blobs all) (sym same) (
-          λ bad. both.0 (subst (MeetsBadBlob sum blobs) (sym before_more) (bad_behind sum blobs (get_or ms i d) rest bad)),
-          λ bad. other (get_or ms i d) rest fine (subst (MeetsBadBlob sum blobs) before_more (both.1 bad)),
-        )
+        subst (MeetsOne P) (sym before_more) (met_behind P (get_or ms i d) rest (subst (λ (l : List ScannedRecord). MeetsOne P (before_open end l)) same met))
+
+    -- it isn't bad: what is bad lies behind it
+    pub bad_on : (x : ScannedRecord) → (HasBadBlob sum blobs (get_or ms i d).what → ⊥) → MeetsBadBlob sum blobs (before_open end (drop i ms)) → MeetsBadBlob sum blobs (before_open end (drop (i + 1) (set ms i x)))
+    bad_on x fine bad =
+        let same = drop-set-lt (i + 1) ms i x (omega arith) in
+        let rest : List ScannedRecord = before_open end (drop (i + 1) ms) in
+        subst (λ (l : List ScannedRecord). MeetsBadBlob sum blobs (before_open end l)) (sym same) (other (get_or ms i d) rest fine (subst (MeetsBadBlob sum blobs) before_more bad))
 
     -- it was set to what it is with its blob
     pub resolved_on : (x : ScannedRecord) → x ≡ resolved blobs (get_or ms i d)
@@ -108,6 +103,6 @@ module _ (blobs : ℤ → Option (List ℕ)) where
 pub written : {X : Type 0} (n : ℕ) (ns rest : List X) → length ns ≡ n → take n (ns ++ rest) ≡ ns
 written n ns rest is = ap (λ k. take k (ns ++ rest)) (sym is) ∙ take-append_seam ns rest
 
--- what is bad among them is bad at another moment between which the device was only read
-pub bad_still : (sum : List ℕ → ℕ) (now items : List ScannedRecord) (t u : Trace) → now ≡ items → t ≡ u → MeetsBadBlob sum (state_of t).blobs.file now → MeetsBadBlob sum (state_of u).blobs.file items
-bad_still sum now items t u same read bad = subst (λ (x : Trace). MeetsBadBlob sum (state_of x).blobs.file items) read (subst (MeetsBadBlob sum (state_of t).blobs.file) same bad)
+-- what is met among them, by the blobs, is met at another moment between which the device was only read
+pub met_still : (P : (ℤ → Option (List ℕ)) → RecordContent → Type 0) (now items : List ScannedRecord) (t u : Trace) → now ≡ items → t ≡ u → MeetsOne (P (state_of t).blobs.file) now → MeetsOne (P (state_of u).blobs.file) items
+met_still P now items t u same read met = subst (λ (x : Trace). MeetsOne (P (state_of x).blobs.file) items) read (subst (MeetsOne (P (state_of t).blobs.file)) same met)

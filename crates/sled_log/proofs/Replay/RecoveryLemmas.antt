@@ -26,7 +26,7 @@ module _ (size : ℕ) (first : SnapshotModel) (unread : List ℕ) (messages : Li
   }
 
   abbrev chosen : Bool → Bool → Bool → Outcome
-  chosen a b c = if a || b || not c then Damaged else Recovered made
+  chosen a b c = if a || b || not c then Damaged None else Recovered made
 
   pub concluded_well : has_no_table messages ≡ false → stable_place first.stable ≤ cut.0 → are_whole (table_of first.pages messages) ≡ true → concluded size first unread messages cut ≡ Recovered made
   concluded_well is le whole =
@@ -34,7 +34,7 @@ module _ (size : ℕ) (first : SnapshotModel) (unread : List ℕ) (messages : Li
       ap (λ a. chosen a (nat_lt cut.0 (stable_place first.stable)) (are_whole (table_of first.pages messages))) is
       ∙ ap (λ b. chosen false b (are_whole (table_of first.pages messages))) above ∙ ap (chosen false false) whole
 
-  pub no_table_damaged : has_no_table messages ≡ true → concluded size first unread messages cut ≡ Damaged
+  pub no_table_damaged : has_no_table messages ≡ true → concluded size first unread messages cut ≡ Damaged None
   no_table_damaged is = ap (λ a. chosen a (nat_lt cut.0 (stable_place first.stable)) (are_whole (table_of first.pages messages))) is
 
 -- where a batch is open lies a record that is met

@@ -45,18 +45,18 @@ module _ (sum : List ℕ → ℕ) (size : ℕ) (log : List ℕ) (blobs : ℤ →
   by_end : (ordering : List Segment) (least : ℕ) → IsOrdering sum size log least ordering → (end : Option ℕ) → Passes sum size log blobs first ordering end (Recovered x) → Comes size first x
   by_end ordering least is None comes = inl (slots_of ordering, cc)
   by_end ordering least is (Some end) (inl damaged) = let no = damaged.0 in absurd (cc)
-  by_end ordering least is (Some end) (inr (passes, are, inl damaged)) = let no = damaged.0 in absurd (cc)
+  by_end ordering least is (Some end) (inr (passes, are, inl damaged)) = let no = damaged.1 in absurd (cc)
   by_end ordering least is (Some end) (inr (passes, are, inr (good, comes))) = from_passes (slots_of (drop (length passes) ordering)) ordering least end passes is are comes
 
   pub comes_of : ContinuesFrom sum size log blobs first (Recovered x) → Comes size first x
   unfolding ContinuesFrom
   comes_of (inl damaged) = let no = damaged.0 in absurd (cc)
-  comes_of (inr (ordering, is, inl damaged)) = let no = damaged.0 in absurd (cc)
+  comes_of (inr (ordering, is, inl damaged)) = let no = damaged.1 in absurd (cc)
   comes_of (inr (ordering, is, inr (scanned, tail, good, passes))) = by_end ordering _ is _ passes
 
 -- What is known of a table that was concluded.
 
-pub chosen_well : (a b c : Bool) (made x : RecoveryResult) → (if a || b || not c then Damaged else Recovered made) ≡ Recovered x → (b ≡ false) × (made ≡ x)
+pub chosen_well : (a b c : Bool) (made x : RecoveryResult) → (if a || b || not c then Damaged None else Recovered made) ≡ Recovered x → (b ≡ false) × (made ≡ x)
 chosen_well true b c made x is = absurd (cc)
 chosen_well false true c made x is = absurd (cc)
 chosen_well false false false made x is = absurd (cc)

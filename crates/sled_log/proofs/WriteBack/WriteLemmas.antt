@@ -1,6 +1,7 @@
 -- What is read where recovery wrote back what it concludes.
 use Rattle.std.proofs.Common.{◌≡◌, ◌≢◌, ◌∙◌, ℕ, ℤ, Bool, true, false, is_some, if◌then◌else◌, List, [], ◌∷◌, ◌++◌, Option, Some, None, refl, sym, ap, subst, inl, inr}
 use Rattle.std.specs.Bool.{MatchBool}
+use Rattle.sled_codec.specs.declared.result.DiskPtr.{DiskPtr}
 use Rattle.sled_codec.specs.Snapshots.{SnapshotModel, FitsSnapshot}
 use Rattle.sled_store.specs.Blobs.{AreFrom, MayGo}
 use Rattle.sled_store.specs.Device.{Event, Trace, State, NamesState, SnapshotFilled, SnapshotPublished, Synced, NamesSynced, state_of, content_of}
@@ -175,8 +176,8 @@ module _ (sum : List ℕ → ℕ) (old mid : Trace) (settled : mid ≡ NamesSync
       subst (λ (h : Trace). Recovers sum size (content_of (state_of h)) o) settled is
 
   -- and what is taken for damage
-  pub damage_settled : (size : ℕ) (is_to_start : Bool) → TakesForDamage is_to_start sum size (content_of (state_of mid)) → TakesForDamage is_to_start sum size (content_of (state_of old))
-  damage_settled size is_to_start damage = subst (λ (h : Trace). TakesForDamage is_to_start sum size (content_of (state_of h))) settled damage
+  pub damage_settled : (size : ℕ) (is_to_start : Bool) (at : Option DiskPtr) → TakesForDamage is_to_start sum size (content_of (state_of mid)) at → TakesForDamage is_to_start sum size (content_of (state_of old)) at
+  damage_settled size is_to_start at damage = subst (λ (h : Trace). TakesForDamage is_to_start sum size (content_of (state_of h)) at) settled damage
 
   -- the calls of both syncs
   abbrev syncs : List Event

@@ -1,7 +1,7 @@
 //! Where an iterator begins: the segments are found and the tail of the log is read, and then nothing more.
 ghost use Rattle.std.specs.Prelude.{◌≡◌, ◌+◌, ◌*◌, ◌/◌, ◌%◌, ◌^◌, ◌<◌, ℕ, true, false, None, List, [], IfOk, IfErr, unwrap_or};
 ghost use Rattle.std.specs.List.{All};
-ghost use Rattle.sled_codec.specs.Errors.{IsCorrupt, IsCorruption};
+ghost use Rattle.sled_store.specs.Blobs.{OnDamage};
 ghost use Rattle.sled_store.specs.Device.{state_of};
 ghost use Rattle.sled_core.specs.Causes.{ItemAnswersOver};
 ghost use Rattle.sled_core.specs.Keeps.{OnlyReads};
@@ -11,7 +11,7 @@ ghost use Rattle.sled_core.specs.Ahead.{CanGoOn};
 ghost use Rattle.sled_core.specs.inside.Ahead.{IsLeft};
 ghost use Rattle.sled_log.specs.Recovery.{Scanned, IsTail, IsDamagedTail, HaveGoodBlobs, begun_below, is_ascending, place_of_mark, tail_end};
 ghost use Rattle.sled_log.specs.Passes.{CanAllBeRead};
-ghost use Rattle.sled_log.specs.IteratorBegins.{Begins, IsDamagedFrom, begins_from, IsGivenBack};
+ghost use Rattle.sled_log.specs.IteratorBegins.{Begins, IsDamagedFrom, SaysDamageFrom, begins_from, IsGivenBack};
 
 use crate::snapshot::ordering::find_segments;
 use crate::snapshot::tail::{check_passes, count_below, read_tail, tail_begins};
@@ -37,7 +37,7 @@ pub fn raw_segment_iter_from<'a, D: Device, C: Checksum>(
     ensures begins { let size = config.old.config.segment_size in let s = state_of (D.trace config.old.device) in
         IfOk result (λ it. Begins C.sum_of size s.log.bytes s.blobs.file (begins_from size lsn) (IsAhead D.trace C.sum_of it)) }
     ensures corrupt { let size = config.old.config.segment_size in let s = state_of (D.trace config.old.device) in
-        IfErr result (λ x. IsCorrupt x.0 → IsDamagedFrom C.sum_of size s.log.bytes s.blobs.file (begins_from size lsn)) }
+        IfErr result (λ x. SaysDamageFrom C.sum_of size s.log.bytes s.blobs.file (begins_from size lsn) x.0) }
     ensures given_back { IfErr result (λ x. IsGivenBack D.trace D.faults C.sum_of config.entry x.0 x.1) }
     ensures begun { IfOk result (λ it. refusal_of it ≡ None) }
     ensures faults { IfOk result (λ it. D.faults (reads_of it).device ≡ D.faults config.old.device) }
@@ -57,7 +57,7 @@ fn begin_at<D: Device, C: Checksum>(config: &mut RunningConfig<D, C>, least: u64
         IfOk result (λ r. Begins C.sum_of size s.log.bytes s.blobs.file least (IsLeft D.trace C.sum_of config.old r)) }
     ensures fits { IfOk result (CanGoOn config.old.config.segment_size) }
     ensures corrupt { let size = config.old.config.segment_size in let s = state_of (D.trace config.old.device) in
-        IsCorruption result → IsDamagedFrom C.sum_of size s.log.bytes s.blobs.file least }
+        OnDamage result (IsDamagedFrom C.sum_of size s.log.bytes s.blobs.file least) }
     ensures answers { ItemAnswersOver D.trace D.faults C.sum_of result config.old config.new }
     ensures reads { OnlyReads D.trace config.old config.new }
 {
@@ -90,7 +90,7 @@ fn tail_end<D: Device, C: Checksum>(
         × HaveGoodBlobs C.sum_of old.blobs.file scanned × (tail_end scanned ≡ o)) }
     ensures small { IfOk result (λ o. unwrap_or o 0 < 2 ^ 63) }
     ensures damaged { let old = state_of (D.trace config.old.device) in
-        IsCorruption result → IsDamagedTail C.sum_of config.old.config.segment_size old.log.bytes old.blobs.file segments.now begin }
+        OnDamage result (IsDamagedTail C.sum_of config.old.config.segment_size old.log.bytes old.blobs.file segments.now begin) }
     ensures answers { ItemAnswersOver D.trace D.faults C.sum_of result config.old config.new }
     ensures reads { OnlyReads D.trace config.old config.new }
 {

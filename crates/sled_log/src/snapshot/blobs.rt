@@ -1,11 +1,11 @@
 //! The blobs that records of a log file name, record by record (`specs/Recovery.antt`).
 ghost use Rattle.std.specs.Prelude.{◌≡◌, ◌<◌, ◌^◌, OnOk};
 ghost use Rattle.std.specs.List.{All};
-ghost use Rattle.sled_codec.specs.Errors.{IsCorruption};
+ghost use Rattle.sled_store.specs.Blobs.{OnDamage};
 ghost use Rattle.sled_store.specs.Device.{state_of};
 ghost use Rattle.sled_core.specs.Causes.{ItemAnswersOver};
 ghost use Rattle.sled_core.specs.Keeps.{OnlyReads};
-ghost use Rattle.sled_log.specs.Recovery.{NamesKind, MeetsBadBlob, resolved_before, before_open};
+ghost use Rattle.sled_log.specs.Recovery.{NamesKind, MeetsBadBlob, NamesBadBlob, resolved_before, before_open};
 
 use sled_codec::result::Result;
 use sled_codec::serialization::Checksum;
@@ -15,7 +15,7 @@ use sled_core::iterator::scan::ScannedRecord;
 use sled_store::{Device, RunningConfig};
 
 /// Looks for the blob of each record that names one, up to a batch that does not end below `end`. `Corruption` comes
-/// where a blob doesn't pass for its record.
+/// where a blob doesn't pass for its record, and names the blob where its checksum fails.
 pub(crate) fn resolve<D: Device, C: Checksum>(
     config: &mut RunningConfig<D, C>,
     met: &mut [ScannedRecord],
@@ -27,7 +27,7 @@ pub(crate) fn resolve<D: Device, C: Checksum>(
     ensures good { let blobs = (state_of (D.trace config.old.device)).blobs.file in
         OnOk result (MeetsBadBlob C.sum_of blobs (before_open end met.old) → ⊥) }
     ensures bad { let blobs = (state_of (D.trace config.old.device)).blobs.file in
-        IsCorruption result → MeetsBadBlob C.sum_of blobs (before_open end met.old) }
+        OnDamage result (NamesBadBlob C.sum_of blobs (before_open end met.old)) }
     ensures answers { ItemAnswersOver D.trace D.faults C.sum_of result config.old config.new }
     ensures reads { OnlyReads D.trace config.old config.new }
 {
@@ -43,14 +43,15 @@ pub(crate) fn resolve<D: Device, C: Checksum>(
     Ok(())
 }
 
-/// Reads the blob of each record that names one. `Corruption` comes where a blob doesn't pass for its record.
+/// Reads the blob of each record that names one. `Corruption` comes where a blob doesn't pass for its record, and names the
+/// blob where its checksum fails.
 pub(crate) fn check<D: Device, C: Checksum>(
     config: &mut RunningConfig<D, C>,
     met: &[ScannedRecord],
 ) -> Result<()>
     requires kinds { All (λ m. NamesKind m.what) met.now }
     ensures good { let blobs = (state_of (D.trace config.old.device)).blobs.file in OnOk result (MeetsBadBlob C.sum_of blobs met.now → ⊥) }
-    ensures bad { let blobs = (state_of (D.trace config.old.device)).blobs.file in IsCorruption result → MeetsBadBlob C.sum_of blobs met.now }
+    ensures bad { let blobs = (state_of (D.trace config.old.device)).blobs.file in OnDamage result (NamesBadBlob C.sum_of blobs met.now) }
     ensures answers { ItemAnswersOver D.trace D.faults C.sum_of result config.old config.new }
     ensures reads { OnlyReads D.trace config.old config.new }
 {

@@ -4,12 +4,13 @@ ghost use Rattle.std.specs.Prelude.{List, ◌≡◌, ◌++◌, ◌∷◌, [], �
 ghost use Rattle.std.specs.List.{All};
 ghost use Rattle.sled_codec.specs.Errors.{IsCorruption, IsDecodeError};
 ghost use Rattle.sled_codec.specs.Snapshots.{SnapshotModel, model_of};
+ghost use Rattle.sled_store.specs.Blobs.{OnDamage};
 ghost use Rattle.sled_store.specs.Device.{state_of};
 ghost use Rattle.sled_core.specs.Causes.{ItemAnswersOver};
 ghost use Rattle.sled_core.specs.Keeps.{OnlyReads};
-ghost use Rattle.sled_log.specs.Recovery.{AreClosed, Scanned, begun_below, IsDamagedPass, Recovered, Damaged, outcome_of, NamesKind, MeetsBadBlob, resolved_scan, before_open, slots_of};
+ghost use Rattle.sled_log.specs.Recovery.{AreClosed, Scanned, begun_below, IsDamagedPass, Recovered, Damaged, outcome_of, NamesKind, MeetsBadBlob, NamesBadBlob, resolved_scan, before_open, slots_of};
 ghost use Rattle.sled_log.specs.WritesBack.{result_of};
-ghost use Rattle.sled_log.specs.Passes.{CanAllBeRead, FitsStop, GetBlobs, GoesOnBehind, HasKinds, HasMade, IsBadPass, IsPass, IsReplay, IsSoFar, MeetsBadPass, pass_of, up_to_open};
+ghost use Rattle.sled_log.specs.Passes.{CanAllBeRead, FitsStop, GetBlobs, GoesOnBehind, HasKinds, HasMade, IsBadPass, IsPass, IsReplay, IsSoFar, MeetsBadPass, NamesBadPass, pass_of, up_to_open};
 
 pub(crate) mod records;
 
@@ -50,7 +51,8 @@ pub(crate) struct Replay {
 }
 
 /// What comes of each segment that begins below `end`, with its blobs, up to the first batch that does not end below
-/// it. `Corruption` comes where a damaged record is met before that, or one whose blob doesn't pass for it.
+/// it. `Corruption` comes where a damaged record is met before that, or one whose blob doesn't pass for it, which it names
+/// where the checksum of the blob fails.
 pub(crate) fn replay_below<D: Device, C: Checksum>(
     config: &mut RunningConfig<D, C>,
     segments: &[Segment],
@@ -64,7 +66,7 @@ pub(crate) fn replay_below<D: Device, C: Checksum>(
         (begun_below end segments.now) None r) }
     ensures stop { IfOk result (λ r. FitsStop config.old.config.segment_size r.stop) }
     ensures corrupt { let s = state_of (D.trace config.old.device) in
-        IsCorruption result → IsBadPass C.sum_of config.old.config.segment_size s.log.bytes s.blobs.file end (begun_below end segments.now) }
+        OnDamage result (IsBadPass C.sum_of config.old.config.segment_size s.log.bytes s.blobs.file end (begun_below end segments.now)) }
     ensures answers { ItemAnswersOver D.trace D.faults C.sum_of result config.old config.new }
     ensures reads { OnlyReads D.trace config.old config.new }
 {
@@ -99,8 +101,8 @@ fn replay_each<D: Device, C: Checksum>(
         → IfOk result (λ bad. IsReplay C.sum_of config.old.config.segment_size s.log.bytes s.blobs.file end first
         (begun_below end segments.now) bad replay.new) }
     ensures stop { FitsStop config.old.config.segment_size replay.old.stop → IfOk result (λ bad. FitsStop config.old.config.segment_size replay.new.stop) }
-    ensures damaged { IsCorruption result → IsDamagedPass C.sum_of config.old.config.segment_size
-        (state_of (D.trace config.old.device)).log.bytes end (begun_below end segments.now) }
+    ensures damaged { OnDamage result (λ at. (at ≡ None) × IsDamagedPass C.sum_of config.old.config.segment_size
+        (state_of (D.trace config.old.device)).log.bytes end (begun_below end segments.now)) }
     ensures answers { ItemAnswersOver D.trace D.faults C.sum_of result config.old config.new }
     ensures reads { OnlyReads D.trace config.old config.new }
 {
@@ -167,7 +169,7 @@ fn replay_one<D: Device, C: Checksum>(
 }
 
 /// Looks for the blobs of all that was met in these segments, in each up to a batch that does not end below `end`.
-/// `Corruption` comes where a blob doesn't pass for its record.
+/// `Corruption` comes where a blob doesn't pass for its record, and names the blob where its checksum fails.
 pub(crate) fn resolve_passes<D: Device, C: Checksum>(
     config: &mut RunningConfig<D, C>,
     passes: &mut [Pass],
@@ -179,7 +181,7 @@ pub(crate) fn resolve_passes<D: Device, C: Checksum>(
     ensures good { let blobs = (state_of (D.trace config.old.device)).blobs.file in
         OnOk result (MeetsBadPass C.sum_of blobs end (map pass_of passes.old) → ⊥) }
     ensures bad { let blobs = (state_of (D.trace config.old.device)).blobs.file in
-        IsCorruption result → MeetsBadPass C.sum_of blobs end (map pass_of passes.old) }
+        OnDamage result (NamesBadPass C.sum_of blobs end (map pass_of passes.old)) }
     ensures answers { ItemAnswersOver D.trace D.faults C.sum_of result config.old config.new }
     ensures reads { OnlyReads D.trace config.old config.new }
 {
@@ -205,7 +207,7 @@ fn resolve_pass<D: Device, C: Checksum>(
     ensures good { let blobs = (state_of (D.trace config.old.device)).blobs.file in
         OnOk result (MeetsBadBlob C.sum_of blobs (before_open end pass.old.scan.met.items) → ⊥) }
     ensures bad { let blobs = (state_of (D.trace config.old.device)).blobs.file in
-        IsCorruption result → MeetsBadBlob C.sum_of blobs (before_open end pass.old.scan.met.items) }
+        OnDamage result (NamesBadBlob C.sum_of blobs (before_open end pass.old.scan.met.items)) }
     ensures answers { ItemAnswersOver D.trace D.faults C.sum_of result config.old config.new }
     ensures reads { OnlyReads D.trace config.old config.new }
 {
@@ -280,7 +282,7 @@ pub(crate) fn outcome_of(
     ensures ok { (end : ℕ) (first : SnapshotModel) (passes : List Scanned) → HasMade end first passes replay
         → IfOk result (λ x. outcome_of size first end passes (slots_of (drop (length passes) segments.now)) ≡ Recovered (result_of x)) }
     ensures corrupt { (end : ℕ) (first : SnapshotModel) (passes : List Scanned) → HasMade end first passes replay
-        → IsCorruption result → outcome_of size first end passes (slots_of (drop (length passes) segments.now)) ≡ Damaged }
+        → IsCorruption result → outcome_of size first end passes (slots_of (drop (length passes) segments.now)) ≡ Damaged None }
     ensures errors { IfErr result IsDecodeError }
 {
     let unread = slots_of(alloc, &segments[replay.count..])?;

@@ -1,15 +1,17 @@
 //! A plain, slow recovery, for tests. It follows the definition of what recovery makes of a log file
 //! (`specs/Recovery.antt`) step by step, for any number of segments, and has no care for speed.
-ghost use Rattle.std.specs.Prelude.{IfSome, IfNone, List, ◌≡◌, ◌⊎◌, ◌+◌, ◌^◌, ◌≤◌, ◌<◌, Some, length, IfOk, Contains};
+ghost use Rattle.std.specs.Prelude.{IfSome, IfNone, List, Option, ◌≡◌, ◌+◌, ◌^◌, ◌≤◌, ◌<◌, Some, length, IfOk, Contains};
 ghost use Rattle.sled_codec.specs.Errors.{IsCorruption};
+ghost use Rattle.sled_codec.specs.declared.result.DiskPtr.{DiskPtr};
 ghost use Rattle.sled_codec.specs.Snapshots.{model_of};
+ghost use Rattle.sled_store.specs.Blobs.{OnDamage};
 ghost use Rattle.sled_store.specs.Device.{state_of, content_of};
 ghost use Rattle.sled_store.specs.Causes.{DeviceAnswers};
 ghost use Rattle.sled_core.specs.Causes.{ItemAnswersOver};
 ghost use Rattle.sled_core.specs.Keeps.{OnlyReads};
 ghost use Rattle.sled_core.specs.Scan.{IsDamagedIn};
 ghost use Rattle.sled_core.specs.declared.iterator.Segment.{Segment};
-ghost use Rattle.sled_log.specs.Recovery.{Scanned, IsScanned, IsOrdering, IsTail, IsDamagedTail, tail_end, Recovered, Damaged, RecoveryResult, least_place, scanned_of, Recovers, MeetsBadBlob, MeetsBadBlobIn, HaveGoodBlobs};
+ghost use Rattle.sled_log.specs.Recovery.{Scanned, IsScanned, IsOrdering, IsTail, IsDamagedTail, tail_end, Recovered, Damaged, RecoveryResult, least_place, scanned_of, Recovers, MeetsBadBlob, NamesDamageIn, HaveGoodBlobs};
 ghost use Rattle.sled_log.specs.WritesBack.{result_of};
 ghost use Rattle.sled_log.specs.Passes.{CanAllBeRead, CanBeRead, ContinuesOn, PassesOn};
 
@@ -42,7 +44,7 @@ pub fn reference_recovery<D: Device, C: Checksum>(
         IfOk result (λ o. IfSome o (λ s. (x : RecoveryResult)
         × Recovers C.sum_of config.old.config.segment_size (content_of old) (Recovered x) × (model_of s ≡ x.model))) }
     ensures none { let old = state_of (D.trace config.old.device) in
-        IfOk result (λ o. IfNone o (Recovers C.sum_of config.old.config.segment_size (content_of old) Damaged)) }
+        IfOk result (λ o. IfNone o ((at : Option DiskPtr) × Recovers C.sum_of config.old.config.segment_size (content_of old) (Damaged at))) }
     ensures readable { IsCorruption result → ⊥ }
     ensures answers { DeviceAnswers result (D.faults config.old.device) (D.faults config.new.device) }
     ensures reads { OnlyReads D.trace config.old config.new }
@@ -60,7 +62,8 @@ fn recover_by_definition<D: Device, C: Checksum>(
 ) -> Result<Recovery>
     ensures ok { let old = state_of (D.trace config.old.device) in
         IfOk result (λ x. Recovers C.sum_of config.old.config.segment_size (content_of old) (Recovered (result_of x))) }
-    ensures corrupt { IsCorruption result → Recovers C.sum_of config.old.config.segment_size (content_of (state_of (D.trace config.old.device))) Damaged }
+    ensures corrupt { let old = state_of (D.trace config.old.device) in
+        OnDamage result (λ at. Recovers C.sum_of config.old.config.segment_size (content_of old) (Damaged at)) }
     ensures answers { ItemAnswersOver D.trace D.faults C.sum_of result config.old config.new }
     ensures reads { OnlyReads D.trace config.old config.new }
 {
@@ -76,7 +79,7 @@ fn continue_by_definition<D: Device, C: Checksum>(
     first: Snapshot,
 ) -> Result<Recovery>
     ensures ok { IfOk result (λ x. ContinuesOn D.trace C.sum_of config.old first (Recovered (result_of x))) }
-    ensures corrupt { IsCorruption result → ContinuesOn D.trace C.sum_of config.old first Damaged }
+    ensures corrupt { OnDamage result (λ at. ContinuesOn D.trace C.sum_of config.old first (Damaged at)) }
     ensures answers { ItemAnswersOver D.trace D.faults C.sum_of result config.old config.new }
     ensures reads { OnlyReads D.trace config.old config.new }
 {
@@ -98,7 +101,7 @@ fn replay_by_definition<D: Device, C: Checksum>(
         (least_place config.old.config.segment_size (model_of first)) segments.now }
     requires small { length (state_of (D.trace config.old.device)).log.bytes + config.old.config.segment_size < 2 ^ 63 }
     ensures ok { IfOk result (λ x. ContinuesOn D.trace C.sum_of config.old first (Recovered (result_of x))) }
-    ensures corrupt { IsCorruption result → ContinuesOn D.trace C.sum_of config.old first Damaged }
+    ensures corrupt { OnDamage result (λ at. ContinuesOn D.trace C.sum_of config.old first (Damaged at)) }
     ensures answers { ItemAnswersOver D.trace D.faults C.sum_of result config.old config.new }
     ensures reads { OnlyReads D.trace config.old config.new }
 {
@@ -121,7 +124,7 @@ fn pass_over<D: Device, C: Checksum>(
     requires ready { CanAllBeRead config.old.config.segment_size (state_of (D.trace config.old.device)).log.bytes segments.now }
     requires end { end < 2 ^ 63 }
     ensures ok { IfOk result (λ x. PassesOn D.trace C.sum_of config.old first segments.now end (Recovered (result_of x))) }
-    ensures corrupt { IsCorruption result → PassesOn D.trace C.sum_of config.old first segments.now end Damaged }
+    ensures corrupt { OnDamage result (λ at. PassesOn D.trace C.sum_of config.old first segments.now end (Damaged at)) }
     ensures answers { ItemAnswersOver D.trace D.faults C.sum_of result config.old config.new }
     ensures reads { OnlyReads D.trace config.old config.new }
 {
@@ -160,8 +163,7 @@ fn sound_scan_of<D: Device, C: Checksum>(
     ensures stop { IfOk result (λ s. (20 ≤ s.stop) × (s.stop ≤ config.old.config.segment_size)) }
     ensures good { let blobs = (state_of (D.trace config.old.device)).blobs.file in IfOk result (λ s. MeetsBadBlob C.sum_of blobs s.met.items → ⊥) }
     ensures damaged { let old = state_of (D.trace config.old.device) in let size = config.old.config.segment_size in
-        IsCorruption result → IsDamagedIn C.sum_of size old.log.bytes segment.now.slot segment.now.place
-        ⊎ MeetsBadBlobIn C.sum_of size old.log.bytes old.blobs.file segment.now }
+        OnDamage result (NamesDamageIn C.sum_of size old.log.bytes old.blobs.file segment.now) }
     ensures answers { ItemAnswersOver D.trace D.faults C.sum_of result config.old config.new }
     ensures reads { OnlyReads D.trace config.old config.new }
 {
@@ -205,7 +207,7 @@ fn tail_end<D: Device, C: Checksum>(
         × HaveGoodBlobs C.sum_of old.blobs.file scanned × (tail_end scanned ≡ o)) }
     ensures small { IfOk result (λ o. IfSome o (λ end. end < 2 ^ 63)) }
     ensures damaged { let old = state_of (D.trace config.old.device) in
-        IsCorruption result → IsDamagedTail C.sum_of config.old.config.segment_size old.log.bytes old.blobs.file segments.now begin }
+        OnDamage result (IsDamagedTail C.sum_of config.old.config.segment_size old.log.bytes old.blobs.file segments.now begin) }
     ensures answers { ItemAnswersOver D.trace D.faults C.sum_of result config.old config.new }
     ensures reads { OnlyReads D.trace config.old config.new }
 {

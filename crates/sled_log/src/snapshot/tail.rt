@@ -1,15 +1,16 @@
 //! The tail of the log: where it begins, what is met in its segments, and their blobs (`IsTail`,
 //! `crates/sled_core/specs/Tail.antt`).
-ghost use Rattle.std.specs.Prelude.{IfSome, List, IsTrue, ◌↔◌, ◌≡◌, ◌+◌, ◌^◌, ◌%◌, ◌≤◌, ◌<◌, ℕ, map, take, drop, length, true, IfOk, OnOk};
+ghost use Rattle.std.specs.Prelude.{IfSome, List, IsTrue, ◌↔◌, ◌≡◌, ◌+◌, ◌^◌, ◌%◌, ◌≤◌, ◌<◌, ℕ, map, take, drop, length, true, None, IfOk, OnOk};
 ghost use Rattle.std.specs.List.{All};
 ghost use Rattle.sled_codec.specs.Errors.{IsCorruption};
+ghost use Rattle.sled_store.specs.Blobs.{OnDamage};
 ghost use Rattle.sled_store.specs.Device.{state_of};
 ghost use Rattle.sled_store.specs.Causes.{DeviceAnswers};
 ghost use Rattle.sled_core.specs.Causes.{ItemAnswersOver};
 ghost use Rattle.sled_core.specs.Keeps.{OnlyReads};
 ghost use Rattle.sled_core.specs.Scan.{IsDamagedIn};
 ghost use Rattle.sled_log.specs.Recovery.{IsScanned, IsTail, IsDamagedTail, AreScanned, begun_below, is_ascending, tail_begins, tail_end, scanned_of, HaveGoodBlobs};
-ghost use Rattle.sled_log.specs.Passes.{CanAllBeRead, CanBeRead, GetBlobs, HasKinds, IsPass, MeetsBadTail, pass_of};
+ghost use Rattle.sled_log.specs.Passes.{CanAllBeRead, CanBeRead, GetBlobs, HasKinds, IsPass, NamesBadTail, pass_of};
 
 use crate::snapshot::blobs::check;
 use crate::snapshot::pass::{Pass, resolve_passes};
@@ -70,7 +71,7 @@ pub(crate) fn read_tail<D: Device, C: Checksum>(
         (state_of (D.trace config.old.device)).log.bytes (begun_below end segments.now) (map pass_of t.passes.items))) }
     ensures fits { IfOk result (λ t. All (IsPass config.old.config.segment_size) t.passes.items) }
     ensures damaged { let old = state_of (D.trace config.old.device) in
-        IsCorruption result → IsDamagedTail C.sum_of config.old.config.segment_size old.log.bytes old.blobs.file segments.now begin }
+        IsCorruption result → IsDamagedTail C.sum_of config.old.config.segment_size old.log.bytes old.blobs.file segments.now begin None }
     ensures answers { DeviceAnswers result (D.faults config.old.device) (D.faults config.new.device) }
     ensures reads { OnlyReads D.trace config.old config.new }
 {
@@ -101,7 +102,8 @@ pub(crate) fn read_tail<D: Device, C: Checksum>(
 }
 
 /// Looks for the blobs of all records of segments: of those up to a batch that does not end below `end`, which get them,
-/// and of those behind it. `Corruption` comes where a blob doesn't pass for its record.
+/// and of those behind it. `Corruption` comes where a blob doesn't pass for its record, and names the blob where its checksum
+/// fails.
 pub(crate) fn look_up<D: Device, C: Checksum>(
     config: &mut RunningConfig<D, C>,
     passes: &mut [Pass],
@@ -112,7 +114,7 @@ pub(crate) fn look_up<D: Device, C: Checksum>(
     ensures passes { OnOk result (GetBlobs (state_of (D.trace config.old.device)).blobs.file end passes.old passes.new) }
     ensures good { let blobs = (state_of (D.trace config.old.device)).blobs.file in OnOk result (HaveGoodBlobs C.sum_of blobs (map pass_of passes.old)) }
     ensures bad { let blobs = (state_of (D.trace config.old.device)).blobs.file in
-        IsCorruption result → MeetsBadTail C.sum_of blobs (map pass_of passes.old) }
+        OnDamage result (NamesBadTail C.sum_of blobs (map pass_of passes.old)) }
     ensures answers { ItemAnswersOver D.trace D.faults C.sum_of result config.old config.new }
     ensures reads { OnlyReads D.trace config.old config.new }
 {
@@ -122,7 +124,8 @@ pub(crate) fn look_up<D: Device, C: Checksum>(
     }
 }
 
-/// Reads the blob of each record of these segments that names one. `Corruption` comes where a blob doesn't pass for its record.
+/// Reads the blob of each record of these segments that names one. `Corruption` comes where a blob doesn't pass for its record,
+/// and names the blob where its checksum fails.
 pub(crate) fn check_passes<D: Device, C: Checksum>(
     config: &mut RunningConfig<D, C>,
     passes: &[Pass],
@@ -130,7 +133,7 @@ pub(crate) fn check_passes<D: Device, C: Checksum>(
     requires kinds { All HasKinds passes.now }
     ensures good { let blobs = (state_of (D.trace config.old.device)).blobs.file in OnOk result (HaveGoodBlobs C.sum_of blobs (map pass_of passes.now)) }
     ensures bad { let blobs = (state_of (D.trace config.old.device)).blobs.file in
-        IsCorruption result → MeetsBadTail C.sum_of blobs (map pass_of passes.now) }
+        OnDamage result (NamesBadTail C.sum_of blobs (map pass_of passes.now)) }
     ensures answers { ItemAnswersOver D.trace D.faults C.sum_of result config.old config.new }
     ensures reads { OnlyReads D.trace config.old config.new }
 {

@@ -19,7 +19,7 @@ use Rattle.sled_core.proofs.PublicLaws.{ready_with_less, none_holding}
 use Rattle.sled_core.specs.Logged.{logged}
 use Rattle.sled_core.specs.Recoverable.{LeavesRecoverable, RecoverableIfOwn}
 use Rattle.sled_core.specs.invariants.Recoverable.{Recoverable}
-use Rattle.sled_core.proofs.Blobs.FirmContent.{read_recoverable}
+use Rattle.sled_core.proofs.PublicLaws.{read_recoverable}
 use Rattle.sled_core.specs.invariants.Running.{Fits, Ready}
 use Rattle.sled_core.specs.Running.{end_below}
 use Rattle.sled_core.proofs.Read.ReadingLemmas.{if_ok}

@@ -1,4 +1,4 @@
-use Rattle.std.proofs.Common.{◌∙◌, ◌≡◌, ◌⊎◌, ◌%◌, ◌/◌, ◌*◌, ◌≤◌, ℕ, ℤ, List, Option, true, map, ap, sym, subst, inl, inr}
+use Rattle.std.proofs.Common.{◌∙◌, ◌≡◌, ◌⊎◌, ◌%◌, ◌/◌, ◌*◌, ◌≤◌, ℕ, ℤ, List, Option, None, true, map, ap, sym, subst, inl, inr}
 use Rattle.std.specs.List.{All, Contains}
 use Rattle.std.proofs.Math.Nat.{mul-mod_left}
 use Rattle.sled_core.proofs.Read.ReadingLemmas.{if_ok}
@@ -6,13 +6,16 @@ use Rattle.sled_core.specs.declared.iterator.Segment.{Segment}
 use Rattle.sled_codec.specs.Snapshots.{SnapshotModel, model_of}
 use Rattle.sled_store.specs.declared.config.Config.{Config}
 use Rattle.sled_store.specs.Device.{Trace, state_of}
+use Rattle.sled_log.specs.declared.snapshot.recovery.Recovery.{Recovery}
+use Rattle.sled_log.specs.declared.snapshot.tail.Tail.{Tail}
 use Rattle.sled_log.specs.Recovery.{Scanned, is_ascending, ContinuesFrom, unchanged, slots_of, greatest_mark, Recovered, Damaged, least_place}
-use Rattle.sled_log.specs.Passes.{CanBeRead, ContinuesOn, MeetsBadTail, PassesBehind, pass_of}
+use Rattle.sled_log.specs.Passes.{CanBeRead, ContinuesOn, NamesBadTail, PassesBehind, pass_of}
 use Rattle.sled_log.specs.WritesBack.{result_of}
 use Rattle.sled_log.proofs.Passes.Ascending.{ascends_behind}
 use Rattle.sled_log.proofs.Passes.WholeTail.{in_dropped, placed_from, sliced}
 use Rattle.sled_log.proofs.Passes.Same.{was_so_in, still_so}
 use Rattle.sled_log.proofs.Passes.Found.{all_ready}
+use Rattle.sled_log.proofs.Passes.DamageNames.{damage_so, damage_unnamed}
 use Rattle.sled_log.proofs.Passes.Continues.{behind_bad, behind_damaged, behind_passing, behind_unchanged}
 use Rattle.sled_log.proofs.snapshot.continue_over.Goals as goal
 
@@ -72,7 +75,7 @@ returns-in-Some-clause-ok g c =
     c.replay_tail.ensures.ok
 
 pub returns-in-Some-clause-corrupt : goal.returns-in-Some-clause-corrupt
-returns-in-Some-clause-corrupt g c = λ corrupt.
+returns-in-Some-clause-corrupt g c =
     let sum : List ℕ → ℕ = g.C.Checksum.sum_of in
     let cfg : Config = c.args.config.now.config in
     let size : ℕ = cfg.segment_size in
@@ -83,14 +86,15 @@ returns-in-Some-clause-corrupt g c = λ corrupt.
     let first : SnapshotModel = model_of c.args.first in
     let xs : List Scanned = map pass_of c.in-Ok.tail.passes.items in
     let end : ℕ = c.in-Some.end in
-    elim (was_so_in (λ k s. MeetsBadTail sum s.blobs.file xs ⊎ PassesBehind sum k s.log.bytes s.blobs.file first ss end xs Damaged) cfg
-    c.read_tail.new.config.config old (g.D.Device.trace c.read_tail.new.config.device) c.in-Ok.ensures.reads.config c.in-Ok.ensures.reads.unwritten
-    (c.replay_tail.ensures.corrupt corrupt)) [
+    damage_so c.replay_tail.result _ (λ at. ContinuesOn g.D.Device.trace sum c.args.config.now c.args.first (Damaged at)) (λ at damaged.
+    elim (was_so_in (λ k s. NamesBadTail sum s.blobs.file xs at ⊎ PassesBehind sum k s.log.bytes s.blobs.file first ss end xs (Damaged at)) cfg
+    c.read_tail.new.config.config old (g.D.Device.trace c.read_tail.new.config.device) c.in-Ok.ensures.reads.config c.in-Ok.ensures.reads.unwritten damaged) [
       | inl bad ↦ behind_bad sum size log blobs first ss c.requires.ordering c.tail_begins-begin.ensures c.stable_place.ensures.place
-          c.count_below-from.result xs c.count_below-from.ensures.below c.in-Ok.ensures.tail bad
+          c.count_below-from.result xs c.count_below-from.ensures.below c.in-Ok.ensures.tail at bad
       | inr here ↦ behind_passing sum size log blobs first ss c.requires.ordering c.tail_begins-begin.ensures c.stable_place.ensures.place
-          c.count_below-from.result xs c.count_below-from.ensures.below c.in-Ok.ensures.tail end (c.in-Ok.ensures.end ∙ c.in-Some.is) Damaged here
-    ]
+          c.count_below-from.result xs c.count_below-from.ensures.below c.in-Ok.ensures.tail end (c.in-Ok.ensures.end ∙ c.in-Some.is) (Damaged at) here
+    ])
+    c.replay_tail.ensures.corrupt
 
 pub returns-in_ok-slots_of-in-None-clause-ok : goal.returns-in_ok-slots_of-in-None-clause-ok
 returns-in_ok-slots_of-in-None-clause-ok g c =
@@ -108,8 +112,9 @@ returns-in_ok-slots_of-in-None-clause-ok g c =
     (c.in-Ok.ensures.end ∙ c.in-None.is))
 
 pub returns-in-Err-clause-corrupt : goal.returns-in-Err-clause-corrupt
-returns-in-Err-clause-corrupt g c = λ corrupt.
+returns-in-Err-clause-corrupt g c =
     let size : ℕ = c.args.config.now.config.segment_size in
     let old : Trace = g.D.Device.trace c.args.config.now.device in
-    behind_damaged g.C.Checksum.sum_of size (state_of old).log.bytes (state_of old).blobs.file (model_of c.args.first) c.args.segments.now
-    c.requires.ordering c.tail_begins-begin.ensures c.stable_place.ensures.place c.count_below-from.result (c.in-Err.ensures.damaged corrupt)
+    damage_unnamed Tail Recovery c.in-Err.e _ _ (λ at. ContinuesOn g.D.Device.trace g.C.Checksum.sum_of c.args.config.now c.args.first (Damaged at)) c.in-Err.ensures.answers
+    (λ corrupt. behind_damaged g.C.Checksum.sum_of size (state_of old).log.bytes (state_of old).blobs.file (model_of c.args.first) c.args.segments.now
+    c.requires.ordering c.tail_begins-begin.ensures c.stable_place.ensures.place c.count_below-from.result None (c.in-Err.ensures.damaged corrupt))

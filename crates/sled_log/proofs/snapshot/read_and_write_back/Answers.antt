@@ -1,4 +1,6 @@
 use Rattle.std.proofs.Common.{◌≡◌, ◌⊎◌, ◌∙◌, ℕ, [], ◌∷◌, length, refl, rules, inl, inr, sym, ap, subst, arith}
+use Rattle.sled_codec.specs.declared.serialization.snapshot.Snapshot.{Snapshot}
+use Rattle.sled_codec.specs.Errors.{IsCorruption}
 use Rattle.sled_codec.specs.Snapshots.{model_of}
 use Rattle.sled_store.specs.Begin.{IsStartable}
 use Rattle.sled_store.specs.Device.{Trace, Synced, NamesSynced, content_of, state_of}
@@ -6,9 +8,11 @@ use Rattle.sled_store.specs.declared.config.Config.{Config}
 use Rattle.sled_store.specs.SnapshotFiles.{BeginsFrom}
 use Rattle.sled_store.proofs.Traces.ScriptLemmas.{performs_whole}
 use Rattle.sled_log.specs.Recovery.{RecoveryResult, Recovered, Recovers}
-use Rattle.sled_log.specs.Restores.{BeginsAgain}
+use Rattle.sled_log.specs.declared.snapshot.recovery.Recovery.{Recovery}
+use Rattle.sled_log.specs.Restores.{BeginsAgain, TakesForDamage}
 use Rattle.sled_log.specs.WritesBack.{HasWrittenBack, IsWrittenBack, WritesBack, result_of}
 use Rattle.sled_log.proofs.Again.RecoversAgain.{recovers_again}
+use Rattle.sled_log.proofs.Passes.DamageNames.{damage_as, damage_never, damage_none}
 use Rattle.sled_log.proofs.SnapshotFile.NewestLemmas.{begins_again}
 use Rattle.sled_log.proofs.WriteBack.WriteLemmas.{damage_settled, recovers_settled, writes_settled}
 use Rattle.sled_log.proofs.snapshot.read_and_write_back.Goals as goal
@@ -46,7 +50,7 @@ returns-in-Ok-write_back-clause-comes g c =
         newest = newest;
         again = recovers_again sum size (omega (arith, c.args.config.now.config.least)) x (state_of old) (state_of new) recovers written_old newest;
       };
-      corrupt = λ damaged. absurd damaged;
+      corrupt = tt;
     }
 
 -- That failed.
@@ -61,21 +65,27 @@ returns-in-Err-write_back-clause-comes g c =
     let recovers = recovers_settled sum old (g.D.Device.trace c.settle.new.device) c.in_ok-settle.ensures.done size (Recovered x) c.in-Ok.ensures.ok in
     let sizes : c.conclude.new.config.config.segment_size ≡ size = ap (λ (k : Config). k.segment_size) c.conclude.ensures.reads.config in
     let writes = writes_settled sum old mid (c.in-Ok.ensures.reads.unwritten ∙ c.in_ok-settle.ensures.done) size x new (subst (λ (n : ℕ). WritesBack sum n x mid new) sizes c.write_back.ensures.calls) in
-    record { calls = inr (x, recovers, writes); ok = tt; corrupt = λ damaged. absurd (c.in-Err-write_back.ensures.readable damaged) }
+    record { calls = inr (x, recovers, writes); ok = tt; corrupt = damage_never (Unit {0}) Snapshot c.in-Err-write_back.e _ c.in-Err-write_back.ensures.readable }
 
 -- Nothing was concluded.
 pub returns-in-Err-clause-comes : goal.returns-in-Err-clause-comes
 returns-in-Err-clause-comes g c =
+    let sum = g.C.Checksum.sum_of in
+    let size : ℕ = c.args.config.now.config.segment_size in
+    let settled : Trace = g.D.Device.trace c.settle.new.device in
     let old : Trace = g.D.Device.trace c.args.config.now.device in
     let is : g.D.Device.trace c.conclude.new.config.device ≡ NamesSynced ∷ Synced ∷ old = c.conclude.ensures.reads.unwritten ∙ c.in_ok-settle.ensures.done in
     record {
       calls = inl (performs_whole (Synced ∷ NamesSynced ∷ []) old _ is);
       ok = tt;
-      corrupt = λ damaged. (damage_settled g.C.Checksum.sum_of old (g.D.Device.trace c.settle.new.device) c.in_ok-settle.ensures.done c.args.config.now.config.segment_size c.args.is_to_start (c.in-Err.ensures.corrupt damaged), is);
+      corrupt = damage_as Recovery Snapshot c.in-Err.e (TakesForDamage c.args.is_to_start sum size (content_of (state_of settled))) _
+          (λ at damaged. (damage_settled sum old settled c.in_ok-settle.ensures.done size c.args.is_to_start at damaged, is)) c.in-Err.ensures.corrupt;
     }
 
 pub returns-in_err-settle-clause-comes : goal.returns-in_err-settle-clause-comes
-returns-in_err-settle-clause-comes g c = record { calls = inl c.settle.ensures.calls; ok = search rules; corrupt = λ damaged. absurd (search rules) }
+returns-in_err-settle-clause-comes g c =
+    let never : IsCorruption c.from_residual.result → ⊥ = λ damaged. search rules in
+    record { calls = inl c.settle.ensures.calls; ok = search rules; corrupt = damage_none c.from_residual.result _ never }
 
 -- A log can begin on it, where one is to: syncs change no byte.
 pub returns-in-Ok-write_back-clause-starts : goal.returns-in-Ok-write_back-clause-starts

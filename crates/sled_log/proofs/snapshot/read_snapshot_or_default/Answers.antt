@@ -6,6 +6,7 @@ use Rattle.sled_core.specs.Good.{IsGood}
 use Rattle.sled_core.specs.Recoverable.{LeavesRecoverable}
 use Rattle.sled_core.specs.invariants.Running.{Ready}
 use Rattle.sled_core.proofs.Read.ReadingLemmas.{if_ok}
+use Rattle.sled_log.proofs.Passes.DamageNames.{damage_met}
 use Rattle.sled_log.proofs.Ready.ComesBack.{holds_throughout}
 use Rattle.sled_log.proofs.Ready.Convertible.{read_of}
 use Rattle.sled_log.proofs.Ready.Restored.{restored_good, restored_kept, restored_ready}
@@ -24,7 +25,7 @@ returns-clause-read g c = λ H A f orderly is.
     let sum = g.C.Checksum.sum_of in
     let old : Content = content_of (state_of (g.D.Device.trace c.args.config.now.device)) in
     let can = read_of sum config.segment_size old H A f orderly is in (
-      λ corrupt. read_undamaged sum config.segment_size old H A f config.least can (c.read_and_write_back.ensures.comes.corrupt corrupt).0,
+      damage_met c.read_and_write_back.result _ ⊥ (λ at damaged. read_undamaged sum config.segment_size old H A f config.least can at damaged.0) c.read_and_write_back.ensures.comes.corrupt,
       if_ok c.read_and_write_back.result _ (λ s. IsGood sum config.segment_size old H A f (model_of s)) (λ s ok.
           subst (λ (x : SnapshotModel). IsGood sum config.segment_size old H A f x) (sym ok.model) (read_good sum config.segment_size old H A f config.least can ok.conclusion ok.recovers))
           c.read_and_write_back.ensures.comes.ok,

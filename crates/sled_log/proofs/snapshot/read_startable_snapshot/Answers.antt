@@ -11,6 +11,7 @@ use Rattle.sled_core.specs.Recoverable.{LeavesRecoverable}
 use Rattle.sled_core.specs.invariants.Running.{Ready}
 use Rattle.sled_core.proofs.Read.ReadingLemmas.{if_ok}
 use Rattle.sled_log.specs.Restores.{Restores}
+use Rattle.sled_log.proofs.Passes.DamageNames.{damage_met}
 use Rattle.sled_log.proofs.Ready.ComesBack.{holds_throughout}
 use Rattle.sled_log.proofs.Ready.Restored.{not_damaged, restored_good, restored_kept, restored_ready}
 use Rattle.sled_log.proofs.WriteBack.LongerFile.{startable_left}
@@ -54,7 +55,7 @@ returns-clause-recovers g c = λ H A f can.
     let comes = c.read_and_write_back.ensures.comes in
     record {
       throughout = holds_throughout sum size config.least old H A f can new comes.calls;
-      undamaged = λ corrupt. not_damaged sum size config.least old H A f can config.most (comes.corrupt corrupt).0;
+      undamaged = damage_met c.read_and_write_back.result _ ⊥ (λ at damaged. not_damaged sum size config.least old H A f can config.most at damaged.0) comes.corrupt;
       good = if_ok c.read_and_write_back.result _ (λ s. IsGood sum size (content_of (state_of new)) H A f (model_of s)) (λ s ok. restored_good sum size config.least old H A f can new (model_of s) ok) comes.ok;
       kept = if_ok c.read_and_write_back.result _ (λ s. LeavesRecoverable sum size (below H (stable_place s.stable_lsn)) A (stable_place s.stable_lsn) (state_of new)) (λ s ok.
           restored_kept sum size config.least old H A f can new (model_of s) ok) comes.ok;

@@ -6,9 +6,11 @@ use Rattle.sled_core.specs.declared.iterator.Segment.{Segment}
 use Rattle.sled_store.specs.declared.config.Config.{Config}
 use Rattle.sled_store.specs.Device.{State, Trace, state_of}
 use Rattle.sled_log.specs.declared.snapshot.pass.Pass.{Pass}
+use Rattle.sled_log.specs.declared.snapshot.recovery.Recovery.{Recovery}
 use Rattle.sled_log.specs.Recovery.{HaveGoodBlobs, Passes, Recovered, Damaged, begun_below}
-use Rattle.sled_log.specs.Passes.{HasKinds, AreLookedUp, CanBeRead, IsPass, MeetsBadTail, PassesBehind, pass_of}
+use Rattle.sled_log.specs.Passes.{HasKinds, AreLookedUp, CanBeRead, IsPass, NamesBadTail, PassesBehind, pass_of}
 use Rattle.sled_log.specs.WritesBack.{result_of}
+use Rattle.sled_log.proofs.Passes.DamageNames.{damage_as, damage_so}
 use Rattle.sled_log.proofs.Passes.LookedUp.{scanned_kinds}
 use Rattle.sled_log.proofs.Passes.Blobs.{passes_fit, resolved_vec}
 use Rattle.sled_log.proofs.Passes.Same.{still_so, still_so_in, was_so_in}
@@ -72,19 +74,22 @@ returns-in-Ok-clause-ok g c =
     c.pass_over.ensures.ok
 
 pub returns-in-Ok-clause-corrupt : goal.returns-in-Ok-clause-corrupt
-returns-in-Ok-clause-corrupt g c = λ corrupt.
+returns-in-Ok-clause-corrupt g c =
     let sum : List ℕ → ℕ = g.C.Checksum.sum_of in
     let cfg : Config = c.args.config.now.config in
     let old : Trace = g.D.Device.trace c.args.config.now.device in
     let s : State = state_of old in
     let good = subst (λ (l : List Pass). HaveGoodBlobs sum s.blobs.file (map pass_of l)) c.deref_mut.ensures.value c.in-Ok.ensures.good in
-    inr (
+    damage_so c.pass_over.result _ _ (λ at passes. inr (
       good,
-      was_so_in (λ n t. Passes sum n t.log.bytes t.blobs.file (model_of c.args.first) c.args.segments.now (Some c.args.end) Damaged) cfg c.look_up.new.config.config old (g.D.Device.trace c.look_up.new.config.device)
-          c.in-Ok.ensures.reads.config c.in-Ok.ensures.reads.unwritten (c.pass_over.ensures.corrupt corrupt),
-    )
+      was_so_in (λ n t. Passes sum n t.log.bytes t.blobs.file (model_of c.args.first) c.args.segments.now (Some c.args.end) (Damaged at)) cfg c.look_up.new.config.config old (g.D.Device.trace c.look_up.new.config.device)
+          c.in-Ok.ensures.reads.config c.in-Ok.ensures.reads.unwritten passes,
+    ))
+    c.pass_over.ensures.corrupt
 
 pub returns-in-Err-clause-corrupt : goal.returns-in-Err-clause-corrupt
-returns-in-Err-clause-corrupt g c = λ corrupt.
+returns-in-Err-clause-corrupt g c =
     let s : State = state_of (g.D.Device.trace c.args.config.now.device) in
-    inl (subst (λ (l : List Pass). MeetsBadTail g.C.Checksum.sum_of s.blobs.file (map pass_of l)) c.deref_mut.ensures.value (c.in-Err.ensures.bad corrupt))
+    let sum : List ℕ → ℕ = g.C.Checksum.sum_of in
+    damage_as (Unit {0}) Recovery c.in-Err.e (NamesBadTail sum s.blobs.file (map pass_of c.deref_mut.result.now)) _
+    (λ at bad. inl (subst (λ (l : List Pass). NamesBadTail sum s.blobs.file (map pass_of l) at) c.deref_mut.ensures.value bad)) c.in-Err.ensures.bad

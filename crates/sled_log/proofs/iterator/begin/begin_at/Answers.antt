@@ -1,4 +1,4 @@
-use Rattle.std.proofs.Common.{◌≡◌, ◌∙◌, ◌%◌, ◌/◌, ◌<◌, ◌^◌, ℕ, ℤ, List, Option, unwrap_or, sym, ap, subst, arith}
+use Rattle.std.proofs.Common.{◌≡◌, ◌∙◌, ◌%◌, ◌/◌, ◌<◌, ◌^◌, ℕ, ℤ, List, Option, unwrap_or, inl, inr, refl, sym, ap, subst, arith}
 use Rattle.std.specs.List.{All, Contains}
 use Rattle.std.proofs.Math.Nat.{mul-mod_left}
 use Rattle.sled_core.specs.declared.iterator.Segment.{Segment}
@@ -6,7 +6,11 @@ use Rattle.sled_store.specs.declared.config.Config.{Config}
 use Rattle.sled_store.specs.Device.{Trace, state_of}
 use Rattle.sled_log.specs.Recovery.{Scanned, IsTail, HaveGoodBlobs, begun_below, greatest_mark}
 use Rattle.sled_log.specs.Passes.{CanBeRead}
-use Rattle.sled_log.specs.IteratorBegins.{IsBegun}
+use Rattle.std.specs.Prelude.{Vec}
+use Rattle.std.specs.declared.alloc.Global.{Global}
+use Rattle.sled_core.specs.declared.iterator.rest.Rest.{Rest}
+use Rattle.sled_log.specs.IteratorBegins.{IsBegun, IsDamagedFrom}
+use Rattle.sled_log.proofs.Passes.DamageNames.{damage_as, damage_unnamed}
 use Rattle.sled_core.specs.Ahead.{CanBeGiven, HasEnds}
 use Rattle.sled_core.specs.inside.Ahead.{IsLeft}
 use Rattle.sled_log.proofs.Passes.Found.{all_ready}
@@ -67,3 +71,8 @@ returns-in-Ok-tail_end-clause-fits g c =
       subst (All (HasEnds size)) (sym r.segments) (ends_of_all size log (begun_below end ss) ready),
       subst (All CanBeGiven) (sym r.met) (λ k d lt. absurd (omega (arith, lt))),
     )
+
+pub returns-in-Err-clause-corrupt : goal.returns-in-Err-clause-corrupt
+returns-in-Err-clause-corrupt g c =
+    let s = state_of (g.D.Device.trace c.args.config.now.device) in
+    damage_unnamed (Vec Segment Global) Rest c.in-Err.e _ _ (IsDamagedFrom g.C.Checksum.sum_of c.args.config.now.config.segment_size s.log.bytes s.blobs.file c.args.least) c.in-Err.ensures.answers (λ corrupt. inl (refl, c.in-Err.ensures.corrupt corrupt))

@@ -6,6 +6,7 @@ use Rattle.sled_core.specs.declared.iterator.rest.Rest.{Rest}
 use Rattle.sled_log.specs.IteratorBegins.{Begins, IsDamagedFrom, begins_from}
 use Rattle.sled_core.specs.invariants.Iterators.{IsAhead}
 use Rattle.sled_core.specs.inside.Ahead.{IsLeft}
+use Rattle.sled_log.proofs.Passes.DamageNames.{damage_as}
 use Rattle.sled_log.proofs.Iterates.BeginLemmas.{begins_as}
 use Rattle.sled_core.proofs.Iterates.AheadLemmas.{file_ahead, left_ahead}
 use Rattle.sled_core.proofs.Iterates.LeftLemmas.{left_still}
@@ -26,8 +27,9 @@ returns-in-Ok-clause-begins g c =
     here
 
 pub returns-in-Err-clause-corrupt : goal.returns-in-Err-clause-corrupt
-returns-in-Err-clause-corrupt g c = λ corrupt.
+returns-in-Err-clause-corrupt g c =
     let size : ℕ = c.args.config.now.config.segment_size in
     let s = state_of (g.D.Device.trace c.args.config.now.device) in
     let from : c.begins_from.result ≡ begins_from size c.args.lsn = c.begins_from.ensures.is ∙ ap (begins_from size) (to_z-of_z w64 c.args.lsn c.ranges.lsn) in
-    subst (λ n. IsDamagedFrom g.C.Checksum.sum_of size s.log.bytes s.blobs.file n) from (c.in-Err.ensures.corrupt corrupt)
+    let damaged = IsDamagedFrom g.C.Checksum.sum_of size s.log.bytes s.blobs.file in
+    damage_as Rest (Unit {0}) c.in-Err.e (damaged c.begins_from.result) (damaged (begins_from size c.args.lsn)) (λ at here. subst (λ n. damaged n at) from here) c.in-Err.ensures.corrupt

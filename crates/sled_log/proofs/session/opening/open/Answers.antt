@@ -10,7 +10,7 @@ use Rattle.sled_codec.specs.History.{History, below}
 use Rattle.sled_codec.specs.Snapshots.{SnapshotModel, model_of, stable_place}
 use Rattle.sled_store.specs.declared.config.Config.{Config}
 use Rattle.sled_store.specs.Begin.{IsStartable}
-use Rattle.sled_store.specs.Blobs.{ItemAnswers}
+use Rattle.sled_store.specs.Blobs.{ItemAnswers, OnDamage}
 use Rattle.sled_store.specs.Device.{NamesSynced, Synced, Trace, state_of, content_of}
 use Rattle.sled_store.specs.Moments.{LeavesOnly}
 use Rattle.sled_store.specs.Script.{Performs}
@@ -19,7 +19,7 @@ use Rattle.sled_store.proofs.Histories.Ascending.{all_from_in}
 use Rattle.sled_store.proofs.Traces.ScriptLemmas.{performs_whole}
 use Rattle.sled_core.specs.Good.{IsGood}
 use Rattle.sled_core.specs.Recoverable.{LeavesRecoverable, ReadsOnlyOwn, RecoverableIfOwn}
-use Rattle.sled_core.proofs.Blobs.FirmContent.{read_recoverable}
+use Rattle.sled_core.proofs.PublicLaws.{read_recoverable}
 use Rattle.sled_core.specs.invariants.Running.{Ready}
 use Rattle.sled_log.specs.declared.session.command.Command.TheVariants as command
 use Rattle.sled_log.specs.declared.session.command.Reply.{Reply}
@@ -149,8 +149,8 @@ returns-in-Err-clause-on g c = record {
 
 -- A recovery that fails met damage, was refused memory, or its device failed.
 recovery_fails : (sum : List ℕ → ℕ) (size : ℕ) (e : Error) (old new : DeviceView) → ItemAnswers {T = Snapshot} sum (state_of old.trace).blobs.file (Err e) old.failures new.failures → RecoveryCalls sum size old.trace new.trace
-    → (IsCorruption {T = Snapshot} (Err e) → MeetsDamage sum size (content_of (state_of old.trace)) × (new.trace ≡ NamesSynced ∷ Synced ∷ old.trace)) → RecoveryFails sum size e old new
-recovery_fails sum size (error.Corruption at) old new answers calls damage = ((damage tt).0, answers.1, (damage tt).1, answers.0)
+    → OnDamage {T = Snapshot} (Err e) (λ at. MeetsDamage sum size (content_of (state_of old.trace)) at × (new.trace ≡ NamesSynced ∷ Synced ∷ old.trace)) → RecoveryFails sum size e old new
+recovery_fails sum size (error.Corruption at) old new answers calls damage = (damage.0, answers.1, damage.1, answers.0)
 recovery_fails sum size (error.Io e) old new answers calls damage = (answers, calls)
 recovery_fails sum size error.OutOfMemory old new answers calls damage = (answers, calls)
 recovery_fails sum size _ old new answers calls damage = absurd answers

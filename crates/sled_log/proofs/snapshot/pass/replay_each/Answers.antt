@@ -2,16 +2,20 @@ use Rattle.std.proofs.Common.{◌≡◌, ◌∙◌, ◌+◌, ◌≤◌, ◌<◌,
 use Rattle.std.specs.List.{All}
 use Rattle.std.proofs.lemmas.List.Elements.{Contains-get_or}
 use Rattle.sled_codec.specs.declared.result.Error.{Error}
+use Rattle.std.specs.Prelude.{Err}
+use Rattle.sled_codec.specs.Errors.{IsCorruption}
 use Rattle.sled_codec.specs.Snapshots.{SnapshotModel}
 use Rattle.sled_core.proofs.Iterates.Kinds.{path_kinds}
 use Rattle.sled_core.specs.declared.iterator.scan.ScannedRecord.{ScannedRecord}
+use Rattle.sled_core.specs.declared.iterator.scan.SegmentScan.{SegmentScan}
 use Rattle.sled_core.specs.declared.iterator.Segment.{Segment}
 use Rattle.sled_store.specs.declared.config.Config.{Config}
 use Rattle.sled_store.specs.Device.{State, Trace, state_of}
 use Rattle.sled_log.specs.declared.snapshot.pass.Pass.{Pass}
 use Rattle.sled_log.specs.declared.snapshot.pass.Replay.{Replay}
-use Rattle.sled_log.specs.Recovery.{AreClosed, IsReplayed, Scanned, open_at}
+use Rattle.sled_log.specs.Recovery.{AreClosed, IsDamagedPass, IsReplayed, Scanned, begun_below, open_at}
 use Rattle.sled_log.specs.Passes.{CanBeRead, FitsStop, IsDamagedBefore, IsPass, IsSoFar, pass_of}
+use Rattle.sled_log.proofs.Passes.DamageNames.{damage_never, damage_unnamed}
 use Rattle.sled_log.proofs.Passes.Same.{was_so, still_so}
 use Rattle.sled_log.proofs.Passes.SoFar.{ends, goes_on, stops_damaged, stops_open}
 use Rattle.sled_log.proofs.Replay.PassedLemmas.{no_value}
@@ -67,15 +71,20 @@ returns-then-stops-clause-made g c =
     (pass_of p) refl replayed c.in-Ok-replay_one.bad c.replay_one.new.replay more (sym (rw c.deref.ensures.value at c.is_open-stops.ensures) ∙ c.if-stops.true) _ refl refl refl refl refl
 
 pub returns-in-Err-clause-damaged : goal.returns-in-Err-clause-damaged
-returns-in-Err-clause-damaged g c = λ corrupt.
+returns-in-Err-clause-damaged g c =
     let sum : List ℕ → ℕ = g.C.Checksum.sum_of in
     let cfg : Config = c.args.config.now.config in
     let old : Trace = g.D.Device.trace c.args.config.now.device in
     let st : State = state_of old in
     let i : ℕ = c.loop-segment.segment-index in
     let s : Segment = get_or c.args.segments.now i none in
-    let damaged = was_so (λ n l. IsDamagedBefore sum n l c.args.end s) cfg c.loop-segment.config.config old (g.D.Device.trace c.loop-segment.config.device) c.loop-segment.invariant.config c.loop-segment.invariant.trace (c.in-Err.ensures.damaged corrupt) in
-    stops_damaged sum cfg.segment_size st.log.bytes st.blobs.file c.args.end c.args.segments.now c.args.replay.now i none c.loop-segment-test.true c.if-segment-end.false c.loop-segment.bad_blob c.loop-segment.replay c.loop-segment.invariant.so_far damaged
+    let damaged : IsCorruption {T = SegmentScan} (Err c.in-Err.e) → IsDamagedBefore sum cfg.segment_size st.log.bytes c.args.end s = λ corrupt.
+    was_so (λ n l. IsDamagedBefore sum n l c.args.end s) cfg c.loop-segment.config.config old (g.D.Device.trace c.loop-segment.config.device) c.loop-segment.invariant.config c.loop-segment.invariant.trace (c.in-Err.ensures.damaged corrupt) in
+    damage_unnamed SegmentScan (Option Error) c.in-Err.e _ _ (λ at. (at ≡ None) × IsDamagedPass sum cfg.segment_size st.log.bytes c.args.end (begun_below c.args.end c.args.segments.now)) c.in-Err.ensures.answers
+    (λ corrupt. (refl, stops_damaged sum cfg.segment_size st.log.bytes st.blobs.file c.args.end c.args.segments.now c.args.replay.now i none c.loop-segment-test.true c.if-segment-end.false c.loop-segment.bad_blob c.loop-segment.replay c.loop-segment.invariant.so_far (damaged corrupt)))
+
+pub returns-in-Err-replay_one-clause-damaged : goal.returns-in-Err-replay_one-clause-damaged
+returns-in-Err-replay_one-clause-damaged g c = damage_never (Option Error) (Option Error) c.in-Err-replay_one.e _ c.in-Err-replay_one.ensures.readable
 
 pub returns-clause-made : goal.returns-clause-made
 returns-clause-made g c = λ first made.

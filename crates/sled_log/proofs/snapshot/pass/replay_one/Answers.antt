@@ -1,6 +1,5 @@
 use Rattle.std.proofs.Common.{◌≡◌, ◌∙◌, ◌++◌, ℕ, ℤ, List, [], ◌∷◌, map, true, false, Option, is_some, sym, subst}
 use Rattle.sled_codec.specs.declared.result.Error.TheVariants.{Corruption}
-use Rattle.sled_codec.specs.Errors.{IsCorrupt}
 use Rattle.sled_store.specs.Device.{state_of}
 use Rattle.sled_log.specs.Recovery.{Scanned, resolved_scan}
 use Rattle.sled_log.specs.Passes.{HasMade, pass_of}
@@ -41,4 +40,5 @@ returns-in-Err-Corruption-clause-made g c = λ first passes closed so.
     let blobs : ℤ → Option (List ℕ) = (state_of (g.D.Device.trace c.args.config.now.device)).blobs.file in
     let is : c.in-Err-Corruption.field-0 ≡ Corruption c.in-Err-Corruption.at = cc in
     let answers = rw is at c.in-Err-Corruption.ensures.answers in
-    so_far_meets g.C.Checksum.sum_of blobs c.args.end first passes (pass_of c.args.pass) (Corruption c.in-Err-Corruption.at) c.args.replay.now answers.1 (c.in-Err-Corruption.ensures.bad (subst IsCorrupt (sym is) tt))
+    let bad = rw is at c.in-Err-Corruption.ensures.bad in
+    so_far_meets g.C.Checksum.sum_of blobs c.args.end first passes (pass_of c.args.pass) c.in-Err-Corruption.at c.args.replay.now answers.1 bad

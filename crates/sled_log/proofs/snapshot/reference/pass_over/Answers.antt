@@ -1,11 +1,14 @@
-use Rattle.std.proofs.Common.{ℕ, List, Some, map, sym, subst, arith}
+use Rattle.std.proofs.Common.{ℕ, List, None, Some, map, sym, subst, arith}
 use Rattle.sled_codec.specs.Snapshots.{SnapshotModel, model_of}
 use Rattle.sled_core.proofs.Read.ReadingLemmas.{if_ok}
 use Rattle.sled_store.specs.declared.config.Config.{Config}
 use Rattle.sled_store.specs.Device.{State, state_of}
+use Rattle.sled_log.specs.declared.snapshot.pass.Replay.{Replay}
+use Rattle.sled_log.specs.declared.snapshot.recovery.Recovery.{Recovery}
 use Rattle.sled_log.specs.Recovery.{Passes, Recovered, Damaged, Scanned, begun_below, resolved_scan}
-use Rattle.sled_log.specs.Passes.{FitsStop}
+use Rattle.sled_log.specs.Passes.{FitsStop, IsBadPass}
 use Rattle.sled_log.specs.WritesBack.{result_of}
+use Rattle.sled_log.proofs.Passes.DamageNames.{damage_as, damage_decoded}
 use Rattle.sled_log.proofs.Passes.Joined.{passes_damaged, resolved_length}
 use Rattle.sled_log.proofs.Passes.Whole.{passes_by, resolved_of}
 use Rattle.sled_log.proofs.snapshot.reference.pass_over.Goals as goal
@@ -40,7 +43,7 @@ returns-in-Ok-clause-ok g c =
     (c.outcome_of.ensures.ok end first passes all.so_far.fine.1)
 
 pub returns-in-Ok-clause-corrupt : goal.returns-in-Ok-clause-corrupt
-returns-in-Ok-clause-corrupt g c = λ corrupt.
+returns-in-Ok-clause-corrupt g c =
     let sum : List ℕ → ℕ = g.C.Checksum.sum_of in
     let cfg : Config = c.args.config.now.config in
     let s : State = state_of (g.D.Device.trace c.args.config.now.device) in
@@ -49,9 +52,14 @@ returns-in-Ok-clause-corrupt g c = λ corrupt.
     let all = c.in-Ok.ensures.made in
     let passes : List Scanned = map (resolved_scan s.blobs.file end) all.passes in
     let are = resolved_of sum cfg.segment_size s.log.bytes s.blobs.file end c.args.segments.now first (begun_below end c.args.segments.now) c.in-Ok.replay all in
-    passes_by sum cfg c.replay_below.new.config.config s.log.bytes s.blobs.file end first c.args.segments.now passes Damaged c.in-Ok.ensures.reads.config are (c.outcome_of.ensures.corrupt end first passes all.so_far.fine.1 corrupt)
+    damage_decoded c.outcome_of.result (λ at. Passes sum cfg.segment_size s.log.bytes s.blobs.file first c.args.segments.now (Some end) (Damaged at)) c.outcome_of.ensures.errors
+    (λ corrupt. passes_by sum cfg c.replay_below.new.config.config s.log.bytes s.blobs.file end first c.args.segments.now passes (Damaged None) c.in-Ok.ensures.reads.config are (c.outcome_of.ensures.corrupt end first passes all.so_far.fine.1 corrupt))
 
 pub returns-in-Err-clause-corrupt : goal.returns-in-Err-clause-corrupt
-returns-in-Err-clause-corrupt g c = λ corrupt.
+returns-in-Err-clause-corrupt g c =
+    let sum : List ℕ → ℕ = g.C.Checksum.sum_of in
+    let size : ℕ = c.args.config.now.config.segment_size in
     let s : State = state_of (g.D.Device.trace c.args.config.now.device) in
-    passes_damaged g.C.Checksum.sum_of c.args.config.now.config.segment_size s.log.bytes s.blobs.file c.args.end (model_of c.args.first) c.args.segments.now (c.in-Err.ensures.corrupt corrupt)
+    let end : ℕ = c.args.end in
+    damage_as Replay Recovery c.in-Err.e (IsBadPass sum size s.log.bytes s.blobs.file end (begun_below end c.args.segments.now)) (λ at. Passes sum size s.log.bytes s.blobs.file (model_of c.args.first) c.args.segments.now (Some end) (Damaged at))
+    (passes_damaged sum size s.log.bytes s.blobs.file end (model_of c.args.first) c.args.segments.now) c.in-Err.ensures.corrupt

@@ -1,21 +1,27 @@
 use Rattle.std.proofs.Common.{◌∙◌, ℕ, List, map, ap, subst}
 use Rattle.std.proofs.lemmas.List.{take_all}
+use Rattle.sled_core.specs.declared.iterator.scan.ScannedRecord.{ScannedRecord}
 use Rattle.sled_store.specs.Device.{Trace, state_of}
 use Rattle.sled_log.specs.declared.snapshot.pass.Pass.{Pass}
-use Rattle.sled_log.specs.Recovery.{HaveGoodBlobs, MeetsBadBlob}
-use Rattle.sled_log.specs.Passes.{pass_of}
+use Rattle.sled_log.specs.Recovery.{HaveGoodBlobs, MeetsBadBlob, NamesBadBlob}
+use Rattle.sled_log.specs.Passes.{NamesBadTail, pass_of}
+use Rattle.sled_log.proofs.Passes.DamageNames.{damage_as}
 use Rattle.sled_log.proofs.Passes.LookedUp.{bad_here, good_next}
 use Rattle.sled_log.proofs.snapshot.tail.check_passes.Goals as goal
 
 pub returns-in-Err-clause-bad : goal.returns-in-Err-clause-bad
-returns-in-Err-clause-bad g c = λ corrupt.
+returns-in-Err-clause-bad g c =
     let p : Pass = c.pass-item.result in
     let i : ℕ = c.loop-pass.pass-index in
     let ps : List Pass = c.args.passes.now in
     let old : Trace = g.D.Device.trace c.args.config.now.device in
     let now : Trace = g.D.Device.trace c.loop-pass.config.device in
-    bad_here g.C.Checksum.sum_of now old ps i p c.loop-pass-test.true c.loop-pass.invariant.trace
-    (subst (λ (x : Pass). MeetsBadBlob g.C.Checksum.sum_of (state_of now).blobs.file x.scan.met.items) c.pass-item.is (rw c.deref.ensures.value at c.in-Err.ensures.bad corrupt))
+    let sum : List ℕ → ℕ = g.C.Checksum.sum_of in
+    damage_as (Unit {0}) (Unit {0}) c.in-Err.e (NamesBadBlob sum (state_of now).blobs.file c.deref.result.now) (NamesBadTail sum (state_of old).blobs.file (map pass_of ps)) (λ at bad.
+    bad_here sum now old ps i p at c.loop-pass-test.true c.loop-pass.invariant.trace
+    (subst (λ (x : Pass). NamesBadBlob sum (state_of now).blobs.file x.scan.met.items at) c.pass-item.is
+    (subst (λ (l : List ScannedRecord). NamesBadBlob sum (state_of now).blobs.file l at) c.deref.ensures.value bad)))
+    c.in-Err.ensures.bad
 
 pub loop-pass-preserved : goal.loop-pass-preserved
 loop-pass-preserved g c =

@@ -2,8 +2,9 @@ use Rattle.std.proofs.Common.{ℕ, List, map, subst}
 use Rattle.sled_store.specs.Device.{Trace, state_of}
 use Rattle.sled_log.specs.declared.snapshot.pass.Pass.{Pass}
 use Rattle.sled_log.specs.Recovery.{HaveGoodBlobs, Scanned}
-use Rattle.sled_log.specs.Passes.{MeetsBadTail, pass_of}
+use Rattle.sled_log.specs.Passes.{NamesBadPass, NamesBadTail, pass_of}
 use Rattle.sled_log.proofs.PageTable.TableLemmas.{on_ok}
+use Rattle.sled_log.proofs.Passes.DamageNames.{damage_as, damage_so}
 use Rattle.sled_log.proofs.Passes.LookedUp.{bad_in_looked, bad_in_pass, good_looked, kinds_looked}
 use Rattle.sled_log.proofs.snapshot.tail.look_up.Goals as goal
 
@@ -24,13 +25,18 @@ returns-in-Ok-clause-good g c =
     c.check_passes.ensures.good
 
 pub returns-in-Ok-clause-bad : goal.returns-in-Ok-clause-bad
-returns-in-Ok-clause-bad g c = λ corrupt.
+returns-in-Ok-clause-bad g c =
     let sum : List ℕ → ℕ = g.C.Checksum.sum_of in
     let old : Trace = g.D.Device.trace c.args.config.now.device in
-    bad_in_looked sum (state_of old).blobs.file c.args.end (map pass_of c.args.passes.now)
-    (subst (λ (l : List Scanned). MeetsBadTail sum (state_of old).blobs.file l) c.in-Ok.ensures.passes
-    (subst (λ (t : Trace). MeetsBadTail sum (state_of t).blobs.file (map pass_of c.resolve_passes.new.passes)) c.in-Ok.ensures.reads.unwritten (c.check_passes.ensures.bad corrupt)))
+    damage_so c.check_passes.result _ _ (λ at bad.
+    bad_in_looked sum (state_of old).blobs.file c.args.end at (map pass_of c.args.passes.now)
+    (subst (λ (l : List Scanned). NamesBadTail sum (state_of old).blobs.file l at) c.in-Ok.ensures.passes
+    (subst (λ (t : Trace). NamesBadTail sum (state_of t).blobs.file (map pass_of c.resolve_passes.new.passes) at) c.in-Ok.ensures.reads.unwritten bad)))
+    c.check_passes.ensures.bad
 
 pub returns-in-Err-clause-bad : goal.returns-in-Err-clause-bad
-returns-in-Err-clause-bad g c = λ corrupt.
-    bad_in_pass g.C.Checksum.sum_of (state_of (g.D.Device.trace c.args.config.now.device)).blobs.file c.args.end (map pass_of c.args.passes.now) (c.in-Err.ensures.bad corrupt)
+returns-in-Err-clause-bad g c =
+    let sum : List ℕ → ℕ = g.C.Checksum.sum_of in
+    let blobs = (state_of (g.D.Device.trace c.args.config.now.device)).blobs.file in
+    let xs : List Scanned = map pass_of c.args.passes.now in
+    damage_as (Unit {0}) (Unit {0}) c.in-Err.e (NamesBadPass sum blobs c.args.end xs) (NamesBadTail sum blobs xs) (λ at bad. bad_in_pass sum blobs c.args.end at xs bad) c.in-Err.ensures.bad

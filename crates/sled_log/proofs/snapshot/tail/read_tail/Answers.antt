@@ -99,7 +99,7 @@ returns-in-Err-clause-damaged g c = λ corrupt.
       segment = s;
       there = Contains-get_or ss i none c.loop-segment-test.true;
       at = c.if-segment-place.false;
-      damaged = inl damaged;
+      damaged = inl (refl, damaged);
     }
 
 pub overflow_add-end : goal.overflow_add-end
