@@ -1,15 +1,14 @@
-//! What a line of a file can't say: equality and conversion of errors, constants, functions over a format that answer
-//! no value of their own, folders of files, and laws.
+//! What a line of a file can't say: functions over a format that answer no value of their own, and all other cases of this
+//! crate.
 
-use crate::{batches, copies, folders, formats, identifiers, laws, orders, sessions, sorted, torn};
+use crate::{
+    batches, copies, errors, folders, formats, identifiers, laws, orders, sessions, sorted, torn,
+};
 use case_lines::tally::Tally;
 use sled_codec::serialization::bytes::copy_in;
 use sled_log::config::{Config, RunningConfig};
 use sled_log::device::{Device, MemDevice, PlaceSum};
-use sled_log::logger::{
-    BATCH_MANIFEST_PID, COUNTER_PID, DiskPtr, LogKind, MAX_MSG_HEADER_LEN, META_PID, MessageKind,
-    PageId, SEG_HEADER_LEN, SegmentNumber,
-};
+use sled_log::logger::{DiskPtr, LogKind, MessageKind, PageId, SegmentNumber};
 use sled_log::result::{Error, Result};
 use sled_log::serialization::{MessageHeader, Serialize};
 use sled_oracle::history::{Message, entries_of_page};
@@ -19,17 +18,27 @@ use sled_store::header::{bump_offset, incr_writers, n_writers, offset};
 use sled_store::segment::accountant::{CacheInfo, SegmentAccountant};
 use sled_store::snapshot_file::{decode_file, encode_file};
 use slog_lines::run_lines;
-use std::alloc::{AllocError, Global};
+use std::alloc::Global;
 use std::io::{self, BufRead, ErrorKind, Read, Write};
 
 /// Runs all of them. Some make folders where the program runs, and remove them.
 pub fn run(rt: &HostRuntime, tally: &mut Tally<'_>) {
     let alloc = rt.alloc();
     laws::cite_all();
-    holds(tally, 1, "constants", has_constants());
-    holds(tally, 2, "errors are equal", known(are_equal(alloc)));
-    holds(tally, 3, "errors from std", are_from_std());
-    holds(tally, 4, "errors for std", are_for_std());
+    holds(tally, 1, "constants", errors::has_constants());
+    holds(
+        tally,
+        2,
+        "errors are equal",
+        known(errors::are_equal(alloc)),
+    );
+    holds(tally, 3, "errors from std", errors::are_from_std());
+    holds(
+        tally,
+        4,
+        "errors for std",
+        known(errors::are_for_std(alloc)),
+    );
     holds(tally, 5, "records", known(tells_records(alloc)));
     holds(tally, 6, "entries of pages", known(lists_entries(alloc)));
     holds(tally, 7, "the sum of a record", sums_in_place());
@@ -181,47 +190,6 @@ fn known(answer: Result<bool>) -> bool {
         Ok(is_so) => is_so,
         Err(_) => false,
     }
-}
-
-fn has_constants() -> bool {
-    META_PID == 0
-        && COUNTER_PID == 1
-        && BATCH_MANIFEST_PID == 18446744073709550949
-        && MAX_MSG_HEADER_LEN == 32
-        && SEG_HEADER_LEN == 20
-}
-
-// An error is equal to its copy, and to no other one.
-fn are_equal(alloc: Global) -> Result<bool> {
-    let held = Error::Held(20);
-    let name = Error::CollectionNotFound([7].to_vec(alloc)?);
-    let copies = (held.clone()?, name.clone()?);
-    Ok(copies.0 == held && copies.1 == name && held != Error::Held(21) && are_of_one_kind())
-}
-
-// Errors of std are equal where their kinds are.
-fn are_of_one_kind() -> bool {
-    let missing = Error::Io(io::Error::new(ErrorKind::NotFound, "one text"));
-    let other = Error::Io(io::Error::new(ErrorKind::NotFound, "another text"));
-    missing == other
-        && missing != Error::Io(io::Error::from(ErrorKind::Other))
-        && Error::Held(20) != Error::NotReserved(20)
-}
-
-// Out of memory is an error of its own.
-fn are_from_std() -> bool {
-    Error::from(AllocError) == Error::OutOfMemory
-        && Error::from(io::Error::from(ErrorKind::OutOfMemory)) == Error::OutOfMemory
-        && Error::from(io::Error::other("it broke")) != Error::OutOfMemory
-}
-
-// What std knows of an error is its kind alone.
-fn are_for_std() -> bool {
-    io::Error::from(Error::Corruption { at: None }).kind() == ErrorKind::InvalidData
-        && io::Error::from(Error::Held(20)).kind() == ErrorKind::WouldBlock
-        && io::Error::from(Error::NotReserved(5)).kind() == ErrorKind::InvalidInput
-        && io::Error::from(Error::PlacesUsedUp).kind() == ErrorKind::Other
-        && io::Error::from(Error::OutOfMemory).kind() == ErrorKind::OutOfMemory
 }
 
 // Page 0 replaced by three sevens, in the first segment: the sum is 66 over the body and 54 over the header, and is

@@ -50,9 +50,13 @@ fn laws_of_running_logs() {
     core_laws::the_first_buffer_waits_behind_what_is_synced::<MemDevice, PlaceSum>();
     core_laws::what_is_not_synced_has_its_record::<MemDevice, PlaceSum>();
     core_laws::what_a_log_reads_is_its_own::<MemDevice, PlaceSum>();
+    core_laws::what_a_log_reads_is_its_own_unless_stale::<MemDevice, PlaceSum>();
+    core_laws::the_next_slot_is_not_needed::<MemDevice, PlaceSum>();
+    core_laws::an_iteration_rises::<MemDevice, PlaceSum>();
     core_laws::a_mark_is_that_of_its_header();
     core_laws::a_pin_defers_freeing::<MemDevice, PlaceSum>();
     core_laws::a_pin_keeps_all::<MemDevice, PlaceSum>();
+    core_laws::a_pin_keeps_segments::<MemDevice, PlaceSum>();
     core_laws::no_write_removes_what_may_be_named::<MemDevice, PlaceSum>();
     core_laws::a_higher_blob_is_named_by_none::<MemDevice, PlaceSum>();
     core_laws::what_is_in_the_table_is_stored::<MemDevice, PlaceSum>();

@@ -6,6 +6,7 @@
 
 mod batches;
 mod copies;
+mod errors;
 mod folders;
 mod formats;
 pub mod functions;
