@@ -9,6 +9,7 @@ pub mod FailedSteps
 pub mod FormerPages
 pub mod Headline
 pub mod KeptPlaces
+pub mod LogActs
 pub mod MadeBatches
 pub mod MadeHistories
 pub mod MadeMarks

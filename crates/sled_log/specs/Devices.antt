@@ -2,7 +2,6 @@
 use Rattle.std.specs.Prelude.{◌≡◌, ◌∷◌, ◌&&◌, not, is_none, if◌then◌else◌, ℕ, Bool, true, false, List, [], Option, None, Some}
 use Rattle.std.specs.Bool.{MatchBool}
 use Rattle.sled_store.specs.Device.{StopAsked}
-use Rattle.sled_store.specs.Moments.{IsLater}
 use Rattle.sled_store.specs.Stops.{KeepsToStop}
 use Rattle.sled_log.specs.declared.session.Session.{Session}
 use Rattle.sled_log.specs.declared.session.Phase.{Phase}
@@ -13,6 +12,7 @@ use Rattle.sled_log.specs.declared.session.command.Refusal.{Refusal}
 use Rattle.sled_log.specs.declared.session.command.Refusal.TheVariants as why
 use Rattle.sled_log.specs.declared.session.command.Reply.{Reply}
 use Rattle.sled_log.specs.declared.session.command.Reply.TheVariants as reply
+use Rattle.sled_log.specs.LogActs.{LogActs}
 use Rattle.sled_log.specs.RunStates.{DeviceView, RunState}
 use Rattle.sled_log.specs.OpenSteps.{OpenActs}
 use Rattle.sled_log.specs.Refusals.{is_crash, refused_closed}
@@ -45,7 +45,8 @@ RefusedIn true c w = Unit {0}
 
 module _ (sum : List ℕ → ℕ) (size : ℕ) where
   -- What a command is answered and does to the device, by whether a log is open. While none is, all but an opening, a stop and a crash are refused: an
-  -- opening that meets damage has synced the device, and wrote nothing. While one is open, the calls of the log are added to what was asked of the device.
+  -- opening that meets damage has synced the device, and wrote nothing. While one is open, a command that calls the log has its own shape of reply and its own
+  -- calls.
   abbrev pub Touches : Bool → Command → Reply → DeviceView → DeviceView → Type 0
   Touches false command.Open r old new = OpenActs sum size old r new
   Touches false (command.Crash choice) r old new = CrashActs choice old r new
@@ -55,7 +56,7 @@ module _ (sum : List ℕ → ℕ) (size : ℕ) where
   Touches true (command.Crash choice) r old new = CrashActs choice old r new
   Touches true (command.Stop n) r old new = (r ≡ reply.Armed) × (new ≡ to_stop n old)
   Touches true command.Halt r old new = (r ≡ reply.Halted) × (new ≡ old)
-  Touches true c r old new = IsLater old.trace new.trace
+  Touches true c r old new = LogActs sum size c r old new
 
   -- While the device is stopped each but a crash is refused, and does nothing.
   abbrev pub Handles : Bool → Command → Reply → DeviceView → DeviceView → Type 0

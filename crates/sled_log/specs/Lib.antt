@@ -2,6 +2,7 @@ pub mod Devices
 pub mod Endings
 pub mod Headline
 pub mod IteratorBegins
+pub mod LogActs
 pub mod Made
 pub mod Marking
 pub mod OpenSteps

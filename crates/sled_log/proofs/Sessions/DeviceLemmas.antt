@@ -8,7 +8,6 @@ use Rattle.sled_store.specs.Chosen.{MayBeLeft}
 use Rattle.sled_store.specs.Device.{Left, Settled, Crashed, state_of}
 use Rattle.sled_store.specs.Noted.{left_of}
 use Rattle.sled_store.specs.declared.config.RunningConfig.{RunningConfig}
-use Rattle.sled_store.specs.Moments.{IsLater}
 use Rattle.sled_log.specs.declared.session.Session.{Session}
 use Rattle.sled_log.specs.declared.session.Phase.{Phase}
 use Rattle.sled_log.specs.declared.session.Phase.TheVariants as phase
@@ -24,8 +23,9 @@ use Rattle.sled_log.specs.Refusals.{is_for_log, refused_closed}
 use Rattle.sled_log.specs.RunStates.{DeviceView}
 use Rattle.sled_log.specs.Runs.{calls_log, told}
 use Rattle.sled_core.specs.Fits.{config_of}
-use Rattle.sled_log.specs.RunPhases.{RunsOn, device_in, running, segment_size_in, size_in, size_of, traces}
-use Rattle.sled_log.proofs.Sessions.RunLemmas.{later_same}
+use Rattle.sled_log.specs.LogActs.{ActsOver, LogActs}
+use Rattle.sled_log.specs.RunPhases.{device_in, running, segment_size_in, size_in, size_of}
+use Rattle.sled_log.proofs.Sessions.LogActs.{refused_acts}
 
 -- Another claim of where a command leads.
 leaves_over : {Leads Next : Bool → DeviceView → Type 0} (sum : List ℕ → ℕ) (size : ℕ) (was : Bool) (old : DeviceView) (c : Command) (r : Reply)
@@ -109,7 +109,7 @@ module _ (sum : List ℕ → ℕ) (size : ℕ) where
   no_touch true (command.Crash choice) w device is = cc
   no_touch true (command.Stop n) w device is = cc
   no_touch true command.Halt w device is = cc
-  no_touch true c w device is = later_same device.trace
+  no_touch true c w device is = refused_acts sum size device device refl c w
 
   -- While the device is stopped it is that,
   pub handles_barred : (was : Bool) (c : Command) (device : DeviceView) → is_barred device c ≡ true → Handles sum size was c (reply.Refused why.Stopped) device device
@@ -154,12 +154,12 @@ told_refused false w = refl
 pub touched : {D C : Type 0} (view : D → DeviceView) (sum : List ℕ → ℕ) (p : Phase D C) (c d : Command) (next : Phase D C) (r : Reply) → d ≡ c → TouchesIn view sum p c next r → TouchesIn view sum p d next r
 touched view sum p c d next r is in_phase = subst (λ (x : Command). TouchesIn view sum p x next r) (sym is) in_phase
 
-touched_later : (sum : List ℕ → ℕ) (size : ℕ) (c : Command) (r : Reply) (old new : DeviceView) → calls_log c ≡ true → IsLater old.trace new.trace → Touches sum size true c r old new
-touched_later sum size command.Open r old new is later = cc
-touched_later sum size (command.Crash choice) r old new is later = cc
-touched_later sum size (command.Stop n) r old new is later = cc
-touched_later sum size command.Halt r old new is later = cc
-touched_later sum size c r old new is later = later
+touched_log : (sum : List ℕ → ℕ) (size : ℕ) (c : Command) (r : Reply) (old new : DeviceView) → calls_log c ≡ true → LogActs sum size c r old new → Touches sum size true c r old new
+touched_log sum size command.Open r old new is acts = cc
+touched_log sum size (command.Crash choice) r old new is acts = cc
+touched_log sum size (command.Stop n) r old new is acts = cc
+touched_log sum size command.Halt r old new is acts = cc
+touched_log sum size c r old new is acts = acts
 
 still_open : (c : Command) (r : Reply) → calls_log c ≡ true → true ≡ opens_after true c r
 still_open command.Open r is = cc
@@ -167,11 +167,11 @@ still_open (command.Crash choice) r is = cc
 still_open command.Halt r is = cc
 still_open c r is = refl
 
--- The calls of a log are added to what was asked of its device.
+-- What a command does that calls a log it does in its phase.
 pub went_on : {D C : Type 0} (view : D → DeviceView) (sum : List ℕ → ℕ) (old new : Opened D C) (c : Command) (r : Reply) → calls_log c ≡ true
-    → RunsOn (traces view) (config_of old.log) (config_of new.log) → TouchesIn view sum (phase.Open old) c (phase.Open new) r
-went_on view sum old new c r is on = record {
-  touches = touched_later sum (size_of (phase.Open old)) c r (device_in view (phase.Open old)) (device_in view (phase.Open new)) is on.later;
+    → ActsOver view sum old.log c r new.log → TouchesIn view sum (phase.Open old) c (phase.Open new) r
+went_on view sum old new c r is acts = record {
+  touches = touched_log sum (size_of (phase.Open old)) c r (device_in view (phase.Open old)) (device_in view (phase.Open new)) is acts;
   opens = still_open c r is;
 }
 

@@ -129,13 +129,13 @@ failure_kept e blob old new before after (inl kept) = kept.1
 failure_kept e blob old new before after (inr failed) = failed.2
 
 -- What it did to the device, where it removed the blob, if there was one,
-removal_done : (blob : Option ℤ) (fault : Option IoError) (old new : DeviceView) (place : ℤ) (pointer : DiskPtr) → (blob ≡ None → new ≡ old) → new.trace ≡ after_all (removing blob) old.trace → new.failures ≡ old.failures
+pub removal_done : (blob : Option ℤ) (fault : Option IoError) (old new : DeviceView) (place : ℤ) (pointer : DiskPtr) → (blob ≡ None → new ≡ old) → new.trace ≡ after_all (removing blob) old.trace → new.failures ≡ old.failures
     → RemoveActs blob fault old (reply.Done place pointer) new
 removal_done None fault old new place pointer none done failures = none refl
 removal_done (Some p) fault old new place pointer none done failures = (done, failures)
 
 -- and where it failed.
-removal_failed : (blob : Option ℤ) (fault : Option IoError) (old new : DeviceView) (e : IoError) → (blob ≡ None → new ≡ old) → Performs (removing blob) old.trace new.trace
+pub removal_failed : (blob : Option ℤ) (fault : Option IoError) (old new : DeviceView) (e : IoError) → (blob ≡ None → new ≡ old) → Performs (removing blob) old.trace new.trace
     → RemovedAnswers {T = Unit {0}} (Err (error.Io e)) blob fault (Some e) old.failures new.failures → (IsSome fault → new ≡ old) → RemoveActs blob fault old (reply.Failed (error.Io e)) new
 removal_failed None fault old new e none calls cause same = none refl
 removal_failed (Some p) fault old new e none calls (inl kept) same = (calls, inr (ap (λ (d : DeviceView). d.trace) (same (ap is_some kept.0))), same)

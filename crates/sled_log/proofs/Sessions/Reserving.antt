@@ -74,7 +74,7 @@ abbrev pub counts : {D : Type 0} → (D → DeviceView) → D → ℕ
 counts view device = (view device).failures
 
 -- what holds in each of two cases holds where it goes by them
-either : (b : Bool) (A B : Type 0) → (b ≡ true → A) → (b ≡ false → B) → MatchBool b A B
+pub either : (b : Bool) (A B : Type 0) → (b ≡ true → A) → (b ≡ false → B) → MatchBool b A B
 either true A B first second = first refl
 either false A B first second = second refl
 
@@ -102,7 +102,7 @@ none_inline log bytes is = ap (λ (b : List ℕ). in_blob_of log (length b)) is 
 -- What it does to the device.
 
 -- where nothing was done
-blob_same : (es : List Event) (fault : Option IoError) (old new : DeviceView) (e : Error) → new ≡ old → BlobActs es fault old (reply.Failed e) new
+pub blob_same : (es : List Event) (fault : Option IoError) (old new : DeviceView) (e : Error) → new ≡ old → BlobActs es fault old (reply.Failed e) new
 blob_same es fault old new (error.Io x) same = (performs_nothing es old.trace new.trace (ap (λ (d : DeviceView). d.trace) same), inr (ap (λ (d : DeviceView). d.trace) same), λ some. same)
 blob_same es fault old new error.OutOfMemory same = (ap (λ (d : DeviceView). d.trace) same, ap (λ (d : DeviceView). d.failures) same)
 blob_same es fault old new _ same = same

@@ -3,6 +3,7 @@ ghost use Rattle.std.specs.Prelude.{Bool, ◌≡◌, None, IfOk, IsOkUnless, OnE
 ghost use Rattle.sled_core.specs.Fits.{config_of, fault_of};
 ghost use Rattle.sled_log.specs.declared.session.command.Command.TheVariants as told;
 ghost use Rattle.sled_log.specs.Endings.{HasRoomFor, IsFormerFor, KeepsPages, TakesTicket, batch_left};
+ghost use Rattle.sled_log.specs.LogActs.{ActsOver};
 ghost use Rattle.sled_log.specs.RunPhases.{CarriesHere, RunsOn, view_by};
 
 use crate::session::Phase;
@@ -22,6 +23,7 @@ use sled_store::segment::accountant::CacheInfo;
 pub(crate) fn complete<D: Device, C: Checksum>(opened: &mut Opened<D, C>, number: usize) -> Reply
     ensures step { (stopped : D → Bool) → opened.old.due ≡ None → CarriesHere (view_by D.trace D.faults stopped) C.sum_of
         (Phase.Open opened.old) (told.Complete number) (Phase.Open opened.new, result) }
+    ensures device { (stopped : D → Bool) → ActsOver (view_by D.trace D.faults stopped) C.sum_of opened.old.log (told.Complete number) result opened.new.log }
     ensures on { RunsOn D.trace (config_of opened.old.log) (config_of opened.new.log) }
 {
     if room_for(opened, number).is_err() {
@@ -102,6 +104,7 @@ fn room_for<D: Device, C: Checksum>(opened: &mut Opened<D, C>, number: usize) ->
 pub(crate) fn abort<D: Device, C: Checksum>(opened: &mut Opened<D, C>, number: usize) -> Reply
     ensures step { (stopped : D → Bool) → opened.old.due ≡ None → CarriesHere (view_by D.trace D.faults stopped) C.sum_of
         (Phase.Open opened.old) (told.Abort number) (Phase.Open opened.new, result) }
+    ensures device { (stopped : D → Bool) → ActsOver (view_by D.trace D.faults stopped) C.sum_of opened.old.log (told.Abort number) result opened.new.log }
     ensures on { RunsOn D.trace (config_of opened.old.log) (config_of opened.new.log) }
 {
     let Some(
@@ -127,6 +130,7 @@ pub(crate) fn abort<D: Device, C: Checksum>(opened: &mut Opened<D, C>, number: u
 pub(crate) fn end<D: Device, C: Checksum>(opened: &mut Opened<D, C>) -> Reply
     ensures step { (stopped : D → Bool) → opened.old.due ≡ None → CarriesHere (view_by D.trace D.faults stopped) C.sum_of
         (Phase.Open opened.old) told.EndBatch (Phase.Open opened.new, result) }
+    ensures device { (stopped : D → Bool) → ActsOver (view_by D.trace D.faults stopped) C.sum_of opened.old.log told.EndBatch result opened.new.log }
     ensures on { RunsOn D.trace (config_of opened.old.log) (config_of opened.new.log) }
 {
     let Some(number) = opened.batch else {

@@ -2,6 +2,7 @@
 ghost use Rattle.std.specs.Prelude.{Bool, ◌≡◌, ◌∷◌, length, map, None};
 ghost use Rattle.sled_core.specs.Fits.{config_of};
 ghost use Rattle.sled_log.specs.declared.session.command.Command.TheVariants as told;
+ghost use Rattle.sled_log.specs.LogActs.{ActsOver, ReadsEntriesOver, ReadsItemOver};
 ghost use Rattle.sled_log.specs.Readings.{ReadsEntries, ReadsItem};
 ghost use Rattle.sled_log.specs.RunPhases.{CarriesHere, RunsOn, view_by};
 
@@ -20,6 +21,7 @@ use std::alloc::Global;
 pub(crate) fn read<D: Device, C: Checksum>(opened: &mut Opened<D, C>, page: PageId) -> Reply
     ensures step { (stopped : D → Bool) → opened.old.due ≡ None → CarriesHere (view_by D.trace D.faults stopped) C.sum_of
         (Phase.Open opened.old) (told.Read page) (Phase.Open opened.new, result) }
+    ensures device { (stopped : D → Bool) → ActsOver (view_by D.trace D.faults stopped) C.sum_of opened.old.log (told.Read page) result opened.new.log }
     ensures on { RunsOn D.trace (config_of opened.old.log) (config_of opened.new.log) }
 {
     let Some(state) = opened.pages.get(page as usize) else {
@@ -46,6 +48,7 @@ fn read_entries<D: Device, C: Checksum>(
     frags: &[Entry],
 ) -> Result<Vec<Vec<u8>>>
     ensures reads { (stopped : D → Bool) → ReadsEntries (view_by D.trace D.faults stopped) C.sum_of log.old page (base.now ∷ frags.now) log.new result }
+    ensures device { (stopped : D → Bool) → ReadsEntriesOver (view_by D.trace D.faults stopped) C.sum_of log.old page log.new result }
     ensures on { RunsOn D.trace (config_of log.old) (config_of log.new) }
 {
     if let Some(e) = log.failure() {
@@ -67,6 +70,7 @@ fn read_item<D: Device, C: Checksum>(
     pointer: DiskPtr,
 ) -> Result<Vec<u8>>
     ensures reads { (stopped : D → Bool) → ReadsItem (view_by D.trace D.faults stopped) C.sum_of log.old page place pointer log.new result }
+    ensures device { (stopped : D → Bool) → ReadsItemOver (view_by D.trace D.faults stopped) C.sum_of log.old page log.new result }
     ensures on { RunsOn D.trace (config_of log.old) (config_of log.new) }
 {
     match log.read(page, place, pointer)? {

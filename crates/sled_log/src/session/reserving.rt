@@ -4,6 +4,7 @@ ghost use Rattle.sled_codec.specs.History.{ChangesPage};
 ghost use Rattle.sled_codec.specs.declared.serialization.message.LogKind.TheVariants.{Free, Skip};
 ghost use Rattle.sled_core.specs.Manifests.{manifest_page};
 ghost use Rattle.sled_log.specs.declared.session.command.Command.TheVariants as told;
+ghost use Rattle.sled_log.specs.LogActs.{ActsOver, KeepsPlaceOver};
 ghost use Rattle.sled_log.specs.OpenTickets.{HasRoom};
 ghost use Rattle.sled_log.specs.Reservations.{GivesBack, HoldsTicket, MakesRoom, Reserves};
 ghost use Rattle.sled_log.specs.RunPhases.{CarriesHere, RunsOn, view_by};
@@ -36,6 +37,8 @@ pub(crate) fn reserve<D: Device, C: Checksum, T: Serialize>(
     requires plain { kind ≡ Free → T.short (T.meaning item.now) ≡ [] }
     ensures step { (stopped : D → Bool) → opened.old.due ≡ None → Reserves (view_by D.trace D.faults stopped) C.sum_of
         opened.old kind page (T.short (T.meaning item.now)) opened.new result }
+    ensures device { (stopped : D → Bool) → KeepsPlaceOver (view_by D.trace D.faults stopped) C.sum_of
+        opened.old.log kind page (T.short (T.meaning item.now)) result opened.new.log }
     ensures on { RunsOn D.trace (config_of opened.old.log) (config_of opened.new.log) }
 {
     if let Err(e) = room_for(opened, page) {
@@ -53,6 +56,7 @@ pub(crate) fn reserve<D: Device, C: Checksum, T: Serialize>(
 pub(crate) fn rewrite<D: Device, C: Checksum>(opened: &mut Opened<D, C>, page: PageId) -> Reply
     ensures step { (stopped : D → Bool) → opened.old.due ≡ None → CarriesHere (view_by D.trace D.faults stopped) C.sum_of
         (Phase.Open opened.old) (told.Rewrite page) (Phase.Open opened.new, result) }
+    ensures device { (stopped : D → Bool) → ActsOver (view_by D.trace D.faults stopped) C.sum_of opened.old.log (told.Rewrite page) result opened.new.log }
     ensures on { RunsOn D.trace (config_of opened.old.log) (config_of opened.new.log) }
 {
     let Some(blob) = opened.blob_of(page) else {
@@ -72,6 +76,7 @@ pub(crate) fn rewrite<D: Device, C: Checksum>(opened: &mut Opened<D, C>, page: P
 pub(crate) fn begin<D: Device, C: Checksum>(opened: &mut Opened<D, C>) -> Reply
     ensures step { (stopped : D → Bool) → opened.old.due ≡ None → CarriesHere (view_by D.trace D.faults stopped) C.sum_of
         (Phase.Open opened.old) told.BeginBatch (Phase.Open opened.new, result) }
+    ensures device { (stopped : D → Bool) → ActsOver (view_by D.trace D.faults stopped) C.sum_of opened.old.log told.BeginBatch result opened.new.log }
     ensures on { RunsOn D.trace (config_of opened.old.log) (config_of opened.new.log) }
 {
     if let Err(e) = room_for_ticket(opened) {

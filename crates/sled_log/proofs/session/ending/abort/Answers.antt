@@ -1,7 +1,7 @@
 use Rattle.std.proofs.Common.{◌∙◌, ◌∷◌, ap, sym, subst, Option, Some, Ok, Err, map, ℤ}
 use Rattle.std.specs.Int.{w64, cast_signed, cast_unsigned}
 use Rattle.sled_codec.specs.Snapshots.{page_of}
-use Rattle.sled_core.specs.Fits.{Awaits, given_up_of, machine_at, open_places}
+use Rattle.sled_core.specs.Fits.{Awaits, device_of, fault_of, given_up_of, machine_at, open_places, segment_size_of}
 use Rattle.sled_core.specs.Among.{AreAmong}
 use Rattle.sled_core.specs.Logged.{in_log}
 use Rattle.sled_core.specs.OpenPlaces.{TakesOut}
@@ -9,10 +9,16 @@ use Rattle.sled_core.specs.Tickets.{own_blob}
 use Rattle.sled_core.specs.invariants.Running.{Fits}
 use Rattle.sled_core.proofs.PublicLaws.{awaited, awaited_small, fits_holds, place_back}
 use Rattle.sled_codec.specs.declared.result.DiskPtr.{DiskPtr}
+use Rattle.sled_store.specs.declared.config.RunningConfig.{RunningConfig}
+use Rattle.sled_core.specs.declared.logger.Log.{Log}
+use Rattle.sled_log.specs.declared.session.command.Command.TheVariants as told
+use Rattle.sled_log.specs.declared.session.command.Refusal.TheVariants as why
+use Rattle.sled_log.specs.declared.session.command.Reply.TheVariants as reply
 use Rattle.sled_log.specs.Endings.{TakesTicket}
 use Rattle.sled_log.specs.RunPhases.{IsSafe, view_by}
 use Rattle.sled_log.proofs.Sessions.EndedTickets.{GivesUp, abort_fails, aborts, awaits_it, back_from, beside_ticket, does_back, open_there, takes_it}
 use Rattle.sled_log.proofs.session.ending.abort.Goals as goal
+use Rattle.sled_log.proofs.Sessions.LogActs.{abort_failed_acts, aborted_acts, from_taken, refused_acts}
 
 pub returns-in_default-clause-step : goal.returns-in_default-clause-step
 returns-in_default-clause-step g c = λ stopped. λ none k at asked.
@@ -74,3 +80,33 @@ returns-in-Ok-clause-step g c = λ stopped. λ none k at asked.
     (ap (λ x. map page_of x.items) takes.pages)
     (back_from view sum old k at c.args.number m its.1 mid c.in-Some.field-0 takes none new mid.pages c.unpin.new.log back.given back.fits k.history) did
     (subst (λ x. AreAmong (given_up_of new) (in_log m ∷ given_up_of x)) takes.log (c.abort-aborted.ensures.given_up m (subst (λ x. Awaits x ticket m) (sym takes.log) awaits))))
+
+-- What each does to the device.
+pub returns-in_default-clause-device : goal.returns-in_default-clause-device
+returns-in_default-clause-device g c = λ stopped.
+    let view = view_by g.D.Device.trace g.D.Device.faults stopped in
+    let old = c.args.opened.now.log in
+    refused_acts g.C.Checksum.sum_of (segment_size_of old) (view (device_of old)) _ (ap (λ (x : Log _ _). view (device_of x)) c.take_open.ensures.log) (told.Abort c.args.number) why.Ticket
+
+pub returns-in-Err-clause-device : goal.returns-in-Err-clause-device
+returns-in-Err-clause-device g c = λ stopped.
+    let view = view_by g.D.Device.trace g.D.Device.faults stopped in
+    let sum = g.C.Checksum.sum_of in
+    let mid = c.take_open.new.opened.log in
+    let new = c.abort-aborted.new.self in
+    let done = c.in-Err.ensures in
+    from_taken view sum c.args.opened.now.log mid new c.unpin.new.log (told.Abort c.args.number) (reply.Failed c.in-Err.e) c.take_open.ensures.log c.unpin.ensures.given
+    (abort_failed_acts sum (segment_size_of mid) c.args.number (view (device_of mid)) (view (device_of new)) (own_blob c.in-Some.field-0.reservation)
+    (λ none. ap (λ (x : RunningConfig _ _). view x.device) (done.device.none none)) c.abort-aborted.ensures.keeps.later (ℤ × DiskPtr) c.in-Err.e (fault_of mid) (fault_of new) done.device.calls
+    (λ some. ap (λ (x : Log _ _). view (device_of x)) (done.err.1 some)) done.answers)
+
+pub returns-in-Ok-clause-device : goal.returns-in-Ok-clause-device
+returns-in-Ok-clause-device g c = λ stopped.
+    let view = view_by g.D.Device.trace g.D.Device.faults stopped in
+    let sum = g.C.Checksum.sum_of in
+    let mid = c.take_open.new.opened.log in
+    let new = c.abort-aborted.new.self in
+    let done = c.in-Ok.ensures in
+    from_taken view sum c.args.opened.now.log mid new c.unpin.new.log (told.Abort c.args.number) _ c.take_open.ensures.log c.unpin.ensures.given
+    (aborted_acts sum (segment_size_of mid) c.args.number (view (device_of mid)) (view (device_of new)) (own_blob c.in-Some.field-0.reservation)
+    (λ none. ap (λ (x : RunningConfig _ _). view x.device) (done.device.none none)) c.abort-aborted.ensures.keeps.later _ _ done.device.done done.answers.2)

@@ -6,7 +6,7 @@ use Rattle.std.specs.List.{slice_get}
 use Rattle.std.specs.Int.{w64, cast_signed, cast_unsigned}
 use Rattle.std.proofs.lemmas.Bool.{false≢true}
 use Rattle.sled_store.specs.Marks.{told_of}
-use Rattle.sled_core.specs.Fits.{Awaits, KeepsAll, KeepsBuffers, fault_of, given_up_of, machine_at, open_places, pins_of}
+use Rattle.sled_core.specs.Fits.{Awaits, KeepsAll, KeepsBuffers, device_of, fault_of, given_up_of, machine_at, open_places, pins_of, segment_size_of}
 use Rattle.sled_core.specs.Among.{AreAmong}
 use Rattle.sled_core.specs.Keeps.{SamePosition}
 use Rattle.sled_core.specs.Manifests.{manifest_page}
@@ -15,6 +15,10 @@ use Rattle.sled_core.specs.invariants.Running.{Fits}
 use Rattle.sled_core.specs.Causes.{FaultAnswers}
 use Rattle.sled_core.proofs.PublicLaws.{awaited, awaited_small, fits_holds, place_back}
 use Rattle.sled_codec.specs.declared.result.DiskPtr.{DiskPtr}
+use Rattle.sled_codec.specs.declared.result.Error.TheVariants as error
+use Rattle.sled_store.specs.declared.config.RunningConfig.{RunningConfig}
+use Rattle.sled_core.specs.declared.logger.Log.{Log}
+use Rattle.sled_log.specs.declared.session.command.Refusal.TheVariants as why
 use Rattle.sled_log.specs.declared.session.command.Command.TheVariants.{Complete}
 use Rattle.sled_log.specs.declared.session.marking.Due.{Due}
 use Rattle.sled_log.specs.declared.session.opened.Opened.{Opened}
@@ -33,6 +37,7 @@ use Rattle.sled_log.proofs.Sessions.SafeItems.{safe_on}
 use Rattle.sled_log.proofs.session.ending.complete.Given.{Over}
 use Rattle.sled_log.proofs.session.ending.complete.Goals.{In-Some}
 use Rattle.sled_log.proofs.session.ending.complete.Goals as goal
+use Rattle.sled_log.proofs.Sessions.LogActs.{completed_still, failed_still, refused_acts}
 
 -- how a run sees a device
 abbrev seen_by : (g : Over) → (g.row.D.Denot → Bool) → g.row.D.Denot → DeviceView
@@ -167,3 +172,46 @@ returns-in-Ok-complete-clause-step g c = λ stopped. λ none k at asked.
     (c.apply.ensures ∙ ap (λ x. applied_to (map page_of x.items) c.in-Some.field-0.kind c.in-Some.field-0.page entry) took.pages)
     due (ap (λ (d : Due). d.kind) made) (ap (λ (d : Due). d.page) made) (ap (λ (d : Due). d.new) made) told
     c.settle.new.opened c.settle.result c.settle.ensures.rest c.settle.ensures.beside c.settle.ensures.settles)
+
+-- None asks anything of the device.
+pub returns-then-is_err-clause-device : goal.returns-then-is_err-clause-device
+returns-then-is_err-clause-device g c = λ stopped.
+    let view = seen_by g stopped in
+    let old = c.args.opened.now.log in
+    failed_still g.C.Checksum.sum_of (segment_size_of old) (view (device_of old)) _ (ap (λ (x : Log _ _). view (device_of x)) c.room_for.ensures.kept.log) (Complete c.args.number) error.OutOfMemory
+
+pub returns-in_default-clause-device : goal.returns-in_default-clause-device
+returns-in_default-clause-device g c = λ stopped.
+    let view = seen_by g stopped in
+    let old = c.args.opened.now.log in
+    failed_still g.C.Checksum.sum_of (segment_size_of old) (view (device_of old)) _ (ap (λ (x : Log _ _). view (device_of x)) c.room_for.ensures.kept.log) (Complete c.args.number) error.OutOfMemory
+
+pub returns-in_default-take_open-clause-device : goal.returns-in_default-take_open-clause-device
+returns-in_default-take_open-clause-device g c = λ stopped.
+    let view = seen_by g stopped in
+    let old = c.args.opened.now.log in
+    refused_acts g.C.Checksum.sum_of (segment_size_of old) (view (device_of old)) _
+    (ap (λ (x : Log _ _). view (device_of x)) c.take_open.ensures.log ∙ ap (λ (x : Log _ _). view (device_of x)) c.room_for.ensures.kept.log) (Complete c.args.number) why.Ticket
+
+pub returns-then-is_manifest-clause-device : goal.returns-then-is_manifest-clause-device
+returns-then-is_manifest-clause-device g c = λ stopped.
+    let view = seen_by g stopped in
+    let old = c.args.opened.now.log in
+    refused_acts g.C.Checksum.sum_of (segment_size_of old) (view (device_of old)) _
+    (ap (λ (x : Log _ _). view (device_of x)) c.take_open.ensures.log ∙ ap (λ (x : Log _ _). view (device_of x)) c.room_for.ensures.kept.log) (Complete c.args.number) why.Ticket
+
+pub returns-in-Err-clause-device : goal.returns-in-Err-clause-device
+returns-in-Err-clause-device g c = λ stopped.
+    let view = seen_by g stopped in
+    let old = c.args.opened.now.log in
+    failed_still g.C.Checksum.sum_of (segment_size_of old) (view (device_of old)) _
+    (ap (λ (x : Log _ _). view (device_of x)) c.unpin.ensures.given ∙ ap (λ (x : Log _ _). view (device_of x)) c.in-Err.ensures.err
+    ∙ ap (λ (x : Log _ _). view (device_of x)) c.take_open.ensures.log ∙ ap (λ (x : Log _ _). view (device_of x)) c.room_for.ensures.kept.log) (Complete c.args.number) c.in-Err.e
+
+pub returns-in-Ok-complete-clause-device : goal.returns-in-Ok-complete-clause-device
+returns-in-Ok-complete-clause-device g c = λ stopped.
+    let view = seen_by g stopped in
+    let old = c.args.opened.now.log in
+    completed_still g.C.Checksum.sum_of (segment_size_of old) (view (device_of old)) _
+    (ap (λ (x : RunningConfig _ _). view x.device) c.settle.ensures.beside.config ∙ ap (λ (x : RunningConfig _ _). view x.device) c.complete.ensures.same.config
+    ∙ ap (λ (x : Log _ _). view (device_of x)) c.take_open.ensures.log ∙ ap (λ (x : Log _ _). view (device_of x)) c.room_for.ensures.kept.log) c.args.number _ _

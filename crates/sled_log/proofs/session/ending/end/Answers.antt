@@ -1,5 +1,5 @@
 -- The batch that is begun ends with the greatest place that was reserved.
-use Rattle.std.proofs.Common.{Bool, ◌≡◌, ◌∙◌, ◌-ℤ◌, ◌<ℤ◌, ℤ, pos, to_z, of_z, w64, ap, sym, subst, Some, Err}
+use Rattle.std.proofs.Common.{Bool, ◌≡◌, ◌∙◌, ◌-ℤ◌, ◌<ℤ◌, ℤ, pos, to_z, of_z, w64, ap, refl, sym, subst, Some, Err}
 use Rattle.std.specs.Prelude.{FitsSigned}
 use Rattle.std.specs.List.{slice_get}
 use Rattle.std.proofs.lemmas.Bool.{false≢true}
@@ -9,7 +9,7 @@ use Rattle.sled_codec.specs.declared.result.DiskPtr.{DiskPtr}
 use Rattle.sled_codec.specs.History.{Message}
 use Rattle.sled_core.specs.Causes.{FaultAnswers}
 use Rattle.sled_core.specs.Batches.{EndsBatch, MayEndAt, NotesBatchOf}
-use Rattle.sled_core.specs.Fits.{Awaits, KeepsBuffers, fault_of, given_up_of, machine_at, open_places, reserved_end}
+use Rattle.sled_core.specs.Fits.{Awaits, KeepsBuffers, device_of, fault_of, given_up_of, machine_at, open_places, reserved_end, segment_size_of}
 use Rattle.sled_core.specs.Among.{AreAmong}
 use Rattle.sled_core.specs.Keeps.{SamePosition}
 use Rattle.sled_core.specs.Manifests.{manifest_page}
@@ -17,6 +17,9 @@ use Rattle.sled_core.specs.OpenPlaces.{TakesOut}
 use Rattle.sled_core.specs.Tickets.{place_of}
 use Rattle.sled_core.specs.invariants.Running.{Fits}
 use Rattle.sled_core.proofs.PublicLaws.{awaited, awaited_small, fits_holds, place_back}
+use Rattle.sled_store.specs.declared.config.RunningConfig.{RunningConfig}
+use Rattle.sled_log.specs.declared.session.command.Command.TheVariants as told
+use Rattle.sled_log.specs.declared.session.command.Refusal.TheVariants as why
 use Rattle.sled_log.specs.Endings.{TakesTicket}
 use Rattle.sled_log.specs.RunPhases.{HasBatch, IsOpenAt, IsSafe, Unstored, traces, view_by}
 use Rattle.sled_log.specs.RunStates.{DeviceView}
@@ -27,6 +30,7 @@ use Rattle.sled_log.proofs.session.ending.end.Goals.{After-reserved_offset-peg, 
 use Rattle.sled_log.proofs.Sessions.SafeItems.{safe_on}
 use Rattle.sled_log.proofs.session.ending.end.Goals as goal
 use Rattle.sled_log.proofs.Sessions.BegunHeads.{HasNoOther}
+use Rattle.sled_log.proofs.Sessions.LogActs.{ended_still, failed_still, refused_acts}
 
 -- the peg is read as it was, and is the greatest place that was reserved before
 peg_read : {D C : Type 0} (z : ℤ) (mid old : Log D C) → z ≡ pos (reserved_end mid) -ℤ pos 1 → mid ≡ old → FitsSigned w64 z → to_z w64 (of_z w64 z) ≡ pos (reserved_end old) -ℤ pos 1
@@ -129,3 +133,38 @@ returns-in-Err-clause-step g c = λ stopped. λ none k at asked.
     (end_fails (seen_by g stopped) sum old k at n its.0 its.1 its.2 mid ticket took none new (ℤ × DiskPtr) c.in-Err.e
     (back_from (seen_by g stopped) sum old k at n its.0 its.1 mid ticket took none new mid.pages c.unpin.new.log back.given back.fits)
     (subst (λ x. FaultAnswers {T = ℤ × DiskPtr} (Err c.in-Err.e) (fault_of x)) took.log c.in-Err.ensures.answers) (c.in-Err.ensures.err ∙ took.log))
+
+-- None asks anything of the device.
+pub returns-in_default-clause-device : goal.returns-in_default-clause-device
+returns-in_default-clause-device g c = λ stopped.
+    let view = seen_by g stopped in
+    let old = c.args.opened.now.log in
+    refused_acts g.C.Checksum.sum_of (segment_size_of old) (view (device_of old)) (view (device_of old)) refl told.EndBatch why.Batch
+
+pub returns-in_default-take_open-clause-device : goal.returns-in_default-take_open-clause-device
+returns-in_default-take_open-clause-device g c = λ stopped.
+    let view = seen_by g stopped in
+    let old = c.args.opened.now.log in
+    refused_acts g.C.Checksum.sum_of (segment_size_of old) (view (device_of old)) _ (ap (λ (x : Log _ _). view (device_of x)) c.take_open.ensures.log) told.EndBatch why.Batch
+
+pub returns-then-not-may_end_at-clause-device : goal.returns-then-not-may_end_at-clause-device
+returns-then-not-may_end_at-clause-device g c = λ stopped.
+    let view = seen_by g stopped in
+    let old = c.args.opened.now.log in
+    refused_acts g.C.Checksum.sum_of (segment_size_of old) (view (device_of old)) _ (ap (λ (x : Log _ _). view (device_of x)) c.take_open.ensures.log) told.EndBatch why.Batch
+
+pub returns-in-Ok-clause-device : goal.returns-in-Ok-clause-device
+returns-in-Ok-clause-device g c = λ stopped.
+    let view = seen_by g stopped in
+    let old = c.args.opened.now.log in
+    ended_still g.C.Checksum.sum_of (segment_size_of old) (view (device_of old)) _
+    (ap (λ (x : Log _ _). view (device_of x)) c.unpin.ensures.given ∙ ap (λ (x : RunningConfig _ _). view x.device) c.in-Ok.ensures.same.config
+    ∙ ap (λ (x : Log _ _). view (device_of x)) c.take_open.ensures.log) _ _
+
+pub returns-in-Err-clause-device : goal.returns-in-Err-clause-device
+returns-in-Err-clause-device g c = λ stopped.
+    let view = seen_by g stopped in
+    let old = c.args.opened.now.log in
+    failed_still g.C.Checksum.sum_of (segment_size_of old) (view (device_of old)) _
+    (ap (λ (x : Log _ _). view (device_of x)) c.unpin.ensures.given ∙ ap (λ (x : Log _ _). view (device_of x)) c.in-Err.ensures.err
+    ∙ ap (λ (x : Log _ _). view (device_of x)) c.take_open.ensures.log) told.EndBatch c.in-Err.e

@@ -1,16 +1,20 @@
 -- One more message is read.
-use Rattle.std.proofs.Common.{Bool, false, rules, ◌≡◌, ◌∙◌, ◌∷◌, ◌++◌, length, drop, drop-cons, get_or, ℕ, suc, ◌+◌, ◌<◌, pos, List, [], Err, ap, sym, subst, arith, refl}
+use Rattle.std.proofs.Common.{Bool, false, rules, ◌≡◌, ◌∙◌, ◌∷◌, ◌++◌, length, drop, drop-cons, get_or, ℕ, suc, ◌+◌, ◌<◌, pos, List, [], Err, ap, sym, subst, arith, refl, inl, inr}
 use Rattle.std.specs.Prelude.{Vec}
 use Rattle.std.specs.declared.alloc.Global.{Global}
 use Rattle.std.proofs.lemmas.List.{drop_all}
 use Rattle.std.proofs.lemmas.Result.{err_from_is_err_and}
 use Rattle.sled_codec.specs.declared.result.DiskPtr.TheVariants.{Inline}
+use Rattle.sled_codec.specs.declared.result.Error.TheVariants as error
 use Rattle.sled_codec.specs.Snapshots.{Entry}
+use Rattle.sled_store.specs.declared.config.Config.{Config}
+use Rattle.sled_log.specs.LogActs.{ReadsEntriesOver, ReadsSomeOver}
 use Rattle.sled_log.specs.Readings.{ReadsEntries}
 use Rattle.sled_log.specs.RunPhases.{view_by}
 use Rattle.sled_log.proofs.Sessions.Reading.{HasReadSome, all_read, kept_unread, none_read, one_failed, one_more, unread}
 use Rattle.sled_log.proofs.session.reading.read_entries.Given as given
 use Rattle.sled_log.proofs.session.reading.read_entries.Goals as goal
+use Rattle.sled_log.proofs.Sessions.LogActs.{no_writes, some_failed, some_more, some_none}
 
 -- The log keeps a failure.
 pub returns-in-Some-clause-reads : goal.returns-in-Some-clause-reads
@@ -42,6 +46,10 @@ loop-frag-init g c =
     record {
       some = λ stopped. let view = view_by g.D.Device.trace g.D.Device.faults stopped in subst (λ (l : List (Vec ℕ Global)). HasReadSome view g.C.Checksum.sum_of old c.args.page entries c.read_item.new.log l c.args.frags.now) (sym {A = List (Vec ℕ Global)} (c.push_reserved.ensures.items ∙ ap (λ (l : List (Vec ℕ Global)). l ++ c.in_ok-read_item.field-0 ∷ []) c.in_ok-items.ensures.items))
           (one_more view g.C.Checksum.sum_of old c.args.page entries old [] c.read_item.new.log c.args.base.now c.args.frags.now c.in_ok-read_item.field-0 (none_read view g.C.Checksum.sum_of old c.args.page entries (sym c.failure.ensures ∙ c.in_default.is)) (c.in_ok-read_item.ensures.reads stopped));
+      acts = λ stopped. let view = view_by g.D.Device.trace g.D.Device.faults stopped in
+          subst (λ (l : List (Vec ℕ Global)). ReadsSomeOver view g.C.Checksum.sum_of old c.args.page c.read_item.new.log l) (sym {A = List (Vec ℕ Global)} (c.push_reserved.ensures.items ∙ ap (λ (l : List (Vec ℕ Global)). l ++ c.in_ok-read_item.field-0 ∷ []) c.in_ok-items.ensures.items))
+          (some_more view g.C.Checksum.sum_of old c.args.page old [] (some_none view g.C.Checksum.sum_of old c.args.page (sym c.failure.ensures ∙ c.in_default.is)) c.read_item.new.log c.in_ok-read_item.field-0
+          (ap (λ (x : Config). x.segment_size) c.read_item.ensures.on.kept.config) (c.in_ok-read_item.ensures.device stopped));
       len = search rules;
       room = search rules;
     }
@@ -92,6 +100,9 @@ loop-frag-preserved g c =
     record {
       some = λ stopped. let view = view_by g.D.Device.trace g.D.Device.faults stopped in subst (λ (l : List (Vec ℕ Global)). HasReadSome view g.C.Checksum.sum_of old c.args.page entries new l rest) (sym pushed.items)
           (one_more view g.C.Checksum.sum_of old c.args.page entries now.log now.items.items new e rest c.in_ok-read_item-2.field-0 (some stopped) (c.in_ok-read_item-2.ensures.reads stopped));
+      acts = λ stopped. let view = view_by g.D.Device.trace g.D.Device.faults stopped in subst (λ (l : List (Vec ℕ Global)). ReadsSomeOver view g.C.Checksum.sum_of old c.args.page new l) (sym pushed.items)
+          (some_more view g.C.Checksum.sum_of old c.args.page now.log now.items.items (now.invariant.acts stopped) new c.in_ok-read_item-2.field-0
+          (ap (λ (x : Config). x.segment_size) c.read_item-in-loop-frag.ensures.on.kept.config) (c.in_ok-read_item-2.ensures.device stopped));
       len = (let more = pushed.len in omega (arith, len, more));
       room = (let same = pushed.capacity in omega (arith, room, same));
     }
@@ -112,3 +123,32 @@ pub returns-clause-on : goal.returns-clause-on
 returns-clause-on g c =
     let keeps = (c.loop-frag.invariant.some (λ d. false)).only.preserves in
     record { later = keeps.goes_on.later; kept = keeps.goes_on.config }
+
+-- What each does to the device.
+pub returns-in-Some-clause-device : goal.returns-in-Some-clause-device
+returns-in-Some-clause-device g c = λ stopped. (inr (inl refl), no_writes _ _ refl)
+
+pub returns-in_err-items-clause-device : goal.returns-in_err-items-clause-device
+returns-in_err-items-clause-device g c = λ stopped.
+    let view = view_by g.D.Device.trace g.D.Device.faults stopped in
+    let gives = err_from_is_err_and c.from_residual.result c.from_residual.ensures.1 in
+    let came : ReadsEntriesOver view g.C.Checksum.sum_of c.args.log.now c.args.page c.args.log.now (Err error.OutOfMemory) = (refl, no_writes _ _ refl) in
+    rw (gives.1, gives.2) came
+
+pub returns-in_err-read_item-clause-device : goal.returns-in_err-read_item-clause-device
+returns-in_err-read_item-clause-device g c = λ stopped.
+    let view = view_by g.D.Device.trace g.D.Device.faults stopped in
+    let old = c.args.log.now in
+    let gives = err_from_is_err_and c.from_residual-in_err-read_item.result c.from_residual-in_err-read_item.ensures.1 in
+    rw (gives.1, gives.2) (some_failed view g.C.Checksum.sum_of old c.args.page old [] (some_none view g.C.Checksum.sum_of old c.args.page (sym c.failure.ensures ∙ c.in_default.is)) c.read_item.new.log c.in_err-read_item.field-0.0
+    (c.in_err-read_item.ensures.device stopped))
+
+pub returns-in_err-read_item-2-clause-device : goal.returns-in_err-read_item-2-clause-device
+returns-in_err-read_item-2-clause-device g c = λ stopped.
+    let view = view_by g.D.Device.trace g.D.Device.faults stopped in
+    let gives = err_from_is_err_and c.from_residual-in_err-read_item-2.result c.from_residual-in_err-read_item-2.ensures.1 in
+    rw (gives.1, gives.2) (some_failed view g.C.Checksum.sum_of c.args.log.now c.args.page c.loop-frag.log c.loop-frag.items.items (c.loop-frag.invariant.acts stopped) c.read_item-in-loop-frag.new.log c.in_err-read_item-2.field-0.0
+    (c.in_err-read_item-2.ensures.device stopped))
+
+pub returns-clause-device : goal.returns-clause-device
+returns-clause-device g c = λ stopped. c.loop-frag.invariant.acts stopped

@@ -1,17 +1,20 @@
 -- The item of a message of what a page is, which stands in its record or is a blob.
-use Rattle.std.proofs.Common.{inl, inr, ◌≡◌, ◌∙◌, ℤ, sym, subst, to_z, of_z}
+use Rattle.std.proofs.Common.{inl, inr, ◌≡◌, ◌∙◌, ℤ, ap, sym, subst, to_z, of_z}
 use Rattle.std.specs.Int.{w64}
 use Rattle.std.proofs.lemmas.Int.{to_z-of_z}
 use Rattle.std.proofs.lemmas.Result.{err_from_is_err_and}
 use Rattle.sled_codec.specs.declared.result.Error.{Error}
 use Rattle.sled_store.specs.Device.{state_of}
 use Rattle.sled_core.specs.declared.logger.read_message.LogRead.{LogRead}
-use Rattle.sled_core.specs.Fits.{device_of, reserved_end}
-use Rattle.sled_core.specs.Reading.{GivesMessage}
+use Rattle.sled_core.specs.Fits.{device_of, reserved_end, synced_end}
+use Rattle.sled_core.specs.ReadBuffer.{IsUsedUpAt, held_at, settling}
+use Rattle.sled_core.specs.ReadPointer.{place_read}
+use Rattle.sled_core.specs.Reading.{GivesMessage, data_of}
 use Rattle.sled_log.specs.RunPhases.{view_by}
 use Rattle.sled_log.proofs.Sessions.Writing.{whole_of}
 use Rattle.sled_log.proofs.Sessions.Reading.{has_record, is_given, is_whole, read_failed, was_read}
 use Rattle.sled_log.proofs.session.reading.read_item.Goals as goal
+use Rattle.sled_log.proofs.Sessions.LogActs.{item_failed, item_read, settling_writes, writes_made}
 
 -- src/session/reading.rt:69:11
 pub returns-in_err-item-clause-reads : goal.returns-in_err-item-clause-reads
@@ -93,5 +96,33 @@ returns-in-Canceled g c =
               | inr (inr (inr (inr x))) ↦ subst (GivesMessage m) x.2 gives
             ]);
       };
+      device = λ stopped.
+          let view = view_by trace g.D.Device.faults stopped in
+          let at : ℤ = place_read place c.args.pointer in
+          (came.answers.5, writes_made (settling sum old at) (settling_writes sum old at) (view (device_of old)).trace (view (device_of new)).trace c.read.ensures.calls.at_most);
       on = record { later = c.read.ensures.keeps.preserves.goes_on.later; kept = c.read.ensures.keeps.preserves.goes_on.config };
     }
+
+-- What each does to the device.
+pub returns-in_err-item-clause-device : goal.returns-in_err-item-clause-device
+returns-in_err-item-clause-device g c = λ stopped.
+    let view = view_by g.D.Device.trace g.D.Device.faults stopped in
+    let sum = g.C.Checksum.sum_of in
+    let old = c.args.log.now in
+    let new = c.read.new.self in
+    let at : ℤ = place_read (to_z w64 (of_z w64 c.args.place)) c.args.pointer in
+    let gives = err_from_is_err_and c.from_residual.result c.from_residual.ensures.1 in
+    rw (gives.1, gives.2) (item_failed view sum old c.args.page new (state_of (view (device_of new)).trace).blobs.file c.args.pointer c.in_err-item.field-0.0 at (synced_end old) (reserved_end old) (held_at sum old at) (IsUsedUpAt old at)
+    c.in_err-item.ensures.answers (writes_made (settling sum old at) (settling_writes sum old at) (view (device_of old)).trace (view (device_of new)).trace c.read.ensures.calls.at_most))
+
+pub returns-in-Inline-clause-device : goal.returns-in-Inline-clause-device
+returns-in-Inline-clause-device g c = λ stopped.
+    let view = view_by g.D.Device.trace g.D.Device.faults stopped in
+    let sum = g.C.Checksum.sum_of in
+    let old = c.args.log.now in
+    let new = c.read.new.self in
+    let at : ℤ = place_read (to_z w64 (of_z w64 c.args.place)) c.args.pointer in
+    let came = c.in_ok-item.ensures in
+    item_read view sum old c.args.page new _ c.args.pointer c.in_ok-item.field-0 c.in-Inline.item came.answers.4 came.answers.5
+    (writes_made (settling sum old at) (settling_writes sum old at) (view (device_of old)).trace (view (device_of new)).trace c.read.ensures.calls.at_most) came.reading
+    (elim c.in-Inline.is [ inl x ↦ ap data_of x.2 | inr x ↦ ap data_of x.3 ])

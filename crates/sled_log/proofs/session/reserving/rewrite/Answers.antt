@@ -1,12 +1,20 @@
 -- A place is kept for the message of a page again whose item stays in its blob, or nothing is done but that room is made.
-use Rattle.std.proofs.Common.{◌∙◌, List, SFits, rules, subst, sym, ℕ}
+use Rattle.std.proofs.Common.{◌≡◌, ◌∙◌, ap, refl, List, SFits, rules, subst, sym, ℕ}
 use Rattle.std.specs.Int.{w64}
 use Rattle.std.proofs.lemmas.Int.{to_z-of_z}
-use Rattle.sled_core.specs.Fits.{Awaits, message_rewriting}
+use Rattle.sled_core.specs.Fits.{Awaits, device_of, message_rewriting, segment_size_of}
+use Rattle.sled_core.specs.declared.logger.Log.{Log}
+use Rattle.sled_store.specs.declared.config.RunningConfig.{RunningConfig}
+use Rattle.sled_log.specs.declared.session.opened.Opened.{Opened}
+use Rattle.sled_log.specs.declared.session.command.Command.TheVariants as told
+use Rattle.sled_log.specs.declared.session.command.Refusal.TheVariants as why
+use Rattle.sled_log.specs.declared.session.command.Reply.{Reply}
+use Rattle.sled_log.specs.LogActs.{LogActs}
 use Rattle.sled_log.specs.RunPhases.{view_by}
 use Rattle.sled_log.proofs.Sessions.Reserving.{noted_page}
 use Rattle.sled_log.proofs.Sessions.Rewriting.{failed_again, held_again, pinned_again, rewrite_does, rewrite_may, roomless_again}
 use Rattle.sled_log.proofs.session.reserving.rewrite.Goals as goal
+use Rattle.sled_log.proofs.Sessions.LogActs.{failed_still, refused_acts, rewritten_still}
 
 -- Without room for a ticket nothing is done.
 pub returns-in-Err-clause-step : goal.returns-in-Err-clause-step
@@ -48,3 +56,41 @@ returns-in-Err-rewrite_blob_pointer-clause-step g c = λ stopped. λ none k at a
     rewrite_does view sum old c.args.page c.give_back.new.opened c.give_back.result k at
     (failed_again view sum old mid k c.args.page c.room_for.ensures.room at none log came c.pin-guard.new.self c.pin-guard.ensures.taken
     c.in-Err-rewrite_blob_pointer.e c.in-Err-rewrite_blob_pointer.ensures.answers c.in-Err-rewrite_blob_pointer.ensures.err c.give_back.new.opened c.give_back.result c.give_back.ensures)
+
+-- None asks anything of the device.
+pub returns-in_default-clause-device : goal.returns-in_default-clause-device
+returns-in_default-clause-device g c = λ stopped.
+    let view = view_by g.D.Device.trace g.D.Device.faults stopped in
+    let device = view (device_of c.args.opened.now.log) in
+    refused_acts g.C.Checksum.sum_of (segment_size_of c.args.opened.now.log) device device refl (told.Rewrite c.args.page) why.Page
+
+pub returns-in-Err-clause-device : goal.returns-in-Err-clause-device
+returns-in-Err-clause-device g c = λ stopped.
+    let view = view_by g.D.Device.trace g.D.Device.faults stopped in
+    let old = c.args.opened.now in
+    failed_still g.C.Checksum.sum_of (segment_size_of old.log) (view (device_of old.log)) (view (device_of c.room_for.new.opened.log)) (ap (λ (x : Log _ _). view (device_of x)) c.room_for.ensures.room.log)
+    (told.Rewrite c.args.page) c.in-Err.e
+
+pub returns-in-Ok-clause-device : goal.returns-in-Ok-clause-device
+returns-in-Ok-clause-device g c = λ stopped.
+    let view = view_by g.D.Device.trace g.D.Device.faults stopped in
+    let old = c.args.opened.now in
+    let new = c.hold.new.opened in
+    let held = c.hold.ensures.held in
+    let same : view (device_of new.log) ≡ view (device_of old.log) =
+    ap (λ (x : Log _ _). view (device_of x)) held.log ∙ ap (λ (x : RunningConfig _ _). view x.device) c.rewrite_blob_pointer.ensures.same.config
+    ∙ ap (λ (x : Log _ _). view (device_of x)) c.pin-guard.ensures.taken ∙ ap (λ (x : Log _ _). view (device_of x)) c.room_for.ensures.room.log in
+    subst (λ (r : Reply). LogActs g.C.Checksum.sum_of (segment_size_of old.log) (told.Rewrite c.args.page) r (view (device_of old.log)) (view (device_of new.log))) (sym held.told)
+    (rewritten_still g.C.Checksum.sum_of (segment_size_of old.log) (view (device_of old.log)) (view (device_of new.log)) same c.args.page _ _ _)
+
+pub returns-in-Err-rewrite_blob_pointer-clause-device : goal.returns-in-Err-rewrite_blob_pointer-clause-device
+returns-in-Err-rewrite_blob_pointer-clause-device g c = λ stopped.
+    let view = view_by g.D.Device.trace g.D.Device.faults stopped in
+    let old = c.args.opened.now in
+    let new = c.give_back.new.opened in
+    let gives = c.give_back.ensures in
+    let same : view (device_of new.log) ≡ view (device_of old.log) =
+    ap (λ (x : Opened _ _). view (device_of x.log)) gives.given ∙ ap (λ (x : RunningConfig _ _). view x.device) c.rewrite_blob_pointer.ensures.same.config
+    ∙ ap (λ (x : Log _ _). view (device_of x)) c.pin-guard.ensures.taken ∙ ap (λ (x : Log _ _). view (device_of x)) c.room_for.ensures.room.log in
+    subst (λ (r : Reply). LogActs g.C.Checksum.sum_of (segment_size_of old.log) (told.Rewrite c.args.page) r (view (device_of old.log)) (view (device_of new.log))) (sym gives.told)
+    (failed_still g.C.Checksum.sum_of (segment_size_of old.log) (view (device_of old.log)) (view (device_of new.log)) same (told.Rewrite c.args.page) c.in-Err-rewrite_blob_pointer.e)

@@ -3,8 +3,9 @@ use Rattle.std.proofs.Common.{◌≡◌, ◌<◌, ◌∙◌, inl, inr, max, ℕ,
 use Rattle.std.proofs.lemmas.Option.{same_Some}
 use Rattle.sled_store.specs.Device.{Event, state_of}
 use Rattle.sled_store.specs.Script.{Performs}
+use Rattle.sled_core.specs.declared.logger.Log.{Log}
 use Rattle.sled_core.specs.Account.{account_of}
-use Rattle.sled_core.specs.Fits.{IsKept, IsUsedUpBelow, current_begin, device_of, fault_of, held_len, holding_below, reserved_end, segment_size_of, stable_end, synced_end}
+use Rattle.sled_core.specs.Fits.{IsKept, IsUsedUpBelow, current_begin, device_of, fault_of, flushing, held_len, holding_below, reserved_end, segment_size_of, stable_end, synced_end}
 use Rattle.sled_core.specs.Keeps.{HoldsFast}
 use Rattle.sled_core.specs.Logged.{logged}
 use Rattle.sled_core.specs.invariants.Running.{Fits}
@@ -18,6 +19,7 @@ use Rattle.sled_core.proofs.Line.StatusSeen.{some_reserved}
 use Rattle.sled_log.proofs.Sessions.Writing.{fails_to, flush_in, flush_out, has_written, holding_seen, if_held, keeps_failing, kept, kept_or_none, made_seen, put_writing, stable_seen, still_open, whole_of, why_of, writes_seen}
 use Rattle.sled_log.proofs.session.writing.flush.Goals as goal
 use Rattle.sled_log.proofs.Sessions.BegunHeads.{only_begun}
+use Rattle.sled_log.proofs.Sessions.LogActs.{flush_failed_acts, flushed_acts, held_cause, writes_made, writings_write}
 
 pub returns-in-Ok-clause-step : goal.returns-in-Ok-clause-step
 returns-in-Ok-clause-step g c = λ stopped. λ none k at free.
@@ -99,3 +101,22 @@ returns-in-Err-clause-step g c = λ stopped. λ none k at free.
       at = λ own. still_open trace sum opened new k k.acknowledged at (only_begun sum opened.log new c.flush.ensures.buffers.0.marked) put none (c.flush.ensures.keeps.preserves.fits H k.acknowledged k.floor at.unmarked at.fits);
       crash = λ own. c.flush.ensures.keeps.preserves.goes_on.crash H k.acknowledged k.floor at.unmarked at.fits;
     }
+
+-- What each does to the device.
+pub returns-in-Ok-clause-device : goal.returns-in-Ok-clause-device
+returns-in-Ok-clause-device g c = λ stopped.
+    let view = view_by g.D.Device.trace g.D.Device.faults stopped in
+    let old = c.args.opened.now.log in
+    let new = c.flush.new.self in
+    flushed_acts g.C.Checksum.sum_of (segment_size_of old) (view (device_of old)) (view (device_of new))
+    (writes_made (flushing g.C.Checksum.sum_of old) (writings_write _ _ _) (view (device_of old)).trace (view (device_of new)).trace c.flush.ensures.at_most) _ c.in-Ok.ensures.answers.4
+
+pub returns-in-Err-clause-device : goal.returns-in-Err-clause-device
+returns-in-Err-clause-device g c = λ stopped.
+    let view = view_by g.D.Device.trace g.D.Device.faults stopped in
+    let old = c.args.opened.now.log in
+    let new = c.flush.new.self in
+    flush_failed_acts g.C.Checksum.sum_of (segment_size_of old) (view (device_of old)) (view (device_of new))
+    (writes_made (flushing g.C.Checksum.sum_of old) (writings_write _ _ _) (view (device_of old)).trace (view (device_of new)).trace c.flush.ensures.at_most) c.in-Err.e
+    (held_cause ℕ _ c.in-Err.e (holding_below g.C.Checksum.sum_of old (reserved_end old)) (IsUsedUpBelow old (reserved_end old)) (fault_of old) (fault_of new) (view (device_of old)) (view (device_of new))
+    (λ x was. ap (λ (l : Log _ _). view (device_of l)) (c.flush.ensures.spares.faulty x was)) c.in-Err.ensures.answers)

@@ -1,12 +1,13 @@
 -- All up to a place is written and synced, unless a reservation of it is open, it wasn't reserved, memory or a further segment is wanting, the device fails, or the log keeps a failure.
-use Rattle.std.proofs.Common.{◌≡◌, ◌<◌, ◌<ℤ◌, ◌∙◌, pos, max, ℕ, ℤ, to_z, of_z, List, length, subst, sym, refl}
+use Rattle.std.proofs.Common.{◌≡◌, ◌<◌, ◌<ℤ◌, ◌∙◌, pos, max, ℕ, ℤ, to_z, of_z, List, length, ap, subst, sym, refl}
 use Rattle.std.specs.Int.{w64}
 use Rattle.std.proofs.lemmas.Int.{to_z-of_z}
+use Rattle.sled_core.specs.declared.logger.Log.{Log}
 use Rattle.sled_store.specs.Device.{Event}
 use Rattle.sled_store.specs.Script.{after_all}
-use Rattle.sled_core.specs.Fits.{current_begin, device_of, held_len, stable_end}
+use Rattle.sled_core.specs.Fits.{IsUsedUpBelow, current_begin, device_of, fault_of, held_len, reserved_end, segment_size_of, stable_end}
 use Rattle.sled_core.specs.Running.{end_below}
-use Rattle.sled_core.specs.Stable.{target_for}
+use Rattle.sled_core.specs.Stable.{held_for, stabilizing, target_for}
 use Rattle.sled_core.proofs.Holds.ReachLemmas.{fits_stable}
 use Rattle.sled_log.specs.RunPhases.{DoesHere, shown_due, view_by}
 use Rattle.sled_core.proofs.Line.StableTargets.{target_written}
@@ -17,6 +18,7 @@ use Rattle.sled_log.specs.declared.session.command.Command.TheVariants as told
 use Rattle.sled_log.specs.declared.session.command.Reply.TheVariants as reply
 use Rattle.sled_log.proofs.session.writing.stabilize.Goals as goal
 use Rattle.sled_log.proofs.Sessions.BegunHeads.{only_begun}
+use Rattle.sled_log.proofs.Sessions.LogActs.{stable_acts, stable_cause, stable_failed_acts, stabilizing_writes, writes_made}
 
 pub returns-in-Ok-clause-step : goal.returns-in-Ok-clause-step
 returns-in-Ok-clause-step g c = λ stopped. λ none k at free.
@@ -79,3 +81,24 @@ returns-in-Err-clause-step g c = λ stopped. λ none k at free.
       crash = λ own. c.make_stable.ensures.keeps.preserves.goes_on.crash k.history k.acknowledged k.floor at.unmarked at.fits;
     } in
     subst (λ (z : ℤ). DoesHere view sum (phase.Open opened) (told.Stable z) (phase.Open (over opened new), reply.Failed c.in-Err.e) k) (to_z-of_z w64 c.args.place c.ranges.place) done
+
+-- What each does to the device.
+pub returns-in-Ok-clause-device : goal.returns-in-Ok-clause-device
+returns-in-Ok-clause-device g c = λ stopped.
+    let view = view_by g.D.Device.trace g.D.Device.faults stopped in
+    let place : ℤ = to_z w64 (of_z w64 c.args.place) in
+    let old = c.args.opened.now.log in
+    let new = c.make_stable.new.self in
+    stable_acts g.C.Checksum.sum_of (segment_size_of old) (view (device_of old)) (view (device_of new))
+    (writes_made (stabilizing g.C.Checksum.sum_of old place) (stabilizing_writes g.C.Checksum.sum_of old place) (view (device_of old)).trace (view (device_of new)).trace c.make_stable.ensures.at_most) c.args.place _ c.in-Ok.ensures.answers.1.4
+
+pub returns-in-Err-clause-device : goal.returns-in-Err-clause-device
+returns-in-Err-clause-device g c = λ stopped.
+    let view = view_by g.D.Device.trace g.D.Device.faults stopped in
+    let place : ℤ = to_z w64 (of_z w64 c.args.place) in
+    let old = c.args.opened.now.log in
+    let new = c.make_stable.new.self in
+    stable_failed_acts g.C.Checksum.sum_of (segment_size_of old) (view (device_of old)) (view (device_of new))
+    (writes_made (stabilizing g.C.Checksum.sum_of old place) (stabilizing_writes g.C.Checksum.sum_of old place) (view (device_of old)).trace (view (device_of new)).trace c.make_stable.ensures.at_most) c.args.place c.in-Err.e
+    (stable_cause ℕ _ c.in-Err.e place (stable_end old) (reserved_end old) (held_for g.C.Checksum.sum_of old place) (IsUsedUpBelow old (target_for old place)) (fault_of old) (fault_of new) (view (device_of old)) (view (device_of new))
+    (λ x was. ap (λ (l : Log _ _). view (device_of l)) (c.make_stable.ensures.spares.faulty x was)) c.in-Err.ensures.answers)

@@ -1,8 +1,9 @@
 -- A buffer that nothing holds up is written, unless memory is wanting, the device fails, or the log keeps a failure.
 use Rattle.std.proofs.Common.{◌≡◌, ◌∙◌, ◌≤◌, ◌&&◌, inl, inr, nat_le, true, false, None, Option, Some, ap, sym, refl, arith, length}
 use Rattle.std.proofs.lemmas.Bool.Decides.{nat_tests}
+use Rattle.sled_core.specs.declared.logger.Log.{Log}
 use Rattle.sled_core.specs.Account.{account_of}
-use Rattle.sled_core.specs.Fits.{fault_of, ledger_of, machine_at, position_of, segment_size_of, waiting_of}
+use Rattle.sled_core.specs.Fits.{device_of, fault_of, ledger_of, machine_at, position_of, segment_size_of, waiting_of, writing_pending}
 use Rattle.sled_core.specs.Fronts.{synced_writes, syncs}
 use Rattle.std.specs.declared.io.Error.{Error as IoError}
 use Rattle.sled_core.specs.Waiting.{spans}
@@ -10,6 +11,7 @@ use Rattle.sled_core.specs.LogStatus.{failing, position_over, status_behind, sta
 use Rattle.sled_core.specs.Spans.{without_unheld}
 use Rattle.sled_log.specs.RunPhases.{seen, shown_due, view_by}
 use Rattle.sled_log.specs.RunStates.{LogView, pending_in_view}
+use Rattle.sled_log.specs.declared.session.command.Command.TheVariants as told
 use Rattle.sled_log.specs.declared.session.command.Refusal.TheVariants as why
 use Rattle.sled_log.proofs.Sessions.BegunHeads.{begun_none}
 use Rattle.sled_core.proofs.Line.StatusSeen.{over_seen, waiting_held, without_seen}
@@ -17,6 +19,7 @@ use Rattle.sled_core.proofs.Line.Wrote.{status_left, status_unwritten}
 use Rattle.sled_log.proofs.Sessions.FailedSteps.{step_failed}
 use Rattle.sled_log.proofs.Sessions.Writing.{held_none, index_fits, keeps_failing, kept, kept_or_none, never_held, pending_seen, put_writing, shows_waiting, spared, stands_left, still_open, unsynced, whole_of, why_of}
 use Rattle.sled_log.proofs.session.writing.write.Goals as goal
+use Rattle.sled_log.proofs.Sessions.LogActs.{answers_cause, refused_acts, write_failed_acts, writes_made, writings_write, written_acts}
 
 -- an index that isn't refused fits
 pub returns-then-i-pending-clause-step : goal.returns-then-i-pending-clause-step
@@ -125,3 +128,27 @@ returns-in-Err-clause-step g c = λ stopped. λ none k at free.
       at = λ own. still_open trace sum opened new k k.acknowledged at (begun_none sum old new (record { heads = c.write_to_log.ensures.heads; fillings = c.write_to_log.ensures.fillings })) put none (keeps.preserves.fits k.history k.acknowledged k.floor at.unmarked at.fits);
       crash = λ own. keeps.preserves.goes_on.crash k.history k.acknowledged k.floor at.unmarked at.fits;
     }
+
+-- What each does to the device.
+pub returns-then-i-pending-clause-device : goal.returns-then-i-pending-clause-device
+returns-then-i-pending-clause-device g c = λ stopped.
+    let view = view_by g.D.Device.trace g.D.Device.faults stopped in
+    let log = c.args.opened.now.log in
+    refused_acts g.C.Checksum.sum_of (segment_size_of log) (view (device_of log)) (view (device_of log)) refl (told.Write c.args.i) why.Index
+
+pub returns-in-Ok-clause-device : goal.returns-in-Ok-clause-device
+returns-in-Ok-clause-device g c = λ stopped.
+    let view = view_by g.D.Device.trace g.D.Device.faults stopped in
+    let old = c.args.opened.now.log in
+    let new = c.write_to_log.new.self in
+    written_acts g.C.Checksum.sum_of (segment_size_of old) (view (device_of old)) (view (device_of new))
+    (writes_made (writing_pending old c.args.i) (writings_write _ _ _) (view (device_of old)).trace (view (device_of new)).trace c.write_to_log.ensures.at_most) c.args.i c.in-Ok.ensures.answers.2
+
+pub returns-in-Err-clause-device : goal.returns-in-Err-clause-device
+returns-in-Err-clause-device g c = λ stopped.
+    let view = view_by g.D.Device.trace g.D.Device.faults stopped in
+    let old = c.args.opened.now.log in
+    let new = c.write_to_log.new.self in
+    write_failed_acts g.C.Checksum.sum_of (segment_size_of old) (view (device_of old)) (view (device_of new))
+    (writes_made (writing_pending old c.args.i) (writings_write _ _ _) (view (device_of old)).trace (view (device_of new)).trace c.write_to_log.ensures.at_most) c.args.i c.in-Err.e
+    (answers_cause (Unit {0}) _ c.in-Err.e (fault_of old) (fault_of new) (view (device_of old)) (view (device_of new)) (λ x was. ap (λ (l : Log _ _). view (device_of l)) (c.write_to_log.ensures.faulty x was)) c.in-Err.ensures.answers)
