@@ -27,11 +27,11 @@ Stays p q = ((tickets_of q ≡ tickets_of p) ⊎ (tickets_of q ≡ []) ⊎ ((t :
     × (q ≡ record p { device = q.device; log = q.log; due = q.due })
 
 -- A ticket is given, under the next number, for a message of this kind, page and item, at the place and with the pointer that are told; or none is.
-abbrev pub Reserves : RunState → LogKind → ℕ → List ℕ → Reply → RunState → Type 0
-Reserves p kind page bytes (reply.Reserved number place pointer) q =
+abbrev pub GivesTicket : RunState → LogKind → ℕ → List ℕ → Reply → RunState → Type 0
+GivesTicket p kind page bytes (reply.Reserved number place pointer) q =
     (m : Message) × (m.kind ≡ kind) × (m.page ≡ page) × (m.bytes ≡ bytes) × (pos m.place ≡ place) × (m.pointer ≡ pointer) × (number ≡ length (tickets_of p))
     × (tickets_of q ≡ tickets_of p ++ Some m ∷ []) × (q ≡ record p { device = q.device; log = q.log; due = q.due })
-Reserves p kind page bytes _ q = Stays p q
+GivesTicket p kind page bytes _ q = Stays p q
 
 -- This comes to the history, for the message of a ticket, which is spent.
 abbrev pub Comes : RunState → ℕ → Message → HistoryEvent → RunState → Type 0
@@ -44,27 +44,27 @@ Acknowledges p Meant q = (p.acknowledged ≤ q.acknowledged) × ((m : Message) �
     × (tickets_of q ≡ tickets_of p) × (q ≡ record p { device = q.device; acknowledged = q.acknowledged; log = q.log; due = q.due })
 
 -- A recovery gave this snapshot: the table of what was completed below its cut, as `IsGood` says. What lies past the cut is forgotten.
-abbrev pub Restores : (List ℕ → ℕ) → ℕ → RunState → SnapshotModel → RunState → Type 0
-Restores sum size p s q = IsGood sum size (content_of (state_of q.device.trace)) p.history p.acknowledged p.floor s × (tickets_of q ≡ [])
+abbrev pub RecoveryGives : (List ℕ → ℕ) → ℕ → RunState → SnapshotModel → RunState → Type 0
+RecoveryGives sum size p s q = IsGood sum size (content_of (state_of q.device.trace)) p.history p.acknowledged p.floor s × (tickets_of q ≡ [])
     × (q ≡ record p { device = q.device; history = below p.history (stable_place s.stable); floor = stable_place s.stable; log = q.log; due = q.due })
 
 -- What a command that is answered so comes to. An opening that fails has a cause, and may have recovered before.
 abbrev pub Moves : (List ℕ → ℕ) → ℕ → RunState → Command → Reply → RunState → Type 0
-Moves sum size p (command.Replace page item) r q = Reserves p does.Replace page (short_bytes item.items) r q
-Moves sum size p (command.Link page item) r q = Reserves p does.Link page (short_bytes item.items) r q
-Moves sum size p (command.Free page) r q = Reserves p does.Free page [] r q
+Moves sum size p (command.Replace page item) r q = GivesTicket p does.Replace page (short_bytes item.items) r q
+Moves sum size p (command.Link page item) r q = GivesTicket p does.Link page (short_bytes item.items) r q
+Moves sum size p (command.Free page) r q = GivesTicket p does.Free page [] r q
 Moves sum size p (command.Rewrite page) (reply.Reserved n place pointer) q =
-    (m : Message) × (page_now p.history page ≡ m ∷ []) × Reserves p does.Replace page m.bytes (reply.Reserved n place pointer) q
-Moves sum size p command.BeginBatch r q = Reserves p does.Skip manifest_page blank_manifest r q
+    (m : Message) × (page_now p.history page ≡ m ∷ []) × GivesTicket p does.Replace page m.bytes (reply.Reserved n place pointer) q
+Moves sum size p command.BeginBatch r q = GivesTicket p does.Skip manifest_page blank_manifest r q
 Moves sum size p command.EndBatch (reply.Done z pointer) q =
     (t : ℕ) × (m : Message) × (b : Batch) × (m.page ≡ manifest_page) × (pos m.place ≡ z) × (b.low ≡ m.place) × HasAll p b × Comes p t m (Batched b) q
 Moves sum size p (command.Complete t) (reply.Done place pointer) q = (m : Message) × Comes p t m (Completed m) q
 Moves sum size p command.Flush (reply.Flushed n) q = Acknowledges p (λ m. Unit {0}) q
 Moves sum size p (command.Stable l) (reply.Flushed n) q = Acknowledges p (λ m. pos m.place ≤ℤ l) q
-Moves sum size p command.Open (reply.Opened stable active pages) q = (s : SnapshotModel) × IsShown stable active pages s × Restores sum size p s q
+Moves sum size p command.Open (reply.Opened stable active pages) q = (s : SnapshotModel) × IsShown stable active pages s × RecoveryGives sum size p s q
 Moves sum size p command.Open (reply.Failed e) q =
-    IsStartCause e p.device.failures q.device.failures × (Stays p q ⊎ ((s : SnapshotModel) × Restores sum size p s q))
-Moves sum size p command.Open reply.Stopped q = IsTrue q.device.is_stopped × (Stays p q ⊎ ((s : SnapshotModel) × Restores sum size p s q))
+    IsStartCause e p.device.failures q.device.failures × (Stays p q ⊎ ((s : SnapshotModel) × RecoveryGives sum size p s q))
+Moves sum size p command.Open reply.Stopped q = IsTrue q.device.is_stopped × (Stays p q ⊎ ((s : SnapshotModel) × RecoveryGives sum size p s q))
 Moves sum size p c r q = Stays p q
 
 -- What is told besides, whatever the device has: a `Read` that is answered by items gives those of the page's messages, its Replace first, and of a page that

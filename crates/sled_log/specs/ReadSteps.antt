@@ -15,8 +15,8 @@ use Rattle.sled_core.specs.Spans.{held, spans_place}
 use Rattle.sled_log.specs.declared.session.command.Reply.{Reply}
 use Rattle.sled_log.specs.declared.session.command.Reply.TheVariants as reply
 use Rattle.sled_log.specs.RunStates.{DeviceView, EndsInReach, LogView, RunState, is_present}
-use Rattle.sled_log.specs.RunStates.{view_at, with_log}
-use Rattle.sled_log.specs.WriteSteps.{Fails, IfHeld, KeepsFailing, LeavesLog, StepFailed, Writes, WritesSome}
+use Rattle.sled_log.specs.RunStates.{with_status, with_log}
+use Rattle.sled_log.specs.WriteSteps.{Fails, IfHeld, KeepsFailing, LeavesLogAt, StepFailed, Writes, WritesSome}
 
 -- the place that a read of a message brings to the device: its own, or that of its blob
 abbrev pub read_at : Message → ℕ
@@ -27,7 +27,7 @@ read_at m = unsigned_abs (place_read (pos m.place) m.pointer)
 abbrev pub read_around : ℕ → LogView → ℕ → List BufferAt → LogView
 read_around size l at bs =
     if nat_lt at l.status.synced then l
-    else view_at l (wrote_around size at (ledger_behind size (one_around at bs) (ledger_around at l.status)) l.status)
+    else with_status l (wrote_around size at (ledger_behind size (one_around at bs) (ledger_around at l.status)) l.status)
 
 abbrev pub chosen_around : LogView → ℕ → List BufferAt → List BufferAt
 chosen_around l at bs = if nat_lt at l.status.synced then [] else free_around at bs
@@ -40,7 +40,7 @@ abbrev pub holding_read : LogView → ℕ → Option ℕ
 holding_read l at = if nat_lt at l.status.synced then None else held_around_place l.status.opens at (sealed_around at l.status)
 
 -- The buffer with a place is on the device: it was written, where the place wasn't stable.
-pub record ReadsAt (sum : List ℕ → ℕ) (size : ℕ) (l : LogView) (at : ℕ) (old new : DeviceView) : Type 0 where
+pub record BringsToDevice (sum : List ℕ → ℕ) (size : ℕ) (l : LogView) (at : ℕ) (old new : DeviceView) : Type 0 where
   pub free : holding_read l at ≡ None
   pub writes : Writes sum size l (sealed_around at l.status) (chosen_around l at) (ledger_around at l.status) old new
   pub failures : new.failures ≡ old.failures
@@ -49,7 +49,7 @@ pub record ReadsAt (sum : List ℕ → ℕ) (size : ℕ) (l : LogView) (at : ℕ
 abbrev pub ReadsAll : (List ℕ → ℕ) → ℕ → LogView → List Message → DeviceView → DeviceView → LogView → Type 0
 ReadsAll sum size l [] old new end = (new.trace ≡ old.trace) × (new.failures ≡ old.failures) × (end ≡ l)
 ReadsAll sum size l (m ∷ ms) old new end =
-    (mid : DeviceView) × (reads : ReadsAt sum size l (read_at m) old mid)
+    (mid : DeviceView) × (reads : BringsToDevice sum size l (read_at m) old mid)
     × ReadsAll sum size (read_around size l (read_at m) reads.writes.buffers) ms mid new end
 
 -- A read of a place failed: the buffer that has it is sealed, or isn't and the read wasn't held up, and it isn't written: where it is the current one that
@@ -58,15 +58,15 @@ abbrev pub FailsAt : (List ℕ → ℕ) → ℕ → RunState → LogView → ℕ
 FailsAt sum size a l at e old new b =
     Fails l e (holding_read l at) ((l.status.start.place ≤ at) × (EndsInReach size l.status.position → ⊥)) old new (λ fault.
     (WritesSome sum size l (sealed_around at l.status) (chosen_around l at) (ledger_around at l.status) 0 e fault old new
-    × ((IfHeld e ⊥ × LeavesLog a l new b (failing fault l.status) × (l.status.start.place ≤ at → fault ≡ None))
-    ⊎ LeavesLog a l new b (failing fault (seal_around size at l.status))))
+    × ((IfHeld e ⊥ × LeavesLogAt a l new b (failing fault l.status) × (l.status.start.place ≤ at → fault ≡ None))
+    ⊎ LeavesLogAt a l new b (failing fault (seal_around size at l.status))))
     ⊎ ((holding_read l at ≡ None) × (writes : Writes sum size l (sealed_around at l.status) (chosen_around l at) (ledger_around at l.status) old new)
-    × LeavesLog a l new b (failing fault (wrote_around size at (ledger_behind size (one_around at writes.buffers) (ledger_around at l.status)) l.status)))
+    × LeavesLogAt a l new b (failing fault (wrote_around size at (ledger_behind size (one_around at writes.buffers) (ledger_around at l.status)) l.status)))
     ⊎ ((holding_read l at ≡ None)
     × (some : WritesSome sum size l (sealed_around at l.status) (chosen_around l at) (ledger_around at l.status) 1 e fault old new)
     × (account : Account) × (account ≡ account_behind (one_around at some.buffers) l.status.account)
     × (left : Machine) × StepFailed size l account.mark (ledger_around at l.status).machine left fault new.trace
-    × LeavesLog a l new b (failing fault (wrote_around size at (record { machine = left; account = account }) l.status))))
+    × LeavesLogAt a l new b (failing fault (wrote_around size at (record { machine = left; account = account }) l.status))))
 
 -- Some messages of a page were read, and the next one was not.
 pub record ReadStops (sum : List ℕ → ℕ) (size : ℕ) (a : RunState) (l : LogView) (ms : List Message) (e : Error) (new : DeviceView) (b : RunState) : Type 0 where

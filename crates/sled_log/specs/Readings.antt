@@ -21,7 +21,7 @@ use Rattle.sled_log.specs.declared.session.command.Reply.TheVariants as reply
 use Rattle.sled_log.specs.Made.{IsMade}
 use Rattle.sled_log.specs.RunPhases.{HasHeads, Unstored, seen_log, traces}
 use Rattle.sled_log.specs.RunStates.{DeviceView, LogView, RunState, is_present, top, with_log, MarkAt, heads_at}
-use Rattle.sled_log.specs.ReadSteps.{FailsAt, ReadStep, ReadsAt, read_around, read_at}
+use Rattle.sled_log.specs.ReadSteps.{FailsAt, ReadStep, BringsToDevice, read_around, read_at}
 
 -- A log fits what a session keeps in mind, what it counts as given up was, its headers and fillings that aren't on the device are those that were begun, and
 -- zeros pass as no header.
@@ -46,7 +46,7 @@ pub record IsOfPage (H : History) (end page : ℕ) (m : Message) : Type 0 where
 abbrev pub IsItem : {D C : Type 0} → (D → DeviceView) → (List ℕ → ℕ) → Log D C → LogView → Message → Log D C → LogView
     → Result (Vec ℕ Global) Error → Type 0
 IsItem view sum old l m new l' (Ok item) =
-    (item.items ≡ m.bytes) × (l.status.fault ≡ None) × (reads : ReadsAt sum (segment_size_of old) l (read_at m) (view (device_of old)) (view (device_of new)))
+    (item.items ≡ m.bytes) × (l.status.fault ≡ None) × (reads : BringsToDevice sum (segment_size_of old) l (read_at m) (view (device_of old)) (view (device_of new)))
     × (l' ≡ read_around (segment_size_of old) l (read_at m) reads.writes.buffers)
 IsItem view sum old l m new l' (Err e) =
     l.status.fault ≡ None → (a : RunState)

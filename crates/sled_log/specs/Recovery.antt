@@ -94,16 +94,16 @@ last_entry base [] = base
 last_entry base (e ∷ es) = last_entry e es
 
 -- a page with a Link on it, where that lies behind all that the page has
-abbrev pub linked : Page → Entry → Page
-linked (Present base frags) e = if int_lt (last_entry base frags).0 e.0 then Present base (frags ++ e ∷ []) else Present base frags
-linked (Free place pointer) e = Free place pointer
-linked Uninitialized e = Uninitialized
+abbrev pub with_fragment : Page → Entry → Page
+with_fragment (Present base frags) e = if int_lt (last_entry base frags).0 e.0 then Present base (frags ++ e ∷ []) else Present base frags
+with_fragment (Free place pointer) e = Free place pointer
+with_fragment Uninitialized e = Uninitialized
 
 -- What a message makes of a table. A Link on a page that isn't there gives it no page.
 abbrev pub table_with : List Page → LogKind → ℕ → Entry → List Page
 table_with pages does.Replace page e = set (grown pages (page + 1)) page (Present e [])
 table_with pages does.Free page e = set (grown pages (page + 1)) page (Free e.0 e.1)
-table_with pages does.Link page e = grown (set pages page (linked (get_or pages page Uninitialized) e)) page
+table_with pages does.Link page e = grown (set pages page (with_fragment (get_or pages page Uninitialized) e)) page
 table_with pages does.Skip page e = pages
 table_with pages does.Corrupted page e = pages
 
@@ -236,16 +236,16 @@ PassesOver sum size blobs first end passes unread o =
     ⊎ ((MeetsBadBlob sum blobs (passed_all end passes) → ⊥) × (o ≡ outcome_of size first end (map (resolved_scan blobs end) passes) unread))
 
 -- the slots of these segments
-abbrev pub slots_of : List Segment → List ℕ
-slots_of segments = map (λ s. s.slot) segments
+abbrev pub slots_in_order : List Segment → List ℕ
+slots_in_order segments = map (λ s. s.slot) segments
 
 -- what comes of a tail that ends there
 abbrev pub Passes : (List ℕ → ℕ) → ℕ → List ℕ → (ℤ → Option (List ℕ)) → SnapshotModel → List Segment → Option ℕ → Outcome → Type 0
-Passes sum size log blobs first ordering None o = o ≡ Recovered (unchanged first (slots_of ordering))
+Passes sum size log blobs first ordering None o = o ≡ Recovered (unchanged first (slots_in_order ordering))
 Passes sum size log blobs first ordering (Some end) o =
     ((o ≡ Damaged None) × IsDamagedPass sum size log end (begun_below end ordering))
     ⊎ ((passes : List Scanned) × AreReplayed sum size log end (begun_below end ordering) passes
-    × PassesOver sum size blobs first end passes (slots_of (drop (length passes) ordering)) o)
+    × PassesOver sum size blobs first end passes (slots_in_order (drop (length passes) ordering)) o)
 
 -- the blob of each record that is met in these is missing or passes for it
 abbrev pub HaveGoodBlobs : (List ℕ → ℕ) → (ℤ → Option (List ℕ)) → List Scanned → Type 0

@@ -7,7 +7,7 @@ use Rattle.sled_log.specs.declared.session.command.Refusal.{Refusal}
 use Rattle.sled_log.specs.declared.session.command.Refusal.TheVariants as why
 use Rattle.sled_log.specs.declared.session.command.Reply.{Reply}
 use Rattle.sled_log.specs.declared.session.command.Reply.TheVariants as reply
-use Rattle.sled_log.specs.RunStates.{LogView, RunState, has_message, has_page, has_ticket, in_batch, is_present, one_blob, open_messages, page_now}
+use Rattle.sled_log.specs.RunStates.{LogView, RunState, has_message, has_message_for, has_ticket, in_batch, is_present, one_blob, open_messages, page_now}
 use Rattle.sled_log.specs.RunStates.{pending_in_view}
 
 -- this reason, where it fits, or else another
@@ -16,7 +16,7 @@ when fits w rest = if fits then Some w else rest
 
 -- a page has an open ticket
 abbrev pub is_busy : LogView → ℕ → Bool
-is_busy l page = has_page page (open_messages l.tickets)
+is_busy l page = has_message_for page (open_messages l.tickets)
 
 -- a page isn't present
 abbrev pub is_absent : History → ℕ → Bool

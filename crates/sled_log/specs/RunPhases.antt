@@ -34,7 +34,7 @@ use Rattle.sled_log.specs.declared.session.command.Reply.{Reply}
 use Rattle.sled_core.specs.LogStatus.{status_of}
 use Rattle.sled_log.specs.Made.{IsMade, MayJoin}
 use Rattle.sled_log.specs.Refusals.{reason_of, refusal_for}
-use Rattle.sled_log.specs.RunStates.{DeviceView, DueMark, LogView, RunState, ShowsActive, has_page, in_batch, open_messages, top, MarkAt}
+use Rattle.sled_log.specs.RunStates.{DeviceView, DueMark, LogView, RunState, ShowsActive, has_message_for, in_batch, open_messages, top, MarkAt}
 use Rattle.sled_log.specs.TicketSteps.{own_of}
 use Rattle.sled_log.specs.Runs.{Carries, CarriesOn, IsOwn, IsStep, StaysWithin, StepBy}
 
@@ -156,7 +156,7 @@ pub record HasTickets {D C : Type 0} (trace : D → Trace) (sum : List ℕ → �
   pub apart : (i j : ℕ) (m n : Message) → slice_get tickets i ≡ Some (Some m) → slice_get tickets j ≡ Some (Some n) → m.page ≡ n.page → i ≡ j
   pub rising : AreRising (map (λ m. m.place) (open_messages tickets))
   pub are_all : fault_of opened.log ≡ None → open_places opened.log ≡ map (λ m. m.place) (open_messages tickets)
-  pub busy : (page : ℕ) → page ≢ manifest_page → get_or opened.busy.items page false ≡ has_page page (open_messages tickets)
+  pub busy : (page : ℕ) → page ≢ manifest_page → get_or opened.busy.items page false ≡ has_message_for page (open_messages tickets)
   pub batch : HasBatch tickets opened.batch
 
 -- Each header of a log that isn't on the device has the mark that its segment was begun with, and what fills one of its segments begins where what was reserved

@@ -63,8 +63,8 @@ heads_at l start =
     else l.heads
 
 -- it stands there now
-abbrev pub view_at : LogView → LogStatus → LogView
-view_at l s = record l { status = s; heads = heads_at l s.start }
+abbrev pub with_status : LogView → LogStatus → LogView
+with_status l s = record l { status = s; heads = heads_at l s.start }
 
 -- A mark of a completed message, of this page and known to the log by this, in place of these: all that the page was, or none, where it is a Link.
 pub record DueMark : Type 0 where
@@ -129,8 +129,8 @@ started_on size len s = record {
 }
 
 -- how long the body of the record of an item of n bytes is: it is the item, or the place of its blob
-abbrev pub body_in : ℕ → ℕ → ℕ
-body_in size n = if in_blob size n then 8 else n
+abbrev pub body_length_in : ℕ → ℕ → ℕ
+body_length_in size n = if in_blob size n then 8 else n
 
 -- where the record of a page with a body of n bytes is put
 abbrev pub target_in : ℕ → LogView → ℕ → ℕ → Position
@@ -139,7 +139,7 @@ target_in size l page n = placed_at size l.status.position page n
 -- the message of a page with these bytes that is reserved next, in its record or in a blob under its place
 abbrev pub message_at : ℕ → LogView → LogKind → ℕ → List ℕ → Message
 message_at size l kind page bytes =
-    let n = body_in size (length bytes) in
+    let n = body_length_in size (length bytes) in
     let q = target_in size l page n in
     record {
       kind = kind;
@@ -164,7 +164,7 @@ pub record EndsInReach (size : ℕ) (q : Position) : Type 0 where
 -- The log ready for a record that begins at a position, which it has none of, with the failure that it keeps: behind what fills the current segment, where
 -- the record begins a further one. What was reserved ends where it did.
 abbrev pub made_ready : LogView → Position → Option IoError → LogView
-made_ready l q fault = view_at l (failing fault (readied q l.status))
+made_ready l q fault = with_status l (failing fault (readied q l.status))
 
 -- The active segment that a snapshot shows: none where its place is the end of a segment, else a slot, and its place lies where a record can begin.
 abbrev pub ShowsActive : ℕ → ℕ → Option ℕ → Type 0
@@ -185,9 +185,9 @@ places_without place [] = []
 places_without place (p ∷ ps) = if p == place then ps else p ∷ places_without place ps
 
 -- one of them is of a page
-abbrev pub has_page : ℕ → List Message → Bool
-has_page page [] = false
-has_page page (m ∷ ms) = if m.page == page then true else has_page page ms
+abbrev pub has_message_for : ℕ → List Message → Bool
+has_message_for page [] = false
+has_message_for page (m ∷ ms) = if m.page == page then true else has_message_for page ms
 
 -- a ticket is open
 abbrev pub is_some : Option Message → Bool
@@ -225,7 +225,7 @@ pub record HasAll (a : RunState) (b : Batch) : Type 0 where
 
 -- a batch is begun: its manifest has an open ticket
 abbrev pub in_batch : List (Option Message) → Bool
-in_batch tickets = has_page manifest_page (open_messages tickets)
+in_batch tickets = has_message_for manifest_page (open_messages tickets)
 
 -- how many of its sealed buffers can be written
 abbrev pub pending_in_view : LogView → ℕ

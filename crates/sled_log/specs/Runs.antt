@@ -35,15 +35,15 @@ use Rattle.sled_log.specs.TicketSteps.{AbortStep, CompleteStep, EndStep, Reserve
 use Rattle.sled_log.specs.WriteSteps.{FlushStep, StableStep, WriteStep}
 
 -- what a crash leaves that takes a choice or doesn't
-abbrev pub left_after : Choice → Bool → Left
-left_after choice taken = if taken then left_of choice else Settled []
+abbrev pub left_by_choice : Choice → Bool → Left
+left_by_choice choice taken = if taken then left_of choice else Settled []
 
 -- The device crashed: what was chosen was taken exactly where a crash may leave that, and else what was synced. It is no longer stopped. Without memory for
 -- what was chosen nothing is done.
 abbrev pub CrashActs : Choice → DeviceView → Reply → DeviceView → Type 0
 CrashActs choice old (reply.Crashed taken) new =
     (IsTrue taken ↔ MayBeChosen choice (state_of old.trace))
-    × (new ≡ record { trace = Crashed (left_after choice taken) ∷ old.trace; failures = old.failures; is_stopped = false })
+    × (new ≡ record { trace = Crashed (left_by_choice choice taken) ∷ old.trace; failures = old.failures; is_stopped = false })
 CrashActs choice old (reply.Failed OutOfMemory) new = new ≡ old
 CrashActs choice old _ new = ⊥
 
@@ -109,7 +109,7 @@ module _ (sum : List ℕ → ℕ) (size : ℕ) where
   abbrev pub IsOwn : State → Command → Reply → Type 0
   IsOwn s command.Open (reply.Refused w) = Unit {0}
   IsOwn s command.Open r = ReadsOnlyOwn sum size s
-  IsOwn s (command.Crash choice) (reply.Crashed taken) = NoForeign sum size s (content_left (left_after choice taken) s)
+  IsOwn s (command.Crash choice) (reply.Crashed taken) = NoForeign sum size s (content_left (left_by_choice choice taken) s)
   IsOwn s _ r = Unit {0}
 
   -- What a command comes to that isn't refused, where this log is open or none is, once no mark is due: what it makes of the device, and where the run stands

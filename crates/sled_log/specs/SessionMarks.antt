@@ -48,12 +48,12 @@ mark_for size floor H m =
     record { kind = m.kind; page = m.page; old = replacing m.kind (map (told_message size floor) (page_now H m.page)); new = info_of m }
 
 -- what a mark of this kind makes of the slots
-abbrev pub slots_by : ℕ → LogKind → DueMark → Machine → Machine
-slots_by size does.Link d m = linked size d.page d.new m
-slots_by size kind d m = replaced size d.page d.new d.old m
+abbrev pub slots_after : ℕ → LogKind → DueMark → Machine → Machine
+slots_after size does.Link d m = linked size d.page d.new m
+slots_after size kind d m = replaced size d.page d.new d.old m
 
 abbrev pub slots_marked : ℕ → DueMark → Machine → Machine
-slots_marked size d m = slots_by size d.kind d m
+slots_marked size d m = slots_after size d.kind d m
 
 -- a log with one pin less
 abbrev pub without_pin : LogView → LogView

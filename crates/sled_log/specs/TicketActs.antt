@@ -16,7 +16,7 @@ use Rattle.sled_core.specs.Manifests.{kind_for}
 use Rattle.sled_core.specs.OwnBlobs.{removing}
 use Rattle.sled_log.specs.declared.session.command.Reply.{Reply}
 use Rattle.sled_log.specs.declared.session.command.Reply.TheVariants as reply
-use Rattle.sled_log.specs.RunStates.{DeviceView, LogView, body_in, target_in}
+use Rattle.sled_log.specs.RunStates.{DeviceView, LogView, body_length_in, target_in}
 use Rattle.sled_log.specs.TicketSteps.{own_of}
 
 -- These calls on a blob were made: all of them where the command did what it is for, those up to one that failed where the device did, and none where it
@@ -37,7 +37,7 @@ making_for sum (Some kind) place bytes = making place (blob_bytes sum (code_of k
 abbrev pub ReserveActs : (List ℕ → ℕ) → ℕ → LogView → LogKind → ℕ → List ℕ → DeviceView → Reply → DeviceView → Type 0
 ReserveActs sum size l kind page bytes old r new =
     MatchBool (in_blob size (length bytes))
-    (BlobActs (making_for sum (kind_for kind page true 8) (pos (target_in size l page (body_in size (length bytes))).place) bytes) l.status.fault old r new)
+    (BlobActs (making_for sum (kind_for kind page true 8) (pos (target_in size l page (body_length_in size (length bytes))).place) bytes) l.status.fault old r new)
     (new ≡ old)
 
 -- the blob that the reservation of a ticket made

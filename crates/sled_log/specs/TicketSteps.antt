@@ -22,8 +22,8 @@ use Rattle.sled_core.specs.Reserves.{MadeAnswers}
 use Rattle.sled_core.specs.LogStatus.{failing, is_behind, noted_too, pinned, reserving_at}
 use Rattle.sled_log.specs.declared.session.command.Reply.{Reply}
 use Rattle.sled_log.specs.declared.session.command.Reply.TheVariants as reply
-use Rattle.sled_log.specs.RunStates.{DeviceView, EndsInReach, LogView, RunState, body_in, made_ready, message_at, one_blob, page_now}
-use Rattle.sled_log.specs.RunStates.{places_without, rewriting_at, target_in, view_at, with_log}
+use Rattle.sled_log.specs.RunStates.{DeviceView, EndsInReach, LogView, RunState, body_length_in, made_ready, message_at, one_blob, page_now}
+use Rattle.sled_log.specs.RunStates.{places_without, rewriting_at, target_in, with_status, with_log}
 use Rattle.sled_log.specs.SessionMarks.{mark_for, marking, without_pin}
 
 -- the place and the pointer that are answered are those of a message
@@ -32,7 +32,7 @@ IsAnswerFor m place pointer = (place ≡ pos m.place) × (pointer ≡ m.pointer)
 
 -- the log with a reservation for a message that begins at this position, which has a pin
 abbrev pub reserving : ℕ → LogView → Position → Message → LogView
-reserving size l q m = record (view_at l (pinned (reserving_at size q m.place m.size l.status))) { tickets = l.tickets ++ Some m ∷ [] }
+reserving size l q m = record (with_status l (pinned (reserving_at size q m.place m.size l.status))) { tickets = l.tickets ++ Some m ∷ [] }
 
 -- the places of the open reservations of the buffer that a record would be of that begins at this position
 abbrev pub opens_beside : LogView → Position → List ℕ
@@ -81,10 +81,10 @@ pub record BlobRefused (size : ℕ) (a : RunState) (l : LogView) (q : Position) 
 
 abbrev pub ReserveStep : ℕ → RunState → LogView → LogKind → ℕ → List ℕ → Reply → DeviceView → RunState → Type 0
 ReserveStep size a l kind page bytes (reply.Reserved ticket place pointer) new b =
-    HasReserved size a l (target_in size l page (body_in size (length bytes))) (message_at size l kind page bytes) ticket place pointer new b
+    HasReserved size a l (target_in size l page (body_length_in size (length bytes))) (message_at size l kind page bytes) ticket place pointer new b
 ReserveStep size a l kind page bytes (reply.Failed e) new b =
-    RefusedStep size a l (target_in size l page (body_in size (length bytes))) e b
-    ⊎ ((in_blob size (length bytes) ≡ true) × BlobRefused size a l (target_in size l page (body_in size (length bytes))) e new b)
+    RefusedStep size a l (target_in size l page (body_length_in size (length bytes))) e b
+    ⊎ ((in_blob size (length bytes) ≡ true) × BlobRefused size a l (target_in size l page (body_length_in size (length bytes))) e new b)
 ReserveStep size a l kind page bytes _ new b = ⊥
 
 -- A place was kept for a Replace of a page that is one Replace with its item in a blob: the item stays there.
@@ -177,29 +177,29 @@ pub record HasBegun (l : LogView) : Type 0 where
   pub manifest : message.page ≡ manifest_page
 
 -- its batch ends with the greatest place that was reserved
-abbrev pub batch_of : LogView → Message → Batch
-batch_of l m = record { low = m.place; peg = l.status.reserved - 1 }
+abbrev pub batch_ended_by : LogView → Message → Batch
+batch_ended_by l m = record { low = m.place; peg = l.status.reserved - 1 }
 
 -- the log with one more batch noted, by place
 abbrev pub noting : Batch → LogView → LogView
 noting batch l = record l { status = noted_too batch l.status }
 
 -- A batch that was begun comes to the history, and is noted.
-pub record HasEnded (a : RunState) (l : LogView) (place : ℤ) (pointer : DiskPtr) (new : DeviceView) (b : RunState) : Type 0 where
+pub record HasEndedBatch (a : RunState) (l : LogView) (place : ℤ) (pointer : DiskPtr) (new : DeviceView) (b : RunState) : Type 0 where
   pub begun : HasBegun l
   pub fault : l.status.fault ≡ None
   pub answer : IsAnswerFor begun.message place pointer
   pub history : History
-  pub step : Step a.history (Batched (batch_of l begun.message)) history
+  pub step : Step a.history (Batched (batch_ended_by l begun.message)) history
   pub leads : b ≡ record a {
     device = new;
     history = history;
-    log = Some (noting (batch_of l begun.message) (without_pin (spent l begun.ticket (places_without begun.message.place l.status.opens) l.begun)));
+    log = Some (noting (batch_ended_by l begun.message) (without_pin (spent l begun.ticket (places_without begun.message.place l.status.opens) l.begun)));
   }
 
 -- Where the log keeps a failure its ticket is spent, with its pin, and the reservation stays open.
 abbrev pub EndStep : RunState → LogView → Reply → DeviceView → RunState → Type 0
-EndStep a l (reply.Done place pointer) new b = HasEnded a l place pointer new b
+EndStep a l (reply.Done place pointer) new b = HasEndedBatch a l place pointer new b
 EndStep a l (reply.Failed (Io e)) new b =
     (l.status.fault ≡ Some e) × ((begun : HasBegun l) × (b ≡ with_log a new (Some (without_pin (spent l begun.ticket l.status.opens l.begun)))))
 EndStep a l _ new b = ⊥

@@ -30,7 +30,7 @@ use Rattle.sled_core.specs.LogStatus.{wrote_front, wrote_one}
 use Rattle.sled_core.specs.Spans.{first_waiting, held, held_among, spans_below, spans_from}
 use Rattle.sled_log.specs.declared.session.command.Reply.{Reply}
 use Rattle.sled_log.specs.declared.session.command.Reply.TheVariants as reply
-use Rattle.sled_log.specs.RunStates.{DeviceView, EndsInReach, LogView, MarkAt, RunState, view_at}
+use Rattle.sled_log.specs.RunStates.{DeviceView, EndsInReach, LogView, MarkAt, RunState, with_status}
 use Rattle.sled_log.specs.RunStates.{with_log}
 
 -- Failures.
@@ -116,8 +116,8 @@ pub record StepFailed (size : ℕ) (l : LogView) (mark : ℤ) (from left : Machi
   pub due : (stabilized size mark from).calls ≢ []
 
 -- the run goes on with a log that stands there
-abbrev pub LeavesLog : RunState → LogView → DeviceView → RunState → LogStatus → Type 0
-LeavesLog a l new b s = b ≡ with_log a new (Some (view_at l s))
+abbrev pub LeavesLogAt : RunState → LogView → DeviceView → RunState → LogStatus → Type 0
+LeavesLogAt a l new b s = b ≡ with_log a new (Some (with_status l s))
 
 -- the buffers that begin below a place, those that are left behind them, and the least place of an open reservation that holds the first ones up
 abbrev pub written_below : ℕ → LogView → List Span
@@ -151,7 +151,7 @@ pub record HasWrittenTo (sum : List ℕ → ℕ) (size : ℕ) (a : RunState) (l 
     device = new;
     acknowledged = max a.acknowledged (end_below (stable_from to l) a.history);
     log =
-        Some (view_at l (failing None (wrote_below size to (ledger_behind size (front_below to writes.buffers) (ledger_below to l.status)) l.status)));
+        Some (with_status l (failing None (wrote_below size to (ledger_behind size (front_below to writes.buffers) (ledger_below to l.status)) l.status)));
   }
 
 -- slots and marks behind the writes of the first of these buffers
@@ -165,11 +165,11 @@ abbrev pub FailsTo : (List ℕ → ℕ) → ℕ → RunState → LogView → ℕ
 FailsTo sum size a l to e new b =
     Fails l e (holding to l) ((l.status.start.place < to) × (EndsInReach size l.status.position → ⊥)) a.device new (λ fault.
     (count : ℕ) × (some : WritesSome sum size l (sealed_below to l.status) (free_below to) (ledger_below to l.status) count e fault a.device new)
-    × ((LeavesLog a l new b (failing fault (wrote_front size to count (ledger_after size to l some.buffers count) l.status))
+    × ((LeavesLogAt a l new b (failing fault (wrote_front size to count (ledger_after size to l some.buffers count) l.status))
     × (first_waiting (drop count (sealed_below to l.status)) (start_below to l.status) < to))
     ⊎ ((0 < count) × (account : Account) × (account ≡ (ledger_after size to l some.buffers count).account)
     × (left : Machine) × StepFailed size l account.mark (ledger_after size to l some.buffers (count - 1)).machine left fault new.trace
-    × LeavesLog a l new b (failing fault (wrote_front size to count (record { machine = left; account = account }) l.status)))
+    × LeavesLogAt a l new b (failing fault (wrote_front size to count (record { machine = left; account = account }) l.status)))
     ⊎ ((count ≡ 0) × (l.status.start.place < to) × IfHeld e ⊥ × (b ≡ with_log a new (Some l)) × (fault ≡ None))))
 
 -- All that was reserved is written. From the segment of the mark that joined on all completed messages are on the device, and of those in front of it what the
@@ -214,13 +214,13 @@ abbrev pub WriteStep : (List ℕ → ℕ) → ℕ → RunState → LogView → �
 WriteStep sum size a l i reply.Written new b =
     (l.status.fault ≡ None) × (writes : Writes sum size l l.status.waiting (one_pending i) (ledger_in l.status) a.device new)
     × (new.failures ≡ a.device.failures)
-    × LeavesLog a l new b (failing None (wrote_one size i (ledger_behind size (one_pending i writes.buffers) (ledger_in l.status)) l.status))
+    × LeavesLogAt a l new b (failing None (wrote_one size i (ledger_behind size (one_pending i writes.buffers) (ledger_in l.status)) l.status))
 WriteStep sum size a l i (reply.Failed e) new b =
     KeepsFailing a l e new b
     ⊎ Fails l e None ⊥ a.device new (λ fault.
-    (WritesSome sum size l l.status.waiting (one_pending i) (ledger_in l.status) 0 e fault a.device new × LeavesLog a l new b (failing fault l.status))
+    (WritesSome sum size l l.status.waiting (one_pending i) (ledger_in l.status) 0 e fault a.device new × LeavesLogAt a l new b (failing fault l.status))
     ⊎ ((some : WritesSome sum size l l.status.waiting (one_pending i) (ledger_in l.status) 1 e fault a.device new)
     × (account : Account) × (account ≡ account_behind (one_pending i some.buffers) l.status.account)
     × (left : Machine) × StepFailed size l account.mark l.status.machine left fault new.trace
-    × LeavesLog a l new b (failing fault (wrote_one size i (record { machine = left; account = account }) l.status))))
+    × LeavesLogAt a l new b (failing fault (wrote_one size i (record { machine = left; account = account }) l.status))))
 WriteStep sum size a l i _ new b = ⊥

@@ -43,8 +43,8 @@ abbrev pub snapshot_number_of : SnapshotModel → ℤ
 snapshot_number_of s = unwrap_or s.stable (pos 0)
 
 -- the calls that remove the snapshots of these numbers
-abbrev pub removing : List ℤ → List Event
-removing numbers = map (λ n. SnapshotRemoved n true) numbers
+abbrev pub removing_snapshots : List ℤ → List Event
+removing_snapshots numbers = map (λ n. SnapshotRemoved n true) numbers
 
 -- the calls that publish these bytes under a number and settle that
 abbrev pub publishing_file : List ℕ → ℤ → List Event
@@ -52,7 +52,7 @@ publishing_file bytes number = SnapshotFilled bytes bytes ∷ SnapshotPublished 
 
 -- the calls that publish a table and remove the snapshots of these numbers
 abbrev pub publishing : (List ℕ → ℕ) → SnapshotModel → List ℤ → List Event
-publishing sum s numbers = publishing_file (short_file sum s) (snapshot_number_of s) ++ removing numbers
+publishing sum s numbers = publishing_file (short_file sum s) (snapshot_number_of s) ++ removing_snapshots numbers
 
 -- a number is another one than the one that is kept
 abbrev pub is_other : ℤ → ℤ → Bool

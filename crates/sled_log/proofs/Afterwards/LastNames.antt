@@ -20,7 +20,7 @@ use Rattle.sled_core.specs.Reading.{BlobIsBelow}
 use Rattle.sled_core.specs.inside.Running.{KeepsEntries}
 use Rattle.sled_core.proofs.Blobs.ItemsStay.{items_removed}
 use Rattle.sled_log.specs.Recovery.{RecoveryResult}
-use Rattle.sled_log.specs.WritesBack.{shredding, zeroing, removing, short_file, snapshot_number_of, publishing_file, publishing, forgetting, writing_back}
+use Rattle.sled_log.specs.WritesBack.{shredding, zeroing, removing_snapshots, short_file, snapshot_number_of, publishing_file, publishing, forgetting, writing_back}
 use Rattle.sled_log.proofs.Moments.BlobsAlong.{stand_gone}
 use Rattle.sled_log.proofs.Moments.BlobsRemoved.{IsAbove}
 use Rattle.sled_log.proofs.Moments.LogAlong.{NamesBegin, BlobsStand}
@@ -72,12 +72,12 @@ module _ (sum : List ℕ → ℕ) (size : ℕ) (H : History) (f cut : ℕ) (Allo
       abbrev named : NamesState
       named = renamed names (pos cut) true (record { file = Some bytes; is_unsynced = false }) (bytes ∷ [])
 
-      removals_end : (ns : List ℤ) → ((n : ℤ) → Contains ns n → n ≢ pos cut) → (t : State) → IsPublished t.snapshots names.file (pos cut) bytes → BlobsStand sum H cut t.blobs → KeepsEntries sum t.blobs H cut → Ends (removing ns ++ es) t
+      removals_end : (ns : List ℤ) → ((n : ℤ) → Contains ns n → n ≢ pos cut) → (t : State) → IsPublished t.snapshots names.file (pos cut) bytes → BlobsStand sum H cut t.blobs → KeepsEntries sum t.blobs H cut → Ends (removing_snapshots ns ++ es) t
       removals_end [] apart t is there keeps = rest t (record { begin = published_as sum size H f cut s new names.file first tables not_above Allowed allowed t.snapshots is; stand = there; items = keeps })
       removals_end (m ∷ ns) apart t is there keeps =
           removals_end ns (λ n at. apart n (in_rest m n ns at)) (step (SnapshotRemoved m true) t) (published_removed t.snapshots (pos cut) bytes names.file m (apart m (in_first m ns)) is) there keeps
 
-      publishing_end : (ns : List ℤ) → ((n : ℤ) → Contains ns n → n ≢ pos cut) → (log : LogState) (temporary : Temporary) (placed : List Placement) → Ends (publishing_file bytes (pos cut) ++ (removing ns ++ es)) (device log temporary placed)
+      publishing_end : (ns : List ℤ) → ((n : ℤ) → Contains ns n → n ≢ pos cut) → (log : LogState) (temporary : Temporary) (placed : List Placement) → Ends (publishing_file bytes (pos cut) ++ (removing_snapshots ns ++ es)) (device log temporary placed)
       publishing_end ns apart log temporary placed =
           removals_end ns apart (record { log = log; blobs = names_synced blobs; snapshots = names_synced named; temporary = record { bytes = bytes; asked = bytes }; placed = placed })
           (published_synced names (pos cut) bytes settled) (subst (BlobsStand sum H cut) (sym firm) stand) (subst (λ (s : NamesState). KeepsEntries sum s H cut) (sym firm) items)
@@ -96,7 +96,7 @@ module _ (sum : List ℕ → ℕ) (size : ℕ) (H : History) (f cut : ℕ) (Allo
       commits true is_new log temporary placed =
           let table = made is_new in
           let number : snapshot_number_of x.model ≡ pos cut = ap (λ (o : Option ℤ). unwrap_or o (pos 0)) table.stable in
-          subst (λ (k : ℤ). Ends (publishing_file (short_file sum x.model) k ++ (removing ns ++ forget)) (device log temporary placed)) (sym number)
+          subst (λ (k : ℤ). Ends (publishing_file (short_file sum x.model) k ++ (removing_snapshots ns ++ forget)) (device log temporary placed)) (sym number)
           (publishing_end x.model table (allowed is_new) not_above forget forgets ns (apart is_new) log temporary placed)
 
       fills : (r : Option (ℕ × ℕ)) (es : List Event) → ((log : LogState) (placed : List Placement) (temporary : Temporary) → Ends es (device log temporary placed)) → (log : LogState) (temporary : Temporary) (placed : List Placement) → Ends (shredding r ++ es) (device log temporary placed)

@@ -8,7 +8,7 @@ use Rattle.sled_store.proofs.Traces.ScriptLemmas.{EndsIn, ends_in}
 use Rattle.sled_core.specs.OwnNames.{ReadsStayOwn}
 use Rattle.sled_core.proofs.Blobs.StaysOwn.{own_removing, own_same, own_settled, own_unlisting}
 use Rattle.sled_log.specs.Recovery.{RecoveryResult}
-use Rattle.sled_log.specs.WritesBack.{HasWrittenBack, forgetting, publishing, removing, short_file, shredding, snapshot_number_of, writing_back, zeroing}
+use Rattle.sled_log.specs.WritesBack.{HasWrittenBack, forgetting, publishing, removing_snapshots, short_file, shredding, snapshot_number_of, writing_back, zeroing}
 
 module _ (sum : List ℕ → ℕ) (size : ℕ) where
   abbrev Ends : List Event → State → Type 0
@@ -26,7 +26,7 @@ module _ (sum : List ℕ → ℕ) (size : ℕ) where
 
   module _ (es : List Event) (rest : (t : State) → ReadsStayOwn sum t → Ends es t) where
     -- Snapshots are removed before other calls.
-    snapshots_gone : (ns : List ℤ) (s : State) → ReadsStayOwn sum s → Ends (removing ns ++ es) s
+    snapshots_gone : (ns : List ℤ) (s : State) → ReadsStayOwn sum s → Ends (removing_snapshots ns ++ es) s
     snapshots_gone [] s own = rest s own
     snapshots_gone (n ∷ ns) s own = snapshots_gone ns (step (SnapshotRemoved n true) s) (own_unlisting sum n true s own)
 

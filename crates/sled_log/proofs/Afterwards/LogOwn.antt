@@ -25,7 +25,7 @@ use Rattle.sled_core.proofs.OwnLog.Recovering.{rest_filled}
 use Rattle.sled_core.proofs.OwnLog.ScanEnds.{reads_inside}
 use Rattle.sled_core.proofs.OwnLog.Starting.{file_synced, slot_overwritten}
 use Rattle.sled_log.specs.Recovery.{RecoveryResult, Scanned, shred_range_of}
-use Rattle.sled_log.specs.WritesBack.{HasWrittenBack, forgetting, publishing, removing, short_file, shredding, snapshot_number_of, writing_back, zeroing}
+use Rattle.sled_log.specs.WritesBack.{HasWrittenBack, forgetting, publishing, removing_snapshots, short_file, shredding, snapshot_number_of, writing_back, zeroing}
 use Rattle.sled_log.proofs.Afterwards.LeftGood.{fits, free}
 use Rattle.sled_log.proofs.Moments.CutSegment.{cut_segment}
 use Rattle.sled_log.proofs.Moments.RecoveryAlong.{shreds}
@@ -106,7 +106,7 @@ module _ (sum : List ℕ → ℕ) (size : ℕ) (none : NoHeaderOfZeros sum) (big
 
   module _ (es : List Event) (rest : (t : State) → IsPlacedTo t → Ends es t) where
     -- Snapshots are removed before other calls.
-    snapshots_gone : (ns : List ℤ) (s : State) → IsPlacedTo s → Ends (removing ns ++ es) s
+    snapshots_gone : (ns : List ℤ) (s : State) → IsPlacedTo s → Ends (removing_snapshots ns ++ es) s
     snapshots_gone [] s placed = rest s placed
     snapshots_gone (k ∷ ns) s placed = snapshots_gone ns (step (SnapshotRemoved k true) s) (record { own = placed.own; long = placed.long })
 

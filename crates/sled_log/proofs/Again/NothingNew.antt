@@ -9,7 +9,7 @@ use Rattle.sled_core.specs.declared.iterator.scan.ScanEnd.{ScanEnd}
 use Rattle.sled_core.specs.Scan.{IsScan}
 use Rattle.sled_core.proofs.Tail.OneReading.{one_scan}
 use Rattle.sled_core.proofs.Tail.Rows.{cut_cases}
-use Rattle.sled_log.specs.Recovery.{Scanned, IsScanned, GoesOn, IsTail, tail_end, begun_below, AreReplayed, open_at, stops_in, cut_of, given, passed_in, has_no_table, are_whole, table_of, is_beyond, resolved_scan, outcome_of, unchanged, RecoveryResult, Recovered, slots_of, PassesOver, Passes, Replays}
+use Rattle.sled_log.specs.Recovery.{Scanned, IsScanned, GoesOn, IsTail, tail_end, begun_below, AreReplayed, open_at, stops_in, cut_of, given, passed_in, has_no_table, are_whole, table_of, is_beyond, resolved_scan, outcome_of, unchanged, RecoveryResult, Recovered, slots_in_order, PassesOver, Passes, Replays}
 use Rattle.sled_log.proofs.Again.FilledRest.{broken_at}
 use Rattle.sled_log.proofs.Recovers.OnePass.{same_pass}
 use Rattle.sled_log.proofs.Replay.BlobLemmas.{open_resolved, stops_resolved}
@@ -75,7 +75,7 @@ module _ (sum : List ℕ → ℕ) (size : ℕ) (log : List ℕ) (blobs : ℤ →
 
     pub one_found : (tail : ℕ) → Replays sum size log blobs first (s ∷ []) tail (Recovered y) → y.is_new ≡ false
     one_found tail (inl damaged) = let no = damaged.1 in absurd (cc)
-    one_found tail (inr ([], is_tail, good, passes)) = stays first (slots_of (s ∷ [])) y passes
+    one_found tail (inr ([], is_tail, good, passes)) = stays first (slots_in_order (s ∷ [])) y passes
     one_found tail (inr (x ∷ xs, is_tail, good, passes)) =
         let same : x ≡ t = one_scan sum size log x t (sym (only_in s x.segment is_tail.0)) is_tail.2 scan in
         let none : xs ≡ [] = subst (λ (w : ScanEnd). GoesOn w xs (IsTail sum size log (s ∷ []) (tail + size) xs)) (ap (λ (w : Scanned). w.why) same) is_tail.3 in

@@ -13,7 +13,7 @@ use Rattle.sled_core.proofs.Read.FoundLemmas.{found_there}
 use Rattle.sled_core.proofs.Tail.Multiples.{put_down, next_multiple, one_multiple}
 use Rattle.sled_core.proofs.Tail.OneTail.{Rises, rises_of, place_aligned}
 use Rattle.sled_core.proofs.Tail.Rows.{stand_rises, path_stands}
-use Rattle.sled_log.specs.Recovery.{Scanned, IsScanned, IsOrdering, begun_below, AreReplayed, open_at, stops_in, cut_of, least_place, shred_range_of, resolved_scan, given, passed_in, has_no_table, are_whole, table_of, unchanged, RecoveryResult, Recovered, slots_of, Passes, Replays, ContinuesFrom, Recovers, tail_end, tail_begins}
+use Rattle.sled_log.specs.Recovery.{Scanned, IsScanned, IsOrdering, begun_below, AreReplayed, open_at, stops_in, cut_of, least_place, shred_range_of, resolved_scan, given, passed_in, has_no_table, are_whole, table_of, unchanged, RecoveryResult, Recovered, slots_in_order, Passes, Replays, ContinuesFrom, Recovers, tail_end, tail_begins}
 use Rattle.sled_log.specs.Restores.{BeginsAgain}
 use Rattle.sled_log.specs.WritesBack.{after_shredding, after_zeroing, IsWrittenBack}
 use Rattle.sled_log.proofs.Again.FilledRest.{broken_at, found_before, ends_there}
@@ -31,12 +31,12 @@ in_dropped zero us u there = there
 in_dropped (suc n) [] u there = absurd (in_nothing u there)
 in_dropped (suc n) (t ∷ us) u there = in_rest t u us (in_dropped n us u there)
 
-from_slots : (us : List Segment) (slot : ℕ) → Contains (slots_of us) slot → (u : Segment) × Contains us u × (u.slot ≡ slot)
+from_slots : (us : List Segment) (slot : ℕ) → Contains (slots_in_order us) slot → (u : Segment) × Contains us u × (u.slot ≡ slot)
 from_slots [] slot there = absurd (in_nothing slot there)
 from_slots (t ∷ us) slot there = ⊎_elim
     (λ same. (t, in_first t us, same))
     (λ later. let rest = from_slots us slot later in (rest.0, in_rest t rest.0 us rest.1, rest.2))
-    (in_cases t.slot slot (slots_of us) there)
+    (in_cases t.slot slot (slots_in_order us) there)
 
 module _ (sum : List ℕ → ℕ) (size : ℕ) (some : 256 ≤ size) (log : List ℕ) (first : SnapshotModel) (others : ℤ → Option (List ℕ)) (next : SnapshotModel) (y : RecoveryResult) where
   -- what recovery makes of this log file is not new
@@ -78,7 +78,7 @@ module _ (sum : List ℕ → ℕ) (size : ℕ) (some : 256 ≤ size) (log : List
 
   module _ (least : ℕ) (ordering : List Segment) (numbers : IsOrdering sum size log least ordering) where
     -- those that were not read lie in slots of the file
-    unread_slots : (n : ℕ) → AreSlots size log (slots_of (drop n ordering))
+    unread_slots : (n : ℕ) → AreSlots size log (slots_in_order (drop n ordering))
     unread_slots n slot there =
         let u = from_slots (drop n ordering) slot there in
         let found = (numbers.found u.0).0 (in_dropped n ordering u.0 u.1) in
@@ -89,9 +89,9 @@ module _ (sum : List ℕ → ℕ) (size : ℕ) (some : 256 ≤ size) (log : List
     known u low above found = (numbers.found u).1 (record { slot = found.slot; header = found.header; not_below = (let place = found.not_below in omega (arith, above, place)) })
 
     -- No segment was read: then none is found.
-    pub none_read : least ≤ least_place size next → NotNew (left None (slots_of ordering))
-    none_read above = where_none (left None (slots_of ordering)) (λ u found placed.
-        let before = found_elsewhere sum size some (slots_of ordering) log (unread_slots 0) (least_place size next) u found placed in
+    pub none_read : least ≤ least_place size next → NotNew (left None (slots_in_order ordering))
+    none_read above = where_none (left None (slots_in_order ordering)) (λ u found placed.
+        let before = found_elsewhere sum size some (slots_in_order ordering) log (unread_slots 0) (least_place size next) u found placed in
         before.1 (in_slots ordering u (known u (least_place size next) above before.0)))
 
     -- Segments were read, up to the one in which the pass stopped.
@@ -118,7 +118,7 @@ module _ (sum : List ℕ → ℕ) (size : ℕ) (some : 256 ≤ size) (log : List
       z_aligned = place_aligned sum size log least ordering numbers z z_there
 
       abbrev unread : List ℕ
-      unread = slots_of (drop (length (s ∷ ss)) ordering)
+      unread = slots_in_order (drop (length (s ∷ ss)) ordering)
 
       slots : AreSlots size log unread
       slots = unread_slots (length (s ∷ ss))
@@ -210,9 +210,9 @@ module _ (sum : List ℕ → ℕ) (size : ℕ) (some : 256 ≤ size) (log : List
     abbrev Left : RecoveryResult → Type 0
     Left w = Goal w.shred_range w.unread w.model.stable
 
-    stayed : (ordering : List Segment) → IsOrdering sum size log (least_place size first) ordering → Recovered x ≡ Recovered (unchanged first (slots_of ordering)) → Left x
+    stayed : (ordering : List Segment) → IsOrdering sum size log (least_place size first) ordering → Recovered x ≡ Recovered (unchanged first (slots_in_order ordering)) → Left x
     stayed ordering numbers is =
-        let same : unchanged first (slots_of ordering) ≡ x = cc in
+        let same : unchanged first (slots_in_order ordering) ≡ x = cc in
         subst Left same (λ place. none_read (least_place size first) ordering numbers (let alike = ap (λ (o : Option ℤ). stable_place o / size * size) place in omega (arith, alike)))
 
     by_end : (ordering : List Segment) → IsOrdering sum size log (least_place size first) ordering → (e : Option ℕ) → Passes sum size log blobs first ordering e (Recovered x) → Left x
@@ -222,7 +222,7 @@ module _ (sum : List ℕ → ℕ) (size : ℕ) (some : 256 ≤ size) (log : List
     by_end ordering numbers (Some end) (inr ([], are, inr (good, comes))) = stayed ordering numbers comes
     by_end ordering numbers (Some end) (inr (s ∷ ss, are, inr (good, comes))) =
         let R : Scanned → Scanned = resolved_scan blobs end in
-        let unread : List ℕ = slots_of (drop (length (s ∷ ss)) ordering) in
+        let unread : List ℕ = slots_in_order (drop (length (s ∷ ss)) ordering) in
         let at : Segment × ℕ = stops_in end (R s) (open_at end (R s).met) (map R ss) in
         let stops : at ≡ stops_in end s (open_at end s.met) ss = ap (λ o. stops_in end (R s) o (map R ss)) (open_resolved blobs end s.met) ∙ stops_resolved blobs end s ss (open_at end s.met) in
         let cut : ℕ × Option ℕ = cut_of size at in

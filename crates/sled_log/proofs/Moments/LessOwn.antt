@@ -14,7 +14,7 @@ use Rattle.sled_core.specs.Recoverable.{NoHeaderOfZeros}
 use Rattle.sled_core.proofs.Numbers.OwnLess.{OwnLess, less_crashed, less_cut, less_same, less_synced, less_then, less_zeros}
 use Rattle.sled_log.specs.Recovery.{RecoveryResult}
 use Rattle.sled_log.specs.Restores.{RecoveryCalls}
-use Rattle.sled_log.specs.WritesBack.{HasWrittenBack, committing, forgetting, publishing, removing, shredding, writing_back, zeroing}
+use Rattle.sled_log.specs.WritesBack.{HasWrittenBack, committing, forgetting, publishing, removing_snapshots, shredding, writing_back, zeroing}
 
 -- it writes nothing but zeros to the log file
 abbrev Spares : Event → Type 0
@@ -83,7 +83,7 @@ shredding_spares : (r : Option (ℕ × ℕ)) → AllSpare (shredding r)
 shredding_spares None = tt
 shredding_spares (Some range) = ((range.1, refl), (tt, tt))
 
-removing_spares : (ns : List ℤ) → AllSpare (removing ns)
+removing_spares : (ns : List ℤ) → AllSpare (removing_snapshots ns)
 removing_spares [] = tt
 removing_spares (n ∷ ns) = (tt, removing_spares ns)
 

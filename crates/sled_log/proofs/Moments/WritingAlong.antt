@@ -15,7 +15,7 @@ use Rattle.sled_core.specs.inside.Recoverable.{ActiveFits, AreRecoverableSnapsho
 use Rattle.sled_core.specs.Recoverable.{NoHeaderOfZeros}
 use Rattle.sled_log.specs.Orderly.{IsOrderly}
 use Rattle.sled_log.specs.Recovery.{RecoveryResult, shred_range_of}
-use Rattle.sled_log.specs.WritesBack.{shredding, short_file, snapshot_number_of, removing, publishing_file, publishing, forgetting, writing_back}
+use Rattle.sled_log.specs.WritesBack.{shredding, short_file, snapshot_number_of, removing_snapshots, publishing_file, publishing, forgetting, writing_back}
 use Rattle.sled_log.proofs.Moments.BlobsAlong.{forgetting_along}
 use Rattle.sled_log.proofs.Moments.BlobsRemoved.{IsAbove}
 use Rattle.sled_log.proofs.Moments.LogAlong.{LeavesReadable, NamesBegin, BlobsStand, along_call, parts_readable, shredding_along}
@@ -63,23 +63,23 @@ module _ (sum : List ℕ → ℕ) (size : ℕ) (H : History) (A f : ℕ) (orderl
 
       -- the others are removed
       removals_along : (es : List Event) (ns : List ℤ) (now : NamesState) (placed : List Placement) → ((n : ℤ) → Contains ns n → n ≢ pos cut.0) → IsPublished now names.file (pos cut.0) bytes
-          → ((last : NamesState) → IsPublished last names.file (pos cut.0) bytes → Along P es (device last filled log placed)) → Along P (removing ns ++ es) (device now filled log placed)
+          → ((last : NamesState) → IsPublished last names.file (pos cut.0) bytes → Along P es (device last filled log placed)) → Along P (removing_snapshots ns ++ es) (device now filled log placed)
       removals_along es [] now placed apart is rest = rest now is
       removals_along es (m ∷ ns) now placed apart is rest =
-          along_call sum size H A f (SnapshotRemoved m true) (removing ns ++ es) (device now filled log placed) (remove_snapshot m)
+          along_call sum size H A f (SnapshotRemoved m true) (removing_snapshots ns ++ es) (device now filled log placed) (remove_snapshot m)
           (removals_along es ns (unnamed now m true) placed (λ n there. apart n (in_rest m n ns there)) (published_removed now (pos cut.0) bytes names.file m (apart m (in_first m ns)) is) rest)
 
       pub publishing_along : (es : List Event) (ns : List ℤ) (temporary : Temporary) (placed : List Placement) → ((n : ℤ) → Contains ns n → n ≢ pos cut.0)
           → ((last : NamesState) → NamesBegin sum size H f (λ t. stable_place t.stable ≡ cut.0) last → Along P es (device last filled log placed))
-          → Along P (publishing_file bytes (pos cut.0) ++ (removing ns ++ es)) (device names temporary log placed)
+          → Along P (publishing_file bytes (pos cut.0) ++ (removing_snapshots ns ++ es)) (device names temporary log placed)
       publishing_along es ns temporary placed apart rest =
-          along_call sum size H A f (SnapshotFilled bytes bytes) (SnapshotPublished (pos cut.0) true ∷ NamesSynced ∷ (removing ns ++ es)) (device names temporary log placed) (fill bytes)
-          (along_call sum size H A f (SnapshotPublished (pos cut.0) true) (NamesSynced ∷ (removing ns ++ es)) (device names filled log placed) (publish (pos cut.0)) (
+          along_call sum size H A f (SnapshotFilled bytes bytes) (SnapshotPublished (pos cut.0) true ∷ NamesSynced ∷ (removing_snapshots ns ++ es)) (device names temporary log placed) (fill bytes)
+          (along_call sum size H A f (SnapshotPublished (pos cut.0) true) (NamesSynced ∷ (removing_snapshots ns ++ es)) (device names filled log placed) (publish (pos cut.0)) (
             parts_readable sum size H A f orderly cut Old (device named filled log placed)
                 (λ left leaves own_left t active old. subst (λ (l : List ℕ). IsRecoverableLog sum size l H A t cut) (sym (at_rest_left log left leaves)) (under t active old))
                 (put_begin sum size H f cut.0 s new names.file first tables not_above names refl settled) stand,
             λ torn tears. absurd tears,
-            subst (λ (b : NamesState). Along P (removing ns ++ es) (record { log = at_rest log; blobs = b; snapshots = names_synced named; temporary = filled; placed = placed })) (sym firm)
+            subst (λ (b : NamesState). Along P (removing_snapshots ns ++ es) (record { log = at_rest log; blobs = b; snapshots = names_synced named; temporary = filled; placed = placed })) (sym firm)
                 (removals_along es ns (names_synced named) placed apart (published_synced names (pos cut.0) bytes settled)
                 (λ last is. rest last (published_begin sum size H f cut.0 s new names.file first tables not_above last is))),
           ))
@@ -109,7 +109,7 @@ module _ (sum : List ℕ → ℕ) (size : ℕ) (H : History) (A f : ℕ) (orderl
         by new all shredded true is_new =
             let table = concluded.made is_new in
             let number : snapshot_number_of x.model ≡ pos cut.0 = ap (λ (o : Option ℤ). unwrap_or o (pos 0)) table.stable in
-            subst (λ (k : ℤ). Along P (publishing_file (short_file sum x.model) k ++ (removing ns ++ forget)) (device names temporary new all)) (sym number)
+            subst (λ (k : ℤ). Along P (publishing_file (short_file sum x.model) k ++ (removing_snapshots ns ++ forget)) (device names temporary new all)) (sym number)
             (publishing_along x.model table is.not_below new shredded.same_cut shredded.stops forget ns temporary all (apart is_new) (λ last begin. forgets new all shredded last _ begin))
 
     -- Nothing was written.

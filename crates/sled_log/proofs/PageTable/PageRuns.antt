@@ -11,7 +11,7 @@ use Rattle.sled_codec.specs.declared.serialization.message.LogKind.TheVariants a
 use Rattle.sled_codec.specs.History.{Message, begins_page, is_replace, is_link, later_or, last_beginning, entries_from, page_state}
 use Rattle.sled_codec.specs.PageTables.{entry_of, page_with}
 use Rattle.sled_codec.specs.Snapshots.{Entry, Page, Present, Free, Uninitialized}
-use Rattle.sled_log.specs.Recovery.{last_entry, linked}
+use Rattle.sled_log.specs.Recovery.{last_entry, with_fragment}
 use Rattle.sled_store.proofs.Histories.Ascending.{Ascends, later_above}
 use Rattle.sled_store.proofs.Histories.PageStates.{none_begins, IsLast, last_found}
 
@@ -19,7 +19,7 @@ use Rattle.sled_store.proofs.Histories.PageStates.{none_begins, IsLast, last_fou
 abbrev pub turned : LogKind → Entry → Page → Page
 turned does.Replace e s = Present e []
 turned does.Free e s = Free e.0 e.1
-turned does.Link e s = linked s e
+turned does.Link e s = with_fragment s e
 turned does.Skip e s = s
 turned does.Corrupted e s = s
 
@@ -70,7 +70,7 @@ last-push base (x ∷ es) e = last-push x es e
 abbrev pub links_behind : ℕ → List Message → List Message
 links_behind n ms = filter (λ m. is_link m.kind && nat_lt n m.place) ms
 
-linked_behind : (base : Entry) (frags : List Entry) (e : Entry) (low high : ℕ) → (last_entry base frags).0 ≡ pos low → e.0 ≡ pos high → low < high → linked (Present base frags) e ≡ Present base (frags ++ e ∷ [])
+linked_behind : (base : Entry) (frags : List Entry) (e : Entry) (low high : ℕ) → (last_entry base frags).0 ≡ pos low → e.0 ≡ pos high → low < high → with_fragment (Present base frags) e ≡ Present base (frags ++ e ∷ [])
 linked_behind base frags e low high last at lt =
     let test : int_lt (last_entry base frags).0 e.0 ≡ true = ap (λ z. int_lt z e.0) last ∙ ap (λ z. int_lt (pos low) z) at ∙ below in
     ap (λ (b : Bool). if b then Present base (frags ++ e ∷ []) else Present base frags) test where

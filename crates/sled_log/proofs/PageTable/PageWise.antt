@@ -8,7 +8,7 @@ use Rattle.sled_codec.specs.declared.serialization.message.LogKind.TheVariants a
 use Rattle.sled_codec.specs.History.{Message, begins_page}
 use Rattle.sled_codec.specs.PageTables.{entry_of}
 use Rattle.sled_codec.specs.Snapshots.{Entry, Page, Present, Free, Uninitialized}
-use Rattle.sled_log.specs.Recovery.{applied, grown, linked, table_with, table_of}
+use Rattle.sled_log.specs.Recovery.{applied, grown, with_fragment, table_with, table_of}
 use Rattle.sled_store.proofs.Histories.Ascending.{in_first, in_rest, in_cases, in_nothing}
 use Rattle.sled_log.proofs.PageTable.PageRuns.{turned, run}
 
@@ -36,18 +36,18 @@ length-grown pages n = length-append pages (replicate (n - length pages) Uniniti
 set_in_grown : (pages : List Page) (page : ℕ) (x : Page) → get_or (set (grown pages (page + 1)) page x) page Uninitialized ≡ x
 set_in_grown pages page x = get_or-set_same (grown pages (page + 1)) page x Uninitialized (omega (arith, length-grown pages (page + 1)))
 
-link_at : (pages : List Page) (page : ℕ) (e : Entry) (x : Page) → linked (get_or pages page Uninitialized) e ≡ x → get_or (set pages page x) page Uninitialized ≡ x
+link_at : (pages : List Page) (page : ℕ) (e : Entry) (x : Page) → with_fragment (get_or pages page Uninitialized) e ≡ x → get_or (set pages page x) page Uninitialized ≡ x
 link_at pages page e x is = ⊎_elim (λ lt. get_or-set_same pages page x Uninitialized lt) beyond (cases_lt page (length pages)) where
   beyond : length pages ≤ page → get_or (set pages page x) page Uninitialized ≡ x
   beyond le =
       get_or_past (set pages page x) page Uninitialized (omega (arith, le, length-set pages page x))
-      ∙ ap (λ (s : Page). linked s e) (sym (get_or_past pages page Uninitialized le)) ∙ is
+      ∙ ap (λ (s : Page). with_fragment s e) (sym (get_or_past pages page Uninitialized le)) ∙ is
 
 -- a message changes its page
 at_same : (k : LogKind) (pages : List Page) (page : ℕ) (e : Entry) → get_or (table_with pages k page e) page Uninitialized ≡ turned k e (get_or pages page Uninitialized)
 at_same does.Replace pages page e = set_in_grown pages page (Present e [])
 at_same does.Free pages page e = set_in_grown pages page (Free e.0 e.1)
-at_same does.Link pages page e = grown_at (set pages page (linked (get_or pages page Uninitialized) e)) page page ∙ link_at pages page e (linked (get_or pages page Uninitialized) e) refl
+at_same does.Link pages page e = grown_at (set pages page (with_fragment (get_or pages page Uninitialized) e)) page page ∙ link_at pages page e (with_fragment (get_or pages page Uninitialized) e) refl
 at_same does.Skip pages page e = refl
 at_same does.Corrupted pages page e = refl
 
@@ -56,7 +56,7 @@ at_other : (k : LogKind) (pages : List Page) (page p : ℕ) (e : Entry) → p �
 at_other does.Replace pages page p e ne = get_or-set_other (grown pages (page + 1)) page p (Present e []) Uninitialized ne ∙ grown_at pages (page + 1) p
 at_other does.Free pages page p e ne = get_or-set_other (grown pages (page + 1)) page p (Free e.0 e.1) Uninitialized ne ∙ grown_at pages (page + 1) p
 at_other does.Link pages page p e ne =
-    grown_at (set pages page (linked (get_or pages page Uninitialized) e)) page p ∙ get_or-set_other pages page p (linked (get_or pages page Uninitialized) e) Uninitialized ne
+    grown_at (set pages page (with_fragment (get_or pages page Uninitialized) e)) page p ∙ get_or-set_other pages page p (with_fragment (get_or pages page Uninitialized) e) Uninitialized ne
 at_other does.Skip pages page p e ne = refl
 at_other does.Corrupted pages page p e ne = refl
 
@@ -93,7 +93,7 @@ length_linked pages page x = length-grown (set pages page x) page ∙ ap (λ n. 
 no_fewer : (k : LogKind) (pages : List Page) (page : ℕ) (e : Entry) → length pages ≤ length (table_with pages k page e)
 no_fewer does.Replace pages page e = omega (arith, length_set_grown pages page (Present e []))
 no_fewer does.Free pages page e = omega (arith, length_set_grown pages page (Free e.0 e.1))
-no_fewer does.Link pages page e = omega (arith, length_linked pages page (linked (get_or pages page Uninitialized) e))
+no_fewer does.Link pages page e = omega (arith, length_linked pages page (with_fragment (get_or pages page Uninitialized) e))
 no_fewer does.Skip pages page e = omega arith
 no_fewer does.Corrupted pages page e = omega arith
 
@@ -112,7 +112,7 @@ since_one : (k : LogKind) (pages : List Page) (page : ℕ) (e : Entry) (p : ℕ)
 since_one does.Replace pages page e p lt = begun_by p (length pages) page (length (table_with pages does.Replace page e)) (length_set_grown pages page (Present e [])) lt
 since_one does.Free pages page e p lt = begun_by p (length pages) page (length (table_with pages does.Free page e)) (length_set_grown pages page (Free e.0 e.1)) lt
 since_one does.Link pages page e p lt =
-    let long = length_linked pages page (linked (get_or pages page Uninitialized) e) in
+    let long = length_linked pages page (with_fragment (get_or pages page Uninitialized) e) in
     ⊎_elim inl (λ le. inr (inl (omega (arith, long, lt, le)))) (cases_lt p (length pages))
 since_one does.Skip pages page e p lt = inl lt
 since_one does.Corrupted pages page e p lt = inl lt

@@ -5,7 +5,7 @@ use Rattle.std.proofs.lemmas.List.{replicate-append-replicate, append-nil, get_o
 use Rattle.sled_codec.specs.declared.serialization.snapshot.PageState.{PageState}
 use Rattle.sled_core.proofs.Reserve.Parts.{get_there}
 use Rattle.sled_codec.specs.Snapshots.{Entry, Page, Uninitialized, page_of}
-use Rattle.sled_log.specs.Recovery.{last_entry, grown, linked}
+use Rattle.sled_log.specs.Recovery.{last_entry, grown, with_fragment}
 
 -- the last entry is the one before the end
 pub last_is : (base : Entry) (es : List Entry) (n : ℕ) (d : Entry) → length es ≡ suc n → last_entry base es ≡ get_or es n d
@@ -39,13 +39,13 @@ grown_enough pages n le =
     ap (λ k. pages ++ replicate k Uninitialized) none ∙ append-nil pages
 
 -- a Link is put on a page that is there
-pub linked_in : (pages : List PageState) (page : ℕ) (x y : PageState) (e : Entry) → page < length pages → x ≡ get_or pages page x → page_of y ≡ linked (page_of x) e
-    → map page_of (set pages page y) ≡ grown (set (map page_of pages) page (linked (get_or (map page_of pages) page Uninitialized) e)) page
+pub linked_in : (pages : List PageState) (page : ℕ) (x y : PageState) (e : Entry) → page < length pages → x ≡ get_or pages page x → page_of y ≡ with_fragment (page_of x) e
+    → map page_of (set pages page y) ≡ grown (set (map page_of pages) page (with_fragment (get_or (map page_of pages) page Uninitialized) e)) page
 linked_in pages page x y e lt at is =
     let there : get_or (map page_of pages) page Uninitialized ≡ page_of x = get_or-map page_of pages page x Uninitialized lt ∙ ap page_of (sym at) in
-    let whole : map page_of (set pages page y) ≡ set (map page_of pages) page (linked (get_or (map page_of pages) page Uninitialized) e) =
-    map-set page_of pages page y ∙ ap (set (map page_of pages) page) (is ∙ ap (λ p. linked p e) (sym there)) in
-    whole ∙ sym (grown_enough (set (map page_of pages) page (linked (get_or (map page_of pages) page Uninitialized) e)) page (omega (arith, lt, length-set (map page_of pages) page (linked (get_or (map page_of pages) page Uninitialized) e), length-map pages page_of)))
+    let whole : map page_of (set pages page y) ≡ set (map page_of pages) page (with_fragment (get_or (map page_of pages) page Uninitialized) e) =
+    map-set page_of pages page y ∙ ap (set (map page_of pages) page) (is ∙ ap (λ p. with_fragment p e) (sym there)) in
+    whole ∙ sym (grown_enough (set (map page_of pages) page (with_fragment (get_or (map page_of pages) page Uninitialized) e)) page (omega (arith, lt, length-set (map page_of pages) page (with_fragment (get_or (map page_of pages) page Uninitialized) e), length-map pages page_of)))
 
 -- what follows where a call succeeded
 pub on_ok : {T E : Type 0} (r : Result T E) (P Q : Type 0) → (P → Q) → OnOk r P → OnOk r Q

@@ -6,7 +6,7 @@ use Rattle.sled_codec.specs.Snapshots.{SnapshotModel, stable_place}
 use Rattle.sled_store.specs.Device.{Content}
 use Rattle.sled_store.specs.SnapshotFiles.{BeginsFrom, IsDamagedSnapshot}
 use Rattle.sled_core.specs.declared.iterator.Segment.{Segment}
-use Rattle.sled_log.specs.Recovery.{Scanned, IsOrdering, IsUnordered, IsTail, IsDamagedTail, tail_begins, tail_end, HaveGoodBlobs, Passes, Outcome, Recovered, Damaged, unchanged, slots_of, least_place, ContinuesFrom, Recovers}
+use Rattle.sled_log.specs.Recovery.{Scanned, IsOrdering, IsUnordered, IsTail, IsDamagedTail, tail_begins, tail_end, HaveGoodBlobs, Passes, Outcome, Recovered, Damaged, unchanged, slots_in_order, least_place, ContinuesFrom, Recovers}
 use Rattle.sled_log.specs.Passes.{NamesBadTail, PassesBehind}
 use Rattle.sled_log.proofs.Passes.WholeTail.{damaged_blob, damaged_of_all, none_bad, sliced, tail_of_all}
 
@@ -28,9 +28,9 @@ module _ (sum : List ℕ → ℕ) (size : ℕ) (log : List ℕ) (blobs : ℤ →
 
     module _ (scanned : List Scanned) (tail : IsTail sum size log ordering (tail_begins size (least_place size first) ordering) scanned) (good : HaveGoodBlobs sum blobs scanned) where
       -- no tail
-      pub comes_unchanged : tail_end scanned ≡ None → ContinuesFrom sum size log blobs first (Recovered (unchanged first (slots_of ordering)))
+      pub comes_unchanged : tail_end scanned ≡ None → ContinuesFrom sum size log blobs first (Recovered (unchanged first (slots_in_order ordering)))
       unfolding ContinuesFrom
-      comes_unchanged none = inr (ordering, are, inr (scanned, tail, good, subst (λ e. Passes sum size log blobs first ordering e (Recovered (unchanged first (slots_of ordering)))) (sym none) refl))
+      comes_unchanged none = inr (ordering, are, inr (scanned, tail, good, subst (λ e. Passes sum size log blobs first ordering e (Recovered (unchanged first (slots_in_order ordering)))) (sym none) refl))
 
       -- what comes of the pass
       pub comes_passing : (end : ℕ) → tail_end scanned ≡ Some end → (o : Outcome) → Passes sum size log blobs first ordering (Some end) o → ContinuesFrom sum size log blobs first o
@@ -64,7 +64,7 @@ module _ (sum : List ℕ → ℕ) (size : ℕ) (log : List ℕ) (blobs : ℤ →
             let damaged = damaged_blob sum size log blobs ordering begin scanned name whole bad in
             comes_damaged name (subst (λ k. IsDamagedTail sum size log blobs ordering k name) begins damaged)
 
-        pub behind_unchanged : tail_end scanned ≡ None → ContinuesFrom sum size log blobs first (Recovered (unchanged first (slots_of ordering)))
+        pub behind_unchanged : tail_end scanned ≡ None → ContinuesFrom sum size log blobs first (Recovered (unchanged first (slots_in_order ordering)))
         behind_unchanged none = comes_unchanged scanned its_tail (none_bad sum blobs scanned none) none
 
         pub behind_passing : (end : ℕ) → tail_end scanned ≡ Some end → (o : Outcome) → PassesBehind sum size log blobs first ordering end scanned o

@@ -6,7 +6,7 @@ use Rattle.sled_codec.specs.Snapshots.{SnapshotModel}
 use Rattle.sled_core.specs.declared.iterator.scan.RecordContent.{RecordContent}
 use Rattle.sled_core.specs.declared.iterator.Segment.{Segment}
 use Rattle.sled_store.proofs.Segments.Elements.{in_first, in_rest}
-use Rattle.sled_log.specs.Recovery.{Scanned, Outcome, Damaged, AreScanned, AreReplayed, StopsOrGoesOn, Passes, HasBadBlob, HasDamage, MeetsOne, HaveGoodBlobs, before_open, begun_below, open_at, outcome_of, resolved_scan, slots_of}
+use Rattle.sled_log.specs.Recovery.{Scanned, Outcome, Damaged, AreScanned, AreReplayed, StopsOrGoesOn, Passes, HasBadBlob, HasDamage, MeetsOne, HaveGoodBlobs, before_open, begun_below, open_at, outcome_of, resolved_scan, slots_in_order}
 use Rattle.sled_log.specs.Passes.{AreLookedUp, AreResolved, IsBadPass, MeetsBadPass, OpensLast, PassMeets, up_to_open}
 use Rattle.sled_log.proofs.Passes.Blobs.{met_of_all, met_to_all, opens_last}
 use Rattle.sled_log.proofs.Replay.BlobLemmas.{met_before, open_resolved}
@@ -147,7 +147,7 @@ module _ (sum : List ℕ → ℕ) (size : ℕ) (log : List ℕ) (blobs : ℤ →
 
   module _ (first : SnapshotModel) (ordering : List Segment) where
     -- what comes of segments with their blobs
-    pub passes_of : (ps : List Scanned) (o : Outcome) → AreResolved sum size log blobs end (begun_below end ordering) ps → outcome_of size first end ps (slots_of (drop (length ps) ordering)) ≡ o → Passes sum size log blobs first ordering (Some end) o
+    pub passes_of : (ps : List Scanned) (o : Outcome) → AreResolved sum size log blobs end (begun_below end ordering) ps → outcome_of size first end ps (slots_in_order (drop (length ps) ordering)) ≡ o → Passes sum size log blobs first ordering (Some end) o
     passes_of ps o are comes =
         let long : length ps ≡ length are.scanned = ap length are.is ∙ length-map are.scanned R in
         inr (
@@ -155,8 +155,8 @@ module _ (sum : List ℕ → ℕ) (size : ℕ) (log : List ℕ) (blobs : ℤ →
           are.replayed,
           inr (
             λ bad. are.fine (met_of_all (HasBadBlob sum blobs) end are.scanned (opens_last sum size log end (begun_below end ordering) are.scanned are.replayed) bad),
-            sym comes ∙ ap (λ (l : List Scanned). outcome_of size first end l (slots_of (drop (length ps) ordering))) are.is
-                ∙ ap (λ n. outcome_of size first end (map R are.scanned) (slots_of (drop n ordering))) long,
+            sym comes ∙ ap (λ (l : List Scanned). outcome_of size first end l (slots_in_order (drop (length ps) ordering))) are.is
+                ∙ ap (λ n. outcome_of size first end (map R are.scanned) (slots_in_order (drop n ordering))) long,
           ),
         )
 

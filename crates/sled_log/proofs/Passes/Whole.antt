@@ -9,7 +9,7 @@ use Rattle.sled_core.specs.declared.iterator.Segment.{Segment}
 use Rattle.sled_store.specs.declared.config.Config.{Config}
 use Rattle.sled_log.specs.declared.snapshot.pass.Pass.{Pass}
 use Rattle.sled_log.specs.declared.snapshot.pass.Replay.{Replay}
-use Rattle.sled_log.specs.Recovery.{AreScanned, Scanned, Outcome, Passes, resolved_scan, begun_below, outcome_of, slots_of}
+use Rattle.sled_log.specs.Recovery.{AreScanned, Scanned, Outcome, Passes, resolved_scan, begun_below, outcome_of, slots_in_order}
 use Rattle.sled_log.specs.Passes.{AreLookedUp, AreResolved, IsBadPass, IsPass, IsReplay, pass_of, up_to_open}
 use Rattle.sled_log.proofs.Passes.Ascending.{begun_split}
 use Rattle.sled_log.proofs.Passes.Joined.{bad_on, begun_length, joined, passes_of, resolved_length}
@@ -63,9 +63,9 @@ module _ (sum : List ℕ → ℕ) (size : ℕ) (log : List ℕ) (blobs : ℤ →
 
 -- what comes of them, of the configuration before a call that left it as it was
 pub passes_by : (sum : List ℕ → ℕ) (old new : Config) (log : List ℕ) (blobs : ℤ → Option (List ℕ)) (end : ℕ) (first : SnapshotModel) (ss : List Segment) (ps : List Scanned) (o : Outcome) → new ≡ old
-    → AreResolved sum old.segment_size log blobs end (begun_below end ss) ps → outcome_of new.segment_size first end ps (slots_of (drop (length ps) ss)) ≡ o → Passes sum old.segment_size log blobs first ss (Some end) o
+    → AreResolved sum old.segment_size log blobs end (begun_below end ss) ps → outcome_of new.segment_size first end ps (slots_in_order (drop (length ps) ss)) ≡ o → Passes sum old.segment_size log blobs first ss (Some end) o
 passes_by sum old new log blobs end first ss ps o same are comes =
-    passes_of sum old.segment_size log blobs end first ss ps o are (subst (λ (c : Config). outcome_of c.segment_size first end ps (slots_of (drop (length ps) ss)) ≡ o) same comes)
+    passes_of sum old.segment_size log blobs end first ss ps o are (subst (λ (c : Config). outcome_of c.segment_size first end ps (slots_in_order (drop (length ps) ss)) ≡ o) same comes)
 
 -- they fit that configuration
 pub fits_by : (old new : Config) (ps qs : List Pass) → new ≡ old → qs ≡ ps → All (IsPass old.segment_size) ps → All (IsPass new.segment_size) qs

@@ -7,7 +7,7 @@ use Rattle.sled_codec.specs.Snapshots.{SnapshotModel}
 use Rattle.sled_store.proofs.Segments.Elements.{in_first, in_rest, in_cases, in_nothing}
 use Rattle.sled_core.specs.declared.iterator.Segment.{Segment}
 use Rattle.sled_core.specs.inside.Recoverable.{IsRecoverableLog, AreRecoverableBlobs, scanned_below}
-use Rattle.sled_log.specs.Recovery.{Scanned, tail_end, begun_below, StopsOrGoesOn, AreReplayed, open_at, stops_in, slots_of}
+use Rattle.sled_log.specs.Recovery.{Scanned, tail_end, begun_below, StopsOrGoesOn, AreReplayed, open_at, stops_in, slots_in_order}
 use Rattle.sled_log.proofs.Recovers.ActiveSlot.{behind_header}
 use Rattle.sled_log.proofs.Recovers.LeftOut.{tail_empty}
 use Rattle.sled_core.proofs.Tail.OneTail.{Rises, rises_of, scans_below}
@@ -16,11 +16,11 @@ use Rattle.sled_log.proofs.Recovers.PassCut.{last_place, cut_bounds}
 use Rattle.sled_log.proofs.Recovers.Undamaged.{ReadsNone, left_of}
 
 -- the slot of a segment is among those of all
-pub in_slots : (ss : List Segment) (s : Segment) → Contains ss s → Contains (slots_of ss) s.slot
+pub in_slots : (ss : List Segment) (s : Segment) → Contains ss s → Contains (slots_in_order ss) s.slot
 in_slots [] s there = absurd (in_nothing s there)
 in_slots (t ∷ ss) s there = ⊎_elim
-    (λ is. subst (λ (x : Segment). Contains (slots_of (t ∷ ss)) x.slot) is (in_first t.slot (slots_of ss)))
-    (λ later. in_rest t.slot s.slot (slots_of ss) (in_slots ss s later))
+    (λ is. subst (λ (x : Segment). Contains (slots_in_order (t ∷ ss)) x.slot) is (in_first t.slot (slots_in_order ss)))
+    (λ later. in_rest t.slot s.slot (slots_in_order ss) (in_slots ss s later))
     (in_cases t s ss there)
 
 module _ (end : ℕ) where

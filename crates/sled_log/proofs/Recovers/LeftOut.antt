@@ -8,7 +8,7 @@ use Rattle.sled_codec.specs.Snapshots.{SnapshotModel, stable_place}
 use Rattle.sled_store.proofs.Segments.Elements.{in_first, in_rest, in_cases, in_nothing}
 use Rattle.sled_core.specs.declared.iterator.Segment.{Segment}
 use Rattle.sled_core.specs.inside.Recoverable.{IsRecoverableLog, AreRecoverableBlobs, scanned_below}
-use Rattle.sled_log.specs.Recovery.{Scanned, IsTail, tail_begins, tail_end, begun_below, AreScanned, IsReplayed, StopsOrGoesOn, AreReplayed, open_at, stops_in, slots_of, least_place}
+use Rattle.sled_log.specs.Recovery.{Scanned, IsTail, tail_begins, tail_end, begun_below, AreScanned, IsReplayed, StopsOrGoesOn, AreReplayed, open_at, stops_in, slots_in_order, least_place}
 use Rattle.sled_core.proofs.Tail.OneTail.{Rises, rises_of, place_aligned, in_below}
 use Rattle.sled_log.proofs.Recovers.OnePass.{begins_alike}
 use Rattle.sled_core.proofs.Tail.Multiples.{put_down}
@@ -22,9 +22,9 @@ in_drop (suc n) [] y there = there
 in_drop (suc n) (x ∷ xs) y there = in_rest x y xs (in_drop n xs y there)
 
 -- a slot of segments is that of one of them
-slot_from : (ss : List Segment) (slot : ℕ) → Contains (slots_of ss) slot → (s : Segment) × Contains ss s × (s.slot ≡ slot)
+slot_from : (ss : List Segment) (slot : ℕ) → Contains (slots_in_order ss) slot → (s : Segment) × Contains ss s × (s.slot ≡ slot)
 slot_from [] slot there = absurd (in_nothing slot there)
-slot_from (s ∷ ss) slot there = ⊎_elim (λ is. (s, in_first s ss, is)) (λ later. let rest = slot_from ss slot later in (rest.0, in_rest s rest.0 ss rest.1, rest.2)) (in_cases s.slot slot (slots_of ss) there)
+slot_from (s ∷ ss) slot there = ⊎_elim (λ is. (s, in_first s ss, is)) (λ later. let rest = slot_from ss slot later in (rest.0, in_rest s rest.0 ss rest.1, rest.2)) (in_cases s.slot slot (slots_in_order ss) there)
 
 -- a tail that ends nowhere is empty
 pub no_end : (tail : List Scanned) → tail_end tail ≡ None → tail ≡ []
@@ -99,7 +99,7 @@ module _ (sum : List ℕ → ℕ) (size : ℕ) (log : List ℕ) (some : 256 ≤ 
   LieAbove unread = (slot : ℕ) → Contains unread slot → (u : Segment) × Contains is.ordering u × (u.slot ≡ slot) × (cut.0 ≤ u.place)
 
   -- the last segment of the tail begins below its end
-  pub tail_empty : (unread : List ℕ) → ReadsNone sum size log blobs H A first cut is are unread → (tail_end is.tail ≡ None) × (unread ≡ slots_of is.ordering)
+  pub tail_empty : (unread : List ℕ) → ReadsNone sum size log blobs H A first cut is are unread → (tail_end is.tail ≡ None) × (unread ≡ slots_in_order is.ordering)
   tail_empty unread (inl none) = none
   tail_empty unread (inr (end, ends, below)) =
       let last = tail_last sum size log some H A first cut is (tail_begins size (least_place size first) is.ordering) is.tail is.is_tail end ends in
@@ -120,7 +120,7 @@ module _ (sum : List ℕ → ℕ) (size : ℕ) (log : List ℕ) (some : 256 ≤ 
 
   -- Where a pass is made, those that it doesn't read do.
   pub some_left : (end : ℕ) (s : Scanned) (ss passes : List Scanned) → tail_end is.tail ≡ Some end → scanned_below end is.scanned ≡ s ∷ ss → AreReplayed sum size log end (begun_below end is.ordering) passes
-      → LieAbove (slots_of (drop (length passes) is.ordering))
+      → LieAbove (slots_in_order (drop (length passes) is.ordering))
   some_left end s ss passes ends below replayed slot there =
       let from = slot_from (drop (length passes) is.ordering) slot there in
       let u : Segment = from.0 in

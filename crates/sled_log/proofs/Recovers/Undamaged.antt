@@ -10,7 +10,7 @@ use Rattle.sled_core.specs.declared.iterator.scan.ScannedRecord.{ScannedRecord}
 use Rattle.sled_core.specs.Scan.{IsDamagedIn}
 use Rattle.sled_core.specs.inside.Recoverable.{IsOfHistory, IsRecoverableLog, AreRecoverableBlobs, PassesIfThere, scanned_below, cut_over, cut_from}
 use Rattle.sled_store.proofs.Segments.Elements.{in_first, in_rest, in_cases, in_nothing}
-use Rattle.sled_log.specs.Recovery.{IsUnordered, Scanned, IsScanned, tail_begins, tail_end, begun_below, opens, before_open, open_at, stops_in, cut_of, least_place, AreReplayed, HasBadBlob, MeetsBadBlob, resolved, resolved_scan, given, passed_in, Outcome, Recovered, concluded, unchanged, outcome_of, IsDamagedTail, IsDamagedPass, PassesOver, slots_of, Passes, Replays, ContinuesFrom}
+use Rattle.sled_log.specs.Recovery.{IsUnordered, Scanned, IsScanned, tail_begins, tail_end, begun_below, opens, before_open, open_at, stops_in, cut_of, least_place, AreReplayed, HasBadBlob, MeetsBadBlob, resolved, resolved_scan, given, passed_in, Outcome, Recovered, concluded, unchanged, outcome_of, IsDamagedTail, IsDamagedPass, PassesOver, slots_in_order, Passes, Replays, ContinuesFrom}
 use Rattle.sled_log.proofs.Replay.BlobLemmas.{open_resolved, stops_resolved, passed_resolved}
 use Rattle.sled_core.proofs.Tail.OneReading.{scan_undamaged}
 use Rattle.sled_core.proofs.Tail.OneTail.{Rises, rises_of, one_at_place, one_ordering, one_tail, scan_there, reading_there, scans_below, from_below}
@@ -116,11 +116,11 @@ module _ (sum : List ℕ → ℕ) (size : ℕ) (log : List ℕ) (blobs : ℤ →
 
   -- no segment is read by the pass
   abbrev pub ReadsNone : List ℕ → Type 0
-  ReadsNone unread = ((tail_end is.tail ≡ None) × (unread ≡ slots_of is.ordering)) ⊎ ((end : ℕ) × (tail_end is.tail ≡ Some end) × (scanned_below end is.scanned ≡ []))
+  ReadsNone unread = ((tail_end is.tail ≡ None) × (unread ≡ slots_in_order is.ordering)) ⊎ ((end : ℕ) × (tail_end is.tail ≡ Some end) × (scanned_below end is.scanned ≡ []))
 
   -- the slots of the segments that a pass did not read
   abbrev pub left_of : List Scanned → List ℕ
-  left_of passes = slots_of (drop (length passes) is.ordering)
+  left_of passes = slots_in_order (drop (length passes) is.ordering)
 
   -- The snapshot stays, and its place is the cut; or a pass over segments that begin below the end of the tail gives the outcome.
   abbrev pub Comes : Outcome → Type 0
@@ -148,7 +148,7 @@ module _ (sum : List ℕ → ℕ) (size : ℕ) (log : List ℕ) (blobs : ℤ →
         by (x ∷ xs) (p ∷ ps) below same (inr fine) = inr (end, x, xs, passes, ends, below, replayed, comes_of end x p xs ps (left_of passes) o same fine.1)
 
   passes_come : (o : Outcome) (e : Option ℕ) → tail_end is.tail ≡ e → Passes sum size log blobs first is.ordering e o → Comes o
-  passes_come o None ends result = inl (slots_of is.ordering, inl (ends, refl), cut_at None ends, result)
+  passes_come o None ends result = inl (slots_in_order is.ordering, inl (ends, refl), cut_at None ends, result)
   passes_come o (Some end) ends (inl damaged) = absurd (no_damaged_pass end damaged.1)
   passes_come o (Some end) ends (inr (passes, replayed, result)) = over end ends passes replayed o result
 

@@ -21,7 +21,7 @@ use Rattle.sled_log.specs.declared.session.command.Refusal.TheVariants as why
 use Rattle.sled_log.specs.declared.session.command.Reply.{Reply}
 use Rattle.sled_log.specs.Refusals.{is_absent, is_busy, refusal_for, when}
 use Rattle.sled_log.specs.Reservations.{HasTried, MayReserve}
-use Rattle.sled_log.specs.RunStates.{DeviceView, LogView, RunState, body_in, in_batch, is_present, page_now, target_in}
+use Rattle.sled_log.specs.RunStates.{DeviceView, LogView, RunState, body_length_in, in_batch, is_present, page_now, target_in}
 use Rattle.sled_log.specs.TicketActs.{BlobActs, ReserveActs, making_for}
 use Rattle.sled_log.specs.TicketSteps.{blank_manifest}
 use Rattle.sled_log.specs.RunPhases.{DoesHere, Unstored, device_in, seen, size_of, stands}
@@ -39,7 +39,7 @@ asked_going false n old new o free asked = asked
 -- A reservation of an item that goes to no blob leaves the device alone.
 alone : (sum : List ℕ → ℕ) (size : ℕ) (l : LogView) (kind : LogKind) (page : ℕ) (bytes : List ℕ) (old : DeviceView) (r : Reply) (new : DeviceView) → in_blob size (length bytes) ≡ false → ReserveActs sum size l kind page bytes old r new → new ≡ old
 alone sum size l kind page bytes old r new short acts =
-    let acting : Type 0 = BlobActs (making_for sum (kind_for kind page true 8) (pos (target_in size l page (body_in size (length bytes))).place) bytes) l.status.fault old r new in
+    let acting : Type 0 = BlobActs (making_for sum (kind_for kind page true 8) (pos (target_in size l page (body_length_in size (length bytes))).place) bytes) l.status.fault old r new in
     subst (λ (b : Bool). MatchBool b acting (new ≡ old)) short acts
 
 module _ {D C : Type 0} (view : D → DeviceView) (sum : List ℕ → ℕ) (old : Opened D C) (k : Unstored) (page : ℕ) where

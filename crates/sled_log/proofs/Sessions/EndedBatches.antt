@@ -32,7 +32,7 @@ use Rattle.sled_log.specs.Refusals.{when}
 use Rattle.sled_log.specs.RunPhases.{DoesHere, HasBatch, IsOpenAt, IsSafe, IsTicketFor, Unstored, seen, seen_log, shown_due, traces}
 use Rattle.sled_log.specs.SessionMarks.{without_pin}
 use Rattle.sled_log.specs.RunStates.{DeviceView, LogView, in_batch, places_without, top}
-use Rattle.sled_log.specs.TicketSteps.{HasBegun, IsAnswerFor, batch_of, noting, spent}
+use Rattle.sled_log.specs.TicketSteps.{HasBegun, IsAnswerFor, batch_ended_by, noting, spent}
 use Rattle.sled_log.proofs.Sessions.EndedTickets.{after, awaits_it, back_beside, back_pinned, failed_leads, failed_open, given_back, keeps_beside, keeps_ended, left, left_open, none_left, outstanding}
 use Rattle.sled_log.proofs.Sessions.MadeBatches.{joins_still, made_still, table_still}
 use Rattle.sled_log.proofs.Sessions.Within.{untouched}
@@ -91,12 +91,12 @@ module _ {D C : Type 0} (view : D → DeviceView) (sum : List ℕ → ℕ) (old 
   }
 
   -- The batch is seen.
-  batch_is : batch_for ticket.reservation peg ≡ batch_of l m
+  batch_is : batch_for ticket.reservation peg ≡ batch_ended_by l m
   batch_is =
       let some : 0 < reserved_end old.log = (let low = had.begins in omega (arith, low)) in
       λ i. record { low = unsigned_abs (sym placed i); peg = unsigned_abs (one_less (reserved_end old.log) some i) }
 
-  noted_one : (bs : List Batch) → with_batch_for ticket.reservation peg bs ≡ with_batch (batch_of l m) bs
+  noted_one : (bs : List Batch) → with_batch_for ticket.reservation peg bs ≡ with_batch (batch_ended_by l m) bs
   noted_one bs = by (int_lt (place_of ticket.reservation) peg) refl ∙ ap (λ b. with_batch b bs) batch_is where
     by : (o : Bool) → int_lt (place_of ticket.reservation) peg ≡ o → (if o then with_batch (batch_for ticket.reservation peg) bs else bs) ≡ with_batch (batch_for ticket.reservation peg) bs
     by true is = refl
@@ -126,7 +126,7 @@ module _ {D C : Type 0} (view : D → DeviceView) (sum : List ℕ → ℕ) (old 
         (others : (t : Reservation) (x : Message) → Awaits old.log t x → place_of t ≢ place_of ticket.reservation → Awaits log t x)
         (safe : (j : ℕ) (x : Message) → (x.place ≡ m.place → ⊥) → IsTicketFor (traces view) sum old k.history j x → IsSafe (traces view) sum log x)
         (opens_left : TakesOut m.place (open_places old.log) (open_places log)) (among : AreAmong (given_up_of log) (given_up_of old.log)) (heads : HasNoOther old.log log) where
-      ended_view : seen_log log (length mid.pages.items) (set k.tickets n None) k.given_up k.heads ≡ noting (batch_of l m) (spent l n (places_without m.place l.status.opens) (length old.pages.items))
+      ended_view : seen_log log (length mid.pages.items) (set k.tickets n None) k.given_up k.heads ≡ noting (batch_ended_by l m) (spent l n (places_without m.place l.status.opens) (length old.pages.items))
       ended_view i = record {
         status = record {
           position = position.position i;
@@ -147,12 +147,12 @@ module _ {D C : Type 0} (view : D → DeviceView) (sum : List ℕ → ℕ) (old 
         heads = k.heads;
       }
 
-      step_from : (H' : History) → EndsBatch k.history ticket.reservation peg H' → Step k.history (Batched (batch_of l m)) H'
+      step_from : (H' : History) → EndsBatch k.history ticket.reservation peg H' → Step k.history (Batched (batch_ended_by l m)) H'
       step_from H' ends = ⊎_elim
           (λ canceled. absurd (let low = behind in let same = canceled.0 in omega (arith, ints, low, same)))
           (λ step. subst (λ b. Step k.history (Batched b) H') batch_is step.1) ends
 
-      messages_stay : (H' : History) → Step k.history (Batched (batch_of l m)) H' → H'.messages ≡ k.history.messages
+      messages_stay : (H' : History) → Step k.history (Batched (batch_ended_by l m)) H' → H'.messages ≡ k.history.messages
       unfolding Step
       messages_stay H' step = step.messages
 

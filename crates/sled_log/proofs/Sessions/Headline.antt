@@ -33,16 +33,16 @@ use Rattle.sled_log.specs.declared.session.command.Refusal.{Refusal}
 use Rattle.sled_log.specs.declared.session.command.Reply.{Reply}
 use Rattle.sled_log.specs.declared.session.command.Reply.TheVariants as reply
 use Rattle.sled_log.specs.Devices.{IsOver, SomeStandsOver, StandsOver}
-use Rattle.sled_log.specs.Headline.{Acknowledges, Comes, MeansStep, Moves, Outcomes, Reserves, Restores, Stays, Tells}
+use Rattle.sled_log.specs.Headline.{Acknowledges, Comes, MeansStep, Moves, Outcomes, GivesTicket, RecoveryGives, Stays, Tells}
 use Rattle.sled_log.specs.OpenSteps.{HasOpened, IsStartCause, OpenStep, log_opened}
 use Rattle.sled_log.specs.ReadSteps.{FailsAt, ReadStep, ReadsAll, read_around, read_at}
 use Rattle.sled_log.specs.Refusals.{reason_of}
-use Rattle.sled_log.specs.RunStates.{DeviceView, DueMark, HasAll, LogView, RunState, body_in, closed, length_of, made_ready, message_at, page_now, places_without, rewriting_at, target_in, tickets_in, tickets_of, view_at, with_log}
+use Rattle.sled_log.specs.RunStates.{DeviceView, DueMark, HasAll, LogView, RunState, body_length_in, closed, length_of, made_ready, message_at, page_now, places_without, rewriting_at, target_in, tickets_in, tickets_of, with_status, with_log}
 use Rattle.sled_log.specs.Runs.{CrashActs, CrashStep, HaltStep, IsOwn, IsStep, Postpones, Runs, StepBy, StepFrom, StopStep, calls_log, told}
 use Rattle.sled_log.specs.SessionMarks.{mark_for, marking, marking_in, with_mark, without_pin}
 use Rattle.sled_log.specs.RunPhases.{IsAt, SomeStands, StandsAt, StandsAtPhase, Unstored, device_in, seen, stands, traces}
 use Rattle.sled_log.specs.WriteSteps.{FailsTo, FlushStep, HasWrittenTo, KeepsFailing, StableStep, WriteStep, stable_from, target_by}
-use Rattle.sled_log.specs.TicketSteps.{AbortStep, CompleteStep, EndStep, HasReserved, RefusedStep, ReserveStep, RewriteStep, batch_of, blank_manifest, giving_up, keeping, noting, spent}
+use Rattle.sled_log.specs.TicketSteps.{AbortStep, CompleteStep, EndStep, HasReserved, RefusedStep, ReserveStep, RewriteStep, batch_ended_by, blank_manifest, giving_up, keeping, noting, spent}
 use Rattle.sled_log.proofs.Sessions.Reading.{sized}
 use Rattle.sled_log.proofs.Sessions.RunLemmas.{own_read, start_cause_of}
 
@@ -116,10 +116,10 @@ module _ (sum : List ℕ → ℕ) (size : ℕ) (device : DeviceView) (H : Histor
   -- An opening of a device on which only what the log itself wrote passes as its own.
   module _ (own : ReadsOnlyOwn sum size (state_of device.trace)) where
     restores : (r : Reply) (new : DeviceView) (b : RunState) (opened : HasOpened sum size (at_log None) r new b)
-        → Restores sum size (at_log None) opened.opens.snapshot b
+        → RecoveryGives sum size (at_log None) opened.opens.snapshot b
     restores r new b opened =
         let goes = opened.good own in
-        subst (λ (x : RunState). Restores sum size (at_log None) opened.opens.snapshot x) (sym goes.leads) (goes.good, none r, refl)
+        subst (λ (x : RunState). RecoveryGives sum size (at_log None) opened.opens.snapshot x) (sym goes.leads) (goes.good, none r, refl)
       where
         none : (q : Reply) → tickets_in (log_opened size (length_of opened.opens.mid) opened.opens.snapshot q) ≡ []
         none (reply.Opened stable active pages) = refl
@@ -177,7 +177,7 @@ module _ (sum : List ℕ → ℕ) (size : ℕ) (device : DeviceView) (H : Histor
 
     reserves : (q : Position) (m : Message) (n : ℕ) (place : ℤ) (pointer : DiskPtr) (new : DeviceView) (b : RunState)
         → HasReserved size a l q m n place pointer new b
-        → Reserves a m.kind m.page m.bytes (reply.Reserved n place pointer) b × Led a new b
+        → GivesTicket a m.kind m.page m.bytes (reply.Reserved n place pointer) b × Led a new b
     reserves q m n place pointer new b has = (
       (
         m,
@@ -194,12 +194,12 @@ module _ (sum : List ℕ → ℕ) (size : ℕ) (device : DeviceView) (H : Histor
     )
 
     reserve : (kind : LogKind) (page : ℕ) (bytes : List ℕ) (r : Reply) (new : DeviceView) (b : RunState) → ReserveStep size a l kind page bytes r new b
-        → Reserves a kind page bytes r b × Led a new b
+        → GivesTicket a kind page bytes r b × Led a new b
     reserve kind page bytes (reply.Reserved n place pointer) new b has =
-        reserves (target_in size l page (body_in size (length bytes))) (message_at size l kind page bytes) n place pointer new b has
-    reserve kind page bytes (reply.Failed e) new b (inl step) = refused (target_in size l page (body_in size (length bytes))) e new b step
+        reserves (target_in size l page (body_length_in size (length bytes))) (message_at size l kind page bytes) n place pointer new b has
+    reserve kind page bytes (reply.Failed e) new b (inl step) = refused (target_in size l page (body_length_in size (length bytes))) e new b step
     reserve kind page bytes (reply.Failed e) new b (inr blob) =
-        keeps (Some l) (Some (made_ready l (target_in size l page (body_in size (length bytes))) blob.1.kept)) new b blob.1.leads (inl refl)
+        keeps (Some l) (Some (made_ready l (target_in size l page (body_length_in size (length bytes))) blob.1.kept)) new b blob.1.leads (inl refl)
     reserve kind page bytes _ new b step = absurd step
 
     rewrite : (page : ℕ) (r : Reply) (new : DeviceView) (b : RunState) → RewriteStep size a l page r new b
@@ -249,13 +249,13 @@ module _ (sum : List ℕ → ℕ) (size : ℕ) (device : DeviceView) (H : Histor
         let t : ℕ = has.begun.ticket in
         let m : Message = has.begun.message in
         let came =
-        comes t m (Batched (batch_of l m)) has.history (noting (batch_of l m) (without_pin (spent l t (places_without m.place l.status.opens) l.begun))) due new b has.begun.reserved
+        comes t m (Batched (batch_ended_by l m)) has.history (noting (batch_ended_by l m) (without_pin (spent l t (places_without m.place l.status.opens) l.begun))) due new b has.begun.reserved
         has.step refl has.leads in
-        let all : HasAll a (batch_of l m) = record {
+        let all : HasAll a (batch_ended_by l m) = record {
           completed = λ x there. (let le = ends.completed x there in omega (arith, le));
           reserved = λ n x there. (let le = ends.reserved n x there in omega (arith, le));
         } in
-        ((t, m, batch_of l m, has.begun.manifest, sym has.answer.0, refl, all, came.0), came.1)
+        ((t, m, batch_ended_by l m, has.begun.manifest, sym has.answer.0, refl, all, came.0), came.1)
     end ends (reply.Failed (error.Io e)) new b step =
         keeps (Some l) (Some (without_pin (spent l step.1.0.ticket l.status.opens l.begun))) new b step.1.1 (inr (inr (step.1.0.ticket, refl)))
     end ends _ new b step = absurd step
@@ -268,7 +268,7 @@ module _ (sum : List ℕ → ℕ) (size : ℕ) (device : DeviceView) (H : Histor
     written Meant to n new b low has =
         let end : ℕ = end_below (stable_from to l) H in
         let here : Acknowledges a Meant
-        (record a { device = new; acknowledged = max A end; log = Some (view_at l (failing None (wrote_below size to (ledger_behind size (front_below to has.writes.buffers) (ledger_below to l.status)) l.status))) }) = (
+        (record a { device = new; acknowledged = max A end; log = Some (with_status l (failing None (wrote_below size to (ledger_behind size (front_below to has.writes.buffers) (ledger_below to l.status)) l.status))) }) = (
           omega arith,
           λ m there meant. (let le = message_acknowledged (stable_from to l) H m there (low m there meant) in omega (arith, le)),
           refl,
@@ -318,7 +318,7 @@ module _ (sum : List ℕ → ℕ) (size : ℕ) (device : DeviceView) (H : Histor
     -- Reading.
 
     around : (o : LogView) (at : ℕ) (bs : List BufferAt) → (read_around size o at bs).tickets ≡ o.tickets
-    around o at bs = by (nat_lt at o.status.synced) (view_at o (wrote_around size at (ledger_behind size (one_around at bs) (ledger_around at o.status)) o.status)) refl where
+    around o at bs = by (nat_lt at o.status.synced) (with_status o (wrote_around size at (ledger_behind size (one_around at bs) (ledger_around at o.status)) o.status)) refl where
       by : (x : Bool) (v : LogView) → v.tickets ≡ o.tickets → (if x then o else v).tickets ≡ o.tickets
       by true v is = refl
       by false v is = is
@@ -404,7 +404,7 @@ module _ (sum : List ℕ → ℕ) (size : ℕ) (d : DueMark) (device : DeviceVie
   stays_before None stays = stays
   stays_before (Some l) stays = stays
 
-  reserves_before : (log : Option LogView) (kind : LogKind) (page : ℕ) (bytes : List ℕ) (r : Reply) → Reserves (marked log) kind page bytes r q → Reserves (was log) kind page bytes r q
+  reserves_before : (log : Option LogView) (kind : LogKind) (page : ℕ) (bytes : List ℕ) (r : Reply) → GivesTicket (marked log) kind page bytes r q → GivesTicket (was log) kind page bytes r q
   reserves_before None kind page bytes (reply.Reserved n place pointer) reserves = reserves
   reserves_before (Some l) kind page bytes (reply.Reserved n place pointer) reserves = reserves
   reserves_before log kind page bytes _ stays = stays_before log stays

@@ -37,7 +37,7 @@ use Rattle.sled_log.specs.declared.session.Phase.TheVariants as phase
 use Rattle.sled_log.specs.Made.{HasReplaceBelow, JoinsWithBlob, MayJoin}
 use Rattle.sled_log.specs.Reservations.{HoldsTicket, MayReserve}
 use Rattle.sled_log.specs.RunPhases.{AreRising, BeginsBatch, HasBatch, HasTickets, IsOpenAt, IsTicketFor, Unstored, device_in, seen, shown_due, stands, traces}
-use Rattle.sled_log.specs.RunStates.{DeviceView, has_page, is_present, open_messages, page_now, target_in, top, MarkAt, heads_at}
+use Rattle.sled_log.specs.RunStates.{DeviceView, has_message_for, is_present, open_messages, page_now, target_in, top, MarkAt, heads_at}
 use Rattle.sled_log.specs.TicketSteps.{HasReserved, own_of}
 use Rattle.sled_log.proofs.Sessions.SafeItems.{safe_on}
 use Rattle.sled_log.proofs.Sessions.TicketsSeen.{page_has}
@@ -107,7 +107,7 @@ put_behind trace sum opened k at page n inline =
 module _ {D C : Type 0} (view : D → DeviceView) (sum : List ℕ → ℕ) (old new : Opened D C) (n : ℕ) (its : Message) (reservation : Reservation)
     (guard : Guard) (kept : KeptPlace (traces view) sum old.log new.log n its reservation) (same : IsSameBut old new)
     (tickets : new.tickets.items ≡ old.tickets.items ++ Some (record { kind = its.kind; page = its.page; reservation = reservation; guard = guard }) ∷ [])
-    (k : Unstored) (at : IsOpenAt (traces view) sum old k) (inline : FitsInline (segment_size_of old.log) n) (idle : has_page its.page (open_messages k.tickets) ≡ false) where
+    (k : Unstored) (at : IsOpenAt (traces view) sum old k) (inline : FitsInline (segment_size_of old.log) n) (idle : has_message_for its.page (open_messages k.tickets) ≡ false) where
   abbrev begun_pages : ℕ
   begun_pages = length old.pages.items
 
@@ -210,9 +210,9 @@ module _ {D C : Type 0} (view : D → DeviceView) (sum : List ℕ → ℕ) (old 
         let below = open_all (λ p. p < its.place) k.tickets (λ i m there. let low = (at.tickets.each i m there).begins in let up = behind in omega (arith, low, up)) in
         subst AreRising (sym places_push) (rising_push (map (λ m. m.place) (open_messages k.tickets)) its.place at.tickets.rising below)
 
-    noted : (p : ℕ) → p ≢ manifest_page → get_or new.busy.items p false ≡ has_page p (open_messages (k.tickets ++ Some its ∷ []))
+    noted : (p : ℕ) → p ≢ manifest_page → get_or new.busy.items p false ≡ has_message_for p (open_messages (k.tickets ++ Some its ∷ []))
     noted p message =
-        busy p message ∙ ap (λ (b : Bool). if its.page == p then true else b) (at.tickets.busy p message) ∙ sym (ap (has_page p) (open_push k.tickets its) ∙ page_push p (open_messages k.tickets) its)
+        busy p message ∙ ap (λ (b : Bool). if its.page == p then true else b) (at.tickets.busy p message) ∙ sym (ap (has_message_for p) (open_push k.tickets its) ∙ page_push p (open_messages k.tickets) its)
 
     -- a pin is out for it
     pinned : pins_of new.log ≡ length (open_messages more.tickets) + length at.unmarked
@@ -360,7 +360,7 @@ module _ {D C : Type 0} (view : D → DeviceView) (sum : List ℕ → ℕ) (old 
       }
 
   -- or the manifest of a batch
-  pub held_manifest : m.kind ≡ does.Skip → m.page ≡ manifest_page → IsInline m.pointer → has_page m.page (open_messages k.tickets) ≡ false → HasHeld view sum old new n m reservation k
+  pub held_manifest : m.kind ≡ does.Skip → m.page ≡ manifest_page → IsInline m.pointer → has_message_for m.page (open_messages k.tickets) ≡ false → HasHeld view sum old new n m reservation k
   held_manifest skip manifest plain idle =
       let same : (m.page == manifest_page) ≡ true = eq-eqb m.page manifest_page manifest in
       let same_busy : new.busy.items ≡ old.busy.items = holds.busy ∙ ap (λ (b : Bool). if b then old.busy.items else set old.busy.items m.page true) same in

@@ -47,7 +47,7 @@ use Rattle.sled_log.specs.declared.session.command.Reply.TheVariants as reply
 use Rattle.sled_log.specs.LogActs.{ActsOver, IsBlobError, IsCausedBy, IsWriting, ItemWasRead, KeepsPlaceBy, KeepsPlaceOver, LogActs, LogCalls, MakesSomeBlob, OnlyWrites, ReadsEntriesOver, ReadsItemOver, ReadsSomeOver}
 use Rattle.sled_log.specs.Reservations.{GivesBack, HoldsTicket, MakesRoom}
 use Rattle.sled_log.specs.RunPhases.{seen_log, traces}
-use Rattle.sled_log.specs.RunStates.{DeviceView, LogView, body_in, target_in}
+use Rattle.sled_log.specs.RunStates.{DeviceView, LogView, body_length_in, target_in}
 use Rattle.sled_log.specs.TicketActs.{BlobActs, RemoveActs, making_for}
 use Rattle.sled_log.specs.TicketSteps.{blank_manifest}
 use Rattle.sled_log.proofs.Sessions.EndedTickets.{removal_done, removal_failed}
@@ -223,7 +223,7 @@ module _ {D C : Type 0} (view : D → DeviceView) (sum : List ℕ → ℕ) (old 
   there = seen_log old 0 [] [] []
 
   abbrev blob_place : ℤ
-  blob_place = pos (target_in size there page (body_in size (length bytes))).place
+  blob_place = pos (target_in size there page (body_length_in size (length bytes))).place
 
   abbrev Came : Reply → Type 0
   Came r = KeepsPlaceOver view sum old kind page bytes r new

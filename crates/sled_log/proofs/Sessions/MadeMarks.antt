@@ -40,7 +40,7 @@ use Rattle.sled_log.specs.Made.{IsMade}
 use Rattle.sled_log.specs.Marking.{KeepsBeside, MakesDue, Settles, mark_of, with_due}
 use Rattle.sled_log.specs.RunPhases.{AreUnmarked, HasBatch, HasTickets, IsOpenAt, IsUnmarked, Unstored, seen_log, shown_due, stands, traces}
 use Rattle.sled_log.specs.RunStates.{DeviceView, DueMark, LogView, MarkAt, open_messages, top}
-use Rattle.sled_log.specs.SessionMarks.{marking, slots_by, slots_marked}
+use Rattle.sled_log.specs.SessionMarks.{marking, slots_after, slots_marked}
 use Rattle.sled_log.proofs.Sessions.BegunHeads.{heads_left, other_same}
 use Rattle.sled_log.proofs.Sessions.SafeItems.{safe_on}
 use Rattle.sled_log.proofs.Sessions.SharedBlobs.{none_shares}
@@ -48,10 +48,10 @@ use Rattle.sled_core.proofs.Line.StatusSeen.{over_seen}
 
 -- What a mark makes of the slots, by its kind.
 
-slots_linked : (size : ℕ) (d : DueMark) (m : Machine) (k : LogKind) → k ≡ does.Link → slots_by size k d m ≡ linked size d.page d.new m
-slots_linked size d m k is = ap (λ (x : LogKind). slots_by size x d m) is
+slots_linked : (size : ℕ) (d : DueMark) (m : Machine) (k : LogKind) → k ≡ does.Link → slots_after size k d m ≡ linked size d.page d.new m
+slots_linked size d m k is = ap (λ (x : LogKind). slots_after size x d m) is
 
-slots_replaced : (size : ℕ) (d : DueMark) (m : Machine) (k : LogKind) → (k ≡ does.Link → ⊥) → slots_by size k d m ≡ replaced size d.page d.new d.old m
+slots_replaced : (size : ℕ) (d : DueMark) (m : Machine) (k : LogKind) → (k ≡ does.Link → ⊥) → slots_after size k d m ≡ replaced size d.page d.new d.old m
 slots_replaced size d m does.Link other = absurd (other refl)
 slots_replaced size d m does.Replace other = refl
 slots_replaced size d m does.Free other = refl

@@ -10,7 +10,7 @@ use Rattle.sled_codec.specs.History.{Message}
 use Rattle.sled_core.specs.Manifests.{manifest_page}
 use Rattle.sled_core.proofs.Reserve.ReserveLemmas.{there_append}
 use Rattle.sled_log.specs.RunPhases.{AreRising, HasBatch}
-use Rattle.sled_log.specs.RunStates.{has_page, open_messages}
+use Rattle.sled_log.specs.RunStates.{has_message_for, open_messages}
 
 -- Lists.
 
@@ -36,11 +36,11 @@ open_all P (None ∷ ts) each = open_all P ts (λ i m there. each (suc i) m ther
 open_all P (Some x ∷ ts) each = All-cons P x.place (map (λ m. m.place) (open_messages ts)) (each 0 x refl) (open_all P ts (λ i m there. each (suc i) m there))
 
 -- whether one is of a page, with one more
-pub page_push : (page : ℕ) (ms : List Message) (m : Message) → has_page page (ms ++ m ∷ []) ≡ (if m.page == page then true else has_page page ms)
+pub page_push : (page : ℕ) (ms : List Message) (m : Message) → has_message_for page (ms ++ m ∷ []) ≡ (if m.page == page then true else has_message_for page ms)
 page_push page [] m = refl
 page_push page (x ∷ ms) m = by (x.page == page) (m.page == page) (page_push page ms m) where
-  by : (a b : Bool) → has_page page (ms ++ m ∷ []) ≡ (if b then true else has_page page ms)
-      → (if a then true else has_page page (ms ++ m ∷ [])) ≡ (if b then true else (if a then true else has_page page ms))
+  by : (a b : Bool) → has_message_for page (ms ++ m ∷ []) ≡ (if b then true else has_message_for page ms)
+      → (if a then true else has_message_for page (ms ++ m ∷ [])) ≡ (if b then true else (if a then true else has_message_for page ms))
   by true true rest = refl
   by true false rest = refl
   by false true rest = rest
@@ -49,7 +49,7 @@ page_push page (x ∷ ms) m = by (x.page == page) (m.page == page) (page_push pa
 -- the number of the manifest's ticket stays, where the one that comes isn't one
 pub batch_push : (ts : List (Option Message)) (m : Message) (batch : Option ℕ) → m.page ≢ manifest_page → HasBatch ts batch → HasBatch (ts ++ Some m ∷ []) batch
 batch_push ts m None message none =
-    ap (has_page manifest_page) (open_push ts m) ∙ page_push manifest_page (open_messages ts) m ∙ ap (λ (b : Bool). if b then true else has_page manifest_page (open_messages ts)) (ne_eqb m.page manifest_page message) ∙ none
+    ap (has_message_for manifest_page) (open_push ts m) ∙ page_push manifest_page (open_messages ts) m ∙ ap (λ (b : Bool). if b then true else has_message_for manifest_page (open_messages ts)) (ne_eqb m.page manifest_page message) ∙ none
 batch_push ts m (Some n) message has = (has.0, there_append ts (Some m ∷ []) n (Some has.0) has.1, has.2)
 
 -- one page is noted

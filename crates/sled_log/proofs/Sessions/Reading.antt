@@ -60,8 +60,8 @@ use Rattle.sled_log.proofs.Sessions.FailedSteps.{step_failed}
 use Rattle.sled_log.proofs.Sessions.Writing.{AreWhole, StaysPut, due_none, flush_in, flush_out, if_held, kept_with, over, put_writing, still_with, whole_seen, stands_left}
 use Rattle.sled_log.specs.Readings.{IsOfPage, IsRead, ReadsEntries, ReadsItem, page_told}
 use Rattle.sled_log.specs.RunPhases.{IsOpenAt, Unstored, seen, seen_log, stands, traces, HasHeads}
-use Rattle.sled_log.specs.RunStates.{DeviceView, EndsInReach, LogView, MarkAt, RunState, heads_at, is_present, page_now, top, view_at, with_log}
-use Rattle.sled_log.specs.ReadSteps.{FailsAt, ReadStep, ReadsAll, ReadsAt, chosen_around, held_around_place, holding_read, read_around, read_at}
+use Rattle.sled_log.specs.RunStates.{DeviceView, EndsInReach, LogView, MarkAt, RunState, heads_at, is_present, page_now, top, with_status, with_log}
+use Rattle.sled_log.specs.ReadSteps.{FailsAt, ReadStep, ReadsAll, BringsToDevice, chosen_around, held_around_place, holding_read, read_around, read_at}
 use Rattle.sled_log.specs.WriteSteps.{IfHeld, IsWhy, ShowsBuffers, WritesSome, headed, fillings_seen}
 
 -- Buffers that have a place.
@@ -226,7 +226,7 @@ module _ {D C : Type 0} (view : D → DeviceView) (sum : List ℕ → ℕ) (old 
   put = put_writing (traces view) sum old new keeps
 
   -- where it stands then
-  leaves : (s : LogStatus) → status_of new ≡ s → after ≡ view_at before s
+  leaves : (s : LogStatus) → status_of new ≡ s → after ≡ with_status before s
   leaves s is =
       ap (log_or before)
       (stands_left old sum begun k.tickets k.given_up k.heads (traces view) new old_view new_view k.history k.acknowledged k.floor None put k.acknowledged s is)
@@ -292,7 +292,7 @@ module _ {D C : Type 0} (view : D → DeviceView) (sum : List ℕ → ℕ) (old 
       } in
       let over_it : LogView → RunState = λ x. with_log a new_view (Some x) in
       let unheld : held_at sum old (pos at) ≡ None → holding_read before at ≡ None = λ free. sym (holding_seen old sum at begun k of.read_below) ∙ free in
-      let leaves_sealed : LeavesSealed sum at old new → with_log a new_view (Some after) ≡ with_log a new_view (Some (view_at before (failing (fault_of new) (seal_around size at before.status)))) =
+      let leaves_sealed : LeavesSealed sum at old new → with_log a new_view (Some after) ≡ with_log a new_view (Some (with_status before (failing (fault_of new) (seal_around size at before.status)))) =
       λ sealed. ap over_it (leaves _ sealed.1) in
       record {
         sound = none;
@@ -358,7 +358,7 @@ module _ {D C : Type 0} (view : D → DeviceView) (sum : List ℕ → ℕ) (old 
   around : {T : Type 0} (r : T) → WritesAround sum (Ok r) (pos at) old new → fault_of new ≡ fault_of old → after ≡ read_around (segment_size_of old) before at (sealed_at sum at old)
   around r writes kept = by (nat_lt at (synced_end old)) refl where
     by : (o : Bool) → nat_lt at (synced_end old) ≡ o
-        → after ≡ (if o then before else view_at before (wrote_around (segment_size_of old) at (ledger_written sum at old) (status_of old)))
+        → after ≡ (if o then before else with_status before (wrote_around (segment_size_of old) at (ledger_written sum at old) (status_of old)))
     by true below =
         let low = writes.still (grind (arith, ints, nat_tests, below)) in
         leaves (status_of old) (low.1 ∙ ap (λ (f : Option IoError). failing f (status_of old)) kept)
@@ -367,7 +367,7 @@ module _ {D C : Type 0} (view : D → DeviceView) (sum : List ℕ → ℕ) (old 
         let high = writes.written (grind (arith, ints, nat_tests, beyond)) in
         leaves _ (high.1 ∙ ap (λ (f : Option IoError). failing f (wrote_around (segment_size_of old) at (ledger_written sum at old) (status_of old))) kept)
 
-  pub was_read : (blobs : ℤ → Option (List ℕ)) (r : LogRead) (z : ℤ) (p : DiskPtr) → pos m.place ≡ z → m.pointer ≡ p → Told blobs (Ok r) z p → (before.status.fault ≡ None) × (reads : ReadsAt sum (segment_size_of old) before at old_view new_view) × (after ≡ read_around (segment_size_of old) before at reads.writes.buffers)
+  pub was_read : (blobs : ℤ → Option (List ℕ)) (r : LogRead) (z : ℤ) (p : DiskPtr) → pos m.place ≡ z → m.pointer ≡ p → Told blobs (Ok r) z p → (before.status.fault ≡ None) × (reads : BringsToDevice sum (segment_size_of old) before at old_view new_view) × (after ≡ read_around (segment_size_of old) before at reads.writes.buffers)
   was_read blobs r z p here points told =
       let own = told_own blobs (Ok r) z p here points told in
       let answers = own.1.1 in (
@@ -387,7 +387,7 @@ module _ {D C : Type 0} (view : D → DeviceView) (sum : List ℕ → ℕ) (old 
 -- Several messages are read, one behind another.
 
 -- one more
-reads_more : (sum : List ℕ → ℕ) (size : ℕ) (done : List Message) (m : Message) (l end : LogView) (old mid new : DeviceView) → ReadsAll sum size l done old mid end → (more : ReadsAt sum size end (read_at m) mid new)
+reads_more : (sum : List ℕ → ℕ) (size : ℕ) (done : List Message) (m : Message) (l end : LogView) (old mid new : DeviceView) → ReadsAll sum size l done old mid end → (more : BringsToDevice sum size end (read_at m) mid new)
     → ReadsAll sum size l (done ++ m ∷ []) old new (read_around size end (read_at m) more.writes.buffers)
 reads_more sum size [] m l end old mid new is more = (
   new,
@@ -406,7 +406,7 @@ reads_more sum size (n ∷ done) m l end old mid new is more = (is.0, is.1, read
 
 -- a message was read, with segments of this size, which leads from one log to another
 abbrev WasRead : (List ℕ → ℕ) → ℕ → LogView → ℕ → DeviceView → DeviceView → LogView → Type 0
-WasRead sum size l at old new l' = (reads : ReadsAt sum size l at old new) × (l' ≡ read_around size l at reads.writes.buffers)
+WasRead sum size l at old new l' = (reads : BringsToDevice sum size l at old new) × (l' ≡ read_around size l at reads.writes.buffers)
 
 -- what all have this one has
 all_at : (P : Message → Type 0) (done : List Message) (m : Message) (rest : List Message) → All P (done ++ m ∷ rest) → P m
@@ -439,7 +439,7 @@ first_there (m ∷ ms) present = (m, ms, refl)
 -- a read keeps what failure is kept
 fault_around : (size : ℕ) (l : LogView) (at : ℕ) (bs : List BufferAt) → (read_around size l at bs).status.fault ≡ l.status.fault
 fault_around size l at bs = by (nat_lt at l.status.synced) where
-  by : (o : Bool) → (if o then l else view_at l (wrote_around size at (ledger_behind size (one_around at bs) (ledger_around at l.status)) l.status)).status.fault ≡ l.status.fault
+  by : (o : Bool) → (if o then l else with_status l (wrote_around size at (ledger_behind size (one_around at bs) (ledger_around at l.status)) l.status)).status.fault ≡ l.status.fault
   by true = refl
   by false = refl
 

@@ -17,12 +17,12 @@ use Rattle.sled_core.proofs.Holds.Facts.{current_facts}
 use Rattle.sled_core.proofs.Line.ReadySeen.{far_begins, far_slot, moved_next, moved_seen, only_true, target}
 use Rattle.sled_core.proofs.PublicLaws.{current_count, current_least, target_above as put_above}
 use Rattle.sled_log.specs.RunPhases.{seen_log}
-use Rattle.sled_log.specs.RunStates.{EndsInReach, LogView, body_in, target_in, MarkAt}
+use Rattle.sled_log.specs.RunStates.{EndsInReach, LogView, body_length_in, target_in, MarkAt}
 use Rattle.sled_log.specs.TicketSteps.{IsFullOfOpen, opens_beside}
 use Rattle.sled_core.proofs.Holds.ReachLemmas.{position_past}
 
 -- the body of a record is the item or the place of its blob: it fits inline in either case
-pub body_fits : {D C : Type 0} (log : Log D C) (n : ℕ) → FitsInline (segment_size_of log) (body_in (segment_size_of log) n)
+pub body_fits : {D C : Type 0} (log : Log D C) (n : ℕ) → FitsInline (segment_size_of log) (body_length_in (segment_size_of log) n)
 body_fits log n = by (in_blob (segment_size_of log) n) refl where
   by : (b : Bool) → in_blob (segment_size_of log) n ≡ b → FitsInline (segment_size_of log) (if b then 8 else n)
   by true is = let least = log.config.config.least in omega (arith, least)

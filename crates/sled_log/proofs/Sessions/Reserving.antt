@@ -54,7 +54,7 @@ use Rattle.sled_log.specs.declared.session.Phase.TheVariants as phase
 use Rattle.sled_log.specs.Made.{JoinsWithBlob}
 use Rattle.sled_log.specs.Reservations.{GivesBack, HasTried, HoldsTicket, MakesRoom, MayReserve}
 use Rattle.sled_log.specs.RunPhases.{AreUnmarked, HasBatch, IsOpenAt, IsSafe, Unstored, device_in, seen, seen_log, shown_due, stands, traces, HasHeads}
-use Rattle.sled_log.specs.RunStates.{DeviceView, LogView, RunState, has_page, open_messages, target_in, top, MarkAt, heads_at}
+use Rattle.sled_log.specs.RunStates.{DeviceView, LogView, RunState, has_message_for, open_messages, target_in, top, MarkAt, heads_at}
 use Rattle.sled_log.specs.Runs.{StaysRecoverable}
 use Rattle.sled_log.specs.TicketActs.{BlobActs, ReserveActs, making_for}
 use Rattle.sled_log.specs.TicketSteps.{HasRecordPlace, RefusedStep, ReserveStep, own_in}
@@ -241,7 +241,7 @@ module _ {D C : Type 0} (view : D → DeviceView) (sum : List ℕ → ℕ) (old 
       tried_by (held_message view sum old new log long its reservation guard result k kept holds none at inline changes (own_blob old.log k.history kind page bytes) small message may)
 
   -- or the manifest of a batch, whose item is in its record.
-  pub manifest_tried : kind ≡ does.Skip → page ≡ manifest_page → in_blob_of old.log (length bytes) ≡ false → has_page page (open_messages k.tickets) ≡ false → HasTried view sum old kind page bytes new result k
+  pub manifest_tried : kind ≡ does.Skip → page ≡ manifest_page → in_blob_of old.log (length bytes) ≡ false → has_message_for page (open_messages k.tickets) ≡ false → HasTried view sum old kind page bytes new result k
   manifest_tried skip manifest short idle =
       let q : Position = target_of old.log page long in
       let plain : IsInline its.pointer = subst (λ (b : Bool). IsInline (pointer_as (blob_at b q.place) (lid_at q))) (sym short) tt in

@@ -32,7 +32,7 @@ use Rattle.sled_log.specs.declared.session.command.Reply.TheVariants as reply
 use Rattle.sled_log.specs.Refusals.{is_crash, is_for_log, reason_of, refusal_for, refused_by_log, when}
 use Rattle.sled_log.specs.RunStates.{DeviceView, LogView, RunState}
 use Rattle.sled_log.specs.OpenSteps.{IsCause, IsStartCause}
-use Rattle.sled_log.specs.Runs.{Carries, CarriesOn, CrashStep, IsOwn, IsStep, KeepsOwn, ReadsOwnBehind, StaysRecoverable, StaysWithin, left_after, told}
+use Rattle.sled_log.specs.Runs.{Carries, CarriesOn, CrashStep, IsOwn, IsStep, KeepsOwn, ReadsOwnBehind, StaysRecoverable, StaysWithin, left_by_choice, told}
 use Rattle.sled_log.specs.RunPhases.{AnswersFrom, AnswersIn, CarriesHere, CarriesOnIn, CarriesOut, Does, DoesBy, IsAt, IsClosedAt, IsOpenAt, RunsOn, StandsIn, Unstored, device_in, running, size_of, stands, traces}
 use Rattle.sled_log.proofs.Sessions.MadeHistories.{none_made}
 use Rattle.sled_log.proofs.Sessions.Within.{still_there, untouched}
@@ -253,7 +253,7 @@ module _ {D C : Type 0} (view : D → DeviceView) (sum : List ℕ → ℕ) (from
       → IsOwn sum (size_of from) (state_of a.device.trace) d r → KeepsOwn sum (size_of from) (stands view to k)
       → ReadsOwnBehind sum (size_of from) d r (stands view to k)
   own_behind a (command.Crash choice) (reply.Crashed taken) to k step own keeps =
-      let left : Left = left_after choice taken in
+      let left : Left = left_by_choice choice taken in
       let old : State = state_of a.device.trace in
       subst (λ (v : DeviceView). ReadsOnlyOwn sum (size_of from) (state_of v.trace)) (sym step.0.1)
       (only_own sum (size_of from) (state_of (Crashed left ∷ a.device.trace)) (own_after_crash sum (size_of from) left old own))

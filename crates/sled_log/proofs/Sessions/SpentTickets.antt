@@ -18,7 +18,7 @@ use Rattle.sled_log.specs.declared.session.tickets.Ticket.{Ticket}
 use Rattle.sled_log.specs.Endings.{batch_left}
 use Rattle.sled_log.specs.Made.{MayJoin}
 use Rattle.sled_log.specs.RunPhases.{AreRising, BeginsBatch, HasBatch, HasTickets, IsSafe, IsTicketFor}
-use Rattle.sled_log.specs.RunStates.{has_page, has_ticket, open_messages, places_without}
+use Rattle.sled_log.specs.RunStates.{has_message_for, has_ticket, open_messages, places_without}
 
 -- Places that rise.
 
@@ -111,14 +111,14 @@ places_differ (Some a ∷ ts) (suc i) (suc j) x y rises first second apart same 
 
 -- Which pages have an open ticket.
 
-none_has : (page : ℕ) (ts : List (Option Message)) → ((j : ℕ) (x : Message) → slice_get ts j ≡ Some (Some x) → x.page ≡ page → ⊥) → has_page page (open_messages ts) ≡ false
+none_has : (page : ℕ) (ts : List (Option Message)) → ((j : ℕ) (x : Message) → slice_get ts j ≡ Some (Some x) → x.page ≡ page → ⊥) → has_message_for page (open_messages ts) ≡ false
 none_has page [] never = refl
 none_has page (None ∷ ts) never = none_has page ts (λ j. never (suc j))
 none_has page (Some x ∷ ts) never =
-    ap (λ (b : Bool). if b then true else has_page page (open_messages ts)) (ne_eqb x.page page (never zero x refl)) ∙ none_has page ts (λ j. never (suc j))
+    ap (λ (b : Bool). if b then true else has_message_for page (open_messages ts)) (ne_eqb x.page page (never zero x refl)) ∙ none_has page ts (λ j. never (suc j))
 
-has_without : (page : ℕ) (before : List Message) (m : Message) (after : List Message) → (m.page ≡ page → ⊥) → has_page page (before ++ after) ≡ has_page page (before ++ m ∷ after)
-has_without page [] m after other = sym (ap (λ (b : Bool). if b then true else has_page page after) (ne_eqb m.page page other))
+has_without : (page : ℕ) (before : List Message) (m : Message) (after : List Message) → (m.page ≡ page → ⊥) → has_message_for page (before ++ after) ≡ has_message_for page (before ++ m ∷ after)
+has_without page [] m after other = sym (ap (λ (b : Bool). if b then true else has_message_for page after) (ne_eqb m.page page other))
 has_without page (x ∷ before) m after other = ap (λ (b : Bool). if x.page == page then true else b) (has_without page before m after other)
 
 unset : (busy : List Bool) (page : ℕ) → get_or (set busy page false) page false ≡ false
@@ -184,16 +184,16 @@ module _ {D C : Type 0} (trace : D → Trace) (sum : List ℕ → ℕ) (old new 
     by false is = let ne : j ≡ n → ⊥ = λ same. grind (arith, nat_tests, is, same) in set_other old.tickets.items n j None ne ∙ was.gone j (sym (set_other ts n j None ne) ∙ at)
 
   -- another page has an open ticket where it had
-  others_have : (page : ℕ) → (m.page ≡ page → ⊥) → has_page page (open_messages us) ≡ has_page page (open_messages ts)
-  others_have page ne = let split = split_at ts n m there in ap (has_page page) split.is ∙ has_without page split.before m split.after ne ∙ ap (has_page page) (sym split.was)
+  others_have : (page : ℕ) → (m.page ≡ page → ⊥) → has_message_for page (open_messages us) ≡ has_message_for page (open_messages ts)
+  others_have page ne = let split = split_at ts n m there in ap (has_message_for page) split.is ∙ has_without page split.before m split.after ne ∙ ap (has_message_for page) (sym split.was)
 
   -- and its own has none
-  own_has : (page : ℕ) → page ≡ m.page → has_page page (open_messages us) ≡ false
+  own_has : (page : ℕ) → page ≡ m.page → has_message_for page (open_messages us) ≡ false
   own_has page same = none_has page us (λ j x at is_of. other j x at (was.apart j n x m (before j x at) there (is_of ∙ same)))
 
-  busy_now : (page : ℕ) → page ≢ manifest_page → get_or new.busy.items page false ≡ has_page page (open_messages us)
+  busy_now : (page : ℕ) → page ≢ manifest_page → get_or new.busy.items page false ≡ has_message_for page (open_messages us)
   busy_now page message = ap (λ (l : List Bool). get_or l page false) busy ∙ by (page == m.page) refl where
-    by : (o : Bool) → (page == m.page) ≡ o → get_or (set old.busy.items m.page false) page false ≡ has_page page (open_messages us)
+    by : (o : Bool) → (page == m.page) ≡ o → get_or (set old.busy.items m.page false) page false ≡ has_message_for page (open_messages us)
     by true is = let same : page ≡ m.page = grind (arith, nat_tests, is) in ap (λ p. get_or (set old.busy.items m.page false) p false) same ∙ unset old.busy.items m.page ∙ sym (own_has page same)
     by false is =
         let ne : page ≡ m.page → ⊥ = λ same. grind (arith, nat_tests, is, same) in

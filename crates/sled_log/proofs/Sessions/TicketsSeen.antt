@@ -12,7 +12,7 @@ use Rattle.sled_log.specs.declared.session.tickets.Ticket.{Ticket}
 use Rattle.sled_core.specs.Manifests.{manifest_page}
 use Rattle.sled_store.specs.Device.{Trace}
 use Rattle.sled_log.specs.RunPhases.{HasBatch, HasTickets}
-use Rattle.sled_log.specs.RunStates.{has_message, has_page, has_ticket, in_batch, open_messages}
+use Rattle.sled_log.specs.RunStates.{has_message, has_message_for, has_ticket, in_batch, open_messages}
 
 has_got : (n : ℕ) (ts : List (Option Message)) (m : Message) → slice_get ts n ≡ Some (Some m) → has_ticket n ts ≡ true
 has_got n [] m got = cc
@@ -48,7 +48,7 @@ got_open zero (o ∷ os) x got = ap (λ y. Some y) got
 got_open (suc n) (o ∷ os) x got = got_open n os x got
 
 -- the page of an open one is among theirs
-pub page_has : (ts : List (Option Message)) (i page : ℕ) (m : Message) → slice_get ts i ≡ Some (Some m) → m.page ≡ page → has_page page (open_messages ts) ≡ true
+pub page_has : (ts : List (Option Message)) (i page : ℕ) (m : Message) → slice_get ts i ≡ Some (Some m) → m.page ≡ page → has_message_for page (open_messages ts) ≡ true
 page_has [] i page m there of = cc
 page_has (None ∷ ts) zero page m there of = cc
 page_has (None ∷ ts) (suc i) page m there of = page_has ts i page m there of
@@ -56,11 +56,11 @@ page_has (Some x ∷ ts) zero page m there of = by (x.page == page) refl where
   same : x ≡ m
   same = same_Some x m (same_Some (Some x) (Some m) there)
 
-  by : (o : Bool) → (x.page == page) ≡ o → (if o then true else has_page page (open_messages ts)) ≡ true
+  by : (o : Bool) → (x.page == page) ≡ o → (if o then true else has_message_for page (open_messages ts)) ≡ true
   by true is = refl
   by false is = absurd (let at = ap (λ (y : Message). y.page) same in grind (arith, nat_tests, is, at, of))
 page_has (Some x ∷ ts) (suc i) page m there of = by (x.page == page) (page_has ts i page m there of) where
-  by : (o : Bool) → has_page page (open_messages ts) ≡ true → (if o then true else has_page page (open_messages ts)) ≡ true
+  by : (o : Bool) → has_message_for page (open_messages ts) ≡ true → (if o then true else has_message_for page (open_messages ts)) ≡ true
   by true rest = refl
   by false rest = rest
 

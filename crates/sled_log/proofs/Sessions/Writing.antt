@@ -45,7 +45,7 @@ use Rattle.sled_log.specs.declared.session.marking.Due.{Due}
 use Rattle.sled_log.specs.declared.session.command.Refusal.{Refusal}
 use Rattle.sled_log.specs.Refusals.{when}
 use Rattle.sled_log.specs.RunPhases.{AreUnmarked, HasHeads, IsOpenAt, IsTicketFor, Unstored, seen_log, seen}
-use Rattle.sled_log.specs.RunStates.{DeviceView, DueMark, EndsInReach, LogView, MarkAt, RunState, heads_at, open_messages, pending_in_view, view_at, with_log}
+use Rattle.sled_log.specs.RunStates.{DeviceView, DueMark, EndsInReach, LogView, MarkAt, RunState, heads_at, open_messages, pending_in_view, with_status, with_log}
 use Rattle.sled_log.specs.WriteSteps.{FailsTo, HasWrittenTo, IfHeld, IsWhy, KeepsFailing, ShowsBuffers, filled_by, fillings_seen, headed, holding, stable_from, synced_from}
 use Rattle.sled_log.proofs.Sessions.BegunHeads.{HasOnlyBegun, heads_kept, heads_still}
 use Rattle.sled_core.proofs.Line.StatusSeen.{IsHeldBy, all_held, below_front, below_held, count_seen, ledger_below_seen, sealed_seen, sealed_too, shows_current, span_seen, waiting_held}
@@ -205,7 +205,7 @@ module _ {D C : Type 0} (log : Log D C) (sum : List ℕ → ℕ) (begun : ℕ) (
 
     -- where that stands so
     pub stands_left : (reached : ℕ) (s : LogStatus) → status_of new ≡ s
-        → after reached ≡ record { device = now; history = H; acknowledged = reached; floor = f; log = Some (view_at l s); due = due }
+        → after reached ≡ record { device = now; history = H; acknowledged = reached; floor = f; log = Some (with_status l s); due = due }
     stands_left reached s is =
         λ i. record {
           device = now;
@@ -307,7 +307,7 @@ module _ {D C : Type 0} (log : Log D C) (sum : List ℕ → ℕ) (begun : ℕ) (
                 more = omega (arith, past, answer, stable);
                 leads =
                     stands_left trace new device now H A f due put (max A (end_below (stable_end new) H)) (failing None (status_below sum to log)) sound
-                    ∙ ap (λ reached. record { device = now; history = H; acknowledged = max A (end_below reached H); floor = f; log = Some (view_at l (failing None (status_below sum to log))); due = due }) stable;
+                    ∙ ap (λ reached. record { device = now; history = H; acknowledged = max A (end_below reached H); floor = f; log = Some (with_status l (failing None (status_below sum to log))); due = due }) stable;
               }
 
           -- It failed.
@@ -342,7 +342,7 @@ module _ {D C : Type 0} (log : Log D C) (sum : List ℕ → ℕ) (begun : ℕ) (
                         ))),
                   ))
               | inr front ↦ (
-                  let view : Ledger → RunState = λ x. record (before trace new device now H A f due put) { device = now; log = Some (view_at l (failing (fault_of new) (wrote_front size to front.count x l.status))) } in
+                  let view : Ledger → RunState = λ x. record (before trace new device now H A f due put) { device = now; log = Some (with_status l (failing (fault_of new) (wrote_front size to front.count x l.status))) } in
                   let stands : after trace new device now H A f due put A ≡ view (ledger_of new) = stands_left trace new device now H A f due put A _ front.stands.1 in
                   let seen = ledger_below_seen log to in (
                     front.count,

@@ -11,7 +11,7 @@ use Rattle.sled_core.specs.declared.iterator.scan.ScannedRecord.{ScannedRecord}
 use Rattle.sled_core.specs.declared.iterator.Segment.{Segment}
 use Rattle.sled_store.specs.Device.{State, content_of}
 use Rattle.sled_store.specs.SnapshotFiles.{BeginsFrom}
-use Rattle.sled_log.specs.Recovery.{RecoveryResult, Scanned, Recovered, Damaged, unchanged, concluded, outcome_of, given, has_no_table, are_whole, table_of, is_beyond, cut_of, stops_in, passed_in, open_at, begun_below, resolved_scan, slots_of, AreReplayed, IsOrdering, Passes, ContinuesFrom, Recovers}
+use Rattle.sled_log.specs.Recovery.{RecoveryResult, Scanned, Recovered, Damaged, unchanged, concluded, outcome_of, given, has_no_table, are_whole, table_of, is_beyond, cut_of, stops_in, passed_in, open_at, begun_below, resolved_scan, slots_in_order, AreReplayed, IsOrdering, Passes, ContinuesFrom, Recovers}
 use Rattle.sled_log.specs.WritesBack.{short_file, snapshot_number_of, IsOnlySnapshot, IsWrittenBack}
 use Rattle.sled_log.proofs.Replay.LineLemmas.{LieBelow, none_given, chain_of, chain_begun, line_of}
 use Rattle.sled_log.proofs.Replay.BlobLemmas.{all_below_resolved}
@@ -43,10 +43,10 @@ module _ (sum : List ℕ → ℕ) (size : ℕ) (log : List ℕ) (blobs : ℤ →
       inr (unread, passed_in end t (open_at end t.met) ts, cut_of size (stops_in end t (open_at end t.met) ts), all_below_resolved blobs end sum size log large s ss line, sym comes)
 
   by_end : (ordering : List Segment) (least : ℕ) → IsOrdering sum size log least ordering → (end : Option ℕ) → Passes sum size log blobs first ordering end (Recovered x) → Comes size first x
-  by_end ordering least is None comes = inl (slots_of ordering, cc)
+  by_end ordering least is None comes = inl (slots_in_order ordering, cc)
   by_end ordering least is (Some end) (inl damaged) = let no = damaged.0 in absurd (cc)
   by_end ordering least is (Some end) (inr (passes, are, inl damaged)) = let no = damaged.1 in absurd (cc)
-  by_end ordering least is (Some end) (inr (passes, are, inr (good, comes))) = from_passes (slots_of (drop (length passes) ordering)) ordering least end passes is are comes
+  by_end ordering least is (Some end) (inr (passes, are, inr (good, comes))) = from_passes (slots_in_order (drop (length passes) ordering)) ordering least end passes is are comes
 
   pub comes_of : ContinuesFrom sum size log blobs first (Recovered x) → Comes size first x
   unfolding ContinuesFrom

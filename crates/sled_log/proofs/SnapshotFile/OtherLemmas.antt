@@ -8,7 +8,7 @@ use Rattle.std.proofs.lemmas.List.Elements.{filter_passes}
 use Rattle.std.proofs.lemmas.List.Kept.{IsStrictlySortedBy-filter}
 use Rattle.sled_store.specs.Device.{Trace, SnapshotRemoved, NamesState, state_of, unnamed, renamed}
 use Rattle.sled_store.specs.Script.{after_all}
-use Rattle.sled_log.specs.WritesBack.{removing, others, is_other, AreOthers, MayBeRemoved}
+use Rattle.sled_log.specs.WritesBack.{removing_snapshots, others, is_other, AreOthers, MayBeRemoved}
 use Rattle.sled_store.proofs.Names.BlobLemmas.{contains_head, contains_more, contains_one_of}
 
 -- Elements of a list.
@@ -151,25 +151,25 @@ kept_from n (m ∷ ns) s others =
 
 -- What removals of snapshots leave.
 
-removed_names : (ns : List ℤ) (h : Trace) → (state_of (after_all (removing ns) h)).snapshots ≡ all_unnamed (state_of h).snapshots ns
+removed_names : (ns : List ℤ) (h : Trace) → (state_of (after_all (removing_snapshots ns) h)).snapshots ≡ all_unnamed (state_of h).snapshots ns
 removed_names [] h = refl
 removed_names (m ∷ ns) h = removed_names ns (SnapshotRemoved m true ∷ h)
 
-pub missing_after : (n : ℤ) (ns : List ℤ) (h : Trace) → file_at h n ≡ None → file_at (after_all (removing ns) h) n ≡ None
+pub missing_after : (n : ℤ) (ns : List ℤ) (h : Trace) → file_at h n ≡ None → file_at (after_all (removing_snapshots ns) h) n ≡ None
 missing_after n ns h none = ap (λ (s : NamesState). s.file n) (removed_names ns h) ∙ missing_from n ns (state_of h).snapshots none
 
-pub gone_after : (n : ℤ) (ns : List ℤ) (h : Trace) → Contains ns n → file_at (after_all (removing ns) h) n ≡ None
+pub gone_after : (n : ℤ) (ns : List ℤ) (h : Trace) → Contains ns n → file_at (after_all (removing_snapshots ns) h) n ≡ None
 gone_after n ns h there = ap (λ (s : NamesState). s.file n) (removed_names ns h) ∙ gone_from n ns (state_of h).snapshots there
 
-pub kept_after : (n : ℤ) (ns : List ℤ) (h : Trace) → (Contains ns n → ⊥) → file_at (after_all (removing ns) h) n ≡ file_at h n
+pub kept_after : (n : ℤ) (ns : List ℤ) (h : Trace) → (Contains ns n → ⊥) → file_at (after_all (removing_snapshots ns) h) n ≡ file_at h n
 kept_after n ns h others = ap (λ (s : NamesState). s.file n) (removed_names ns h) ∙ kept_from n ns (state_of h).snapshots others
 
 -- the log file and the blobs stay
-pub log_after : (ns : List ℤ) (h : Trace) → (state_of (after_all (removing ns) h)).log ≡ (state_of h).log
+pub log_after : (ns : List ℤ) (h : Trace) → (state_of (after_all (removing_snapshots ns) h)).log ≡ (state_of h).log
 log_after [] h = refl
 log_after (m ∷ ns) h = log_after ns (SnapshotRemoved m true ∷ h)
 
-pub blobs_after : (ns : List ℤ) (h : Trace) → (state_of (after_all (removing ns) h)).blobs ≡ (state_of h).blobs
+pub blobs_after : (ns : List ℤ) (h : Trace) → (state_of (after_all (removing_snapshots ns) h)).blobs ≡ (state_of h).blobs
 blobs_after [] h = refl
 blobs_after (m ∷ ns) h = blobs_after ns (SnapshotRemoved m true ∷ h)
 

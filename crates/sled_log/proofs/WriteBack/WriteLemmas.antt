@@ -9,7 +9,7 @@ use Rattle.sled_store.specs.Script.{Performs, after_all}
 use Rattle.sled_log.specs.Recovery.{RecoveryResult, Outcome, Recovers}
 use Rattle.sled_log.specs.Restores.{TakesForDamage}
 use Rattle.sled_log.specs.WritesBack.{HasPublished, Publishes, HasCommitted, CommitsBehind, HasForgotten, Forgets, HasWrittenBack, WritesBack, WritesBehind, FitsIfNew, AreOthersIfNew, IsOnlySnapshot, IsWrittenBack}
-use Rattle.sled_log.specs.WritesBack.{short_file, snapshot_number_of, publishing_file, publishing, removing, shredding, committing, forgetting, forgotten_from, writing_back, AreOthers, MayBeRemoved, after_shredding, after_zeroing}
+use Rattle.sled_log.specs.WritesBack.{short_file, snapshot_number_of, publishing_file, publishing, removing_snapshots, shredding, committing, forgetting, forgotten_from, writing_back, AreOthers, MayBeRemoved, after_shredding, after_zeroing}
 use Rattle.sled_store.proofs.Traces.ScriptLemmas.{after_joined, performs_whole, performs_behind}
 use Rattle.sled_log.proofs.SnapshotFile.OtherLemmas.{file_at, same_name, other_name, same_others, missing_after, gone_after, kept_after, log_after, blobs_after}
 use Rattle.sled_log.proofs.WriteBack.ForgetLemmas.{forgotten_log, forgotten_snapshots, forgotten_none, forgotten_below}
@@ -33,13 +33,13 @@ module _ (bytes : List ℕ) (number : ℤ) (h : Trace) where
   others_published n other = ap (λ (b : Bool). if b then Some bytes else file_at h n) (other_name number n (λ same. other (sym same)))
 
   -- then all others are removed
-  only_published : (ns : List ℤ) → AreOthers (file_at h) number ns → IsOnlySnapshot (file_at (after_all (removing ns) published)) number bytes
+  only_published : (ns : List ℤ) → AreOthers (file_at h) number ns → IsOnlySnapshot (file_at (after_all (removing_snapshots ns) published)) number bytes
   only_published ns are = record {
     own = kept_after number ns published (λ there. ((are.each number).0 there).1 refl) ∙ own_published;
     others = λ n other. by_file n other (file_at h n) refl;
   }
     where
-      by_file : (n : ℤ) → n ≢ number → (o : Option (List ℕ)) → file_at h n ≡ o → file_at (after_all (removing ns) published) n ≡ None
+      by_file : (n : ℤ) → n ≢ number → (o : Option (List ℕ)) → file_at h n ≡ o → file_at (after_all (removing_snapshots ns) published) n ≡ None
       by_file n other None is = missing_after n ns published (others_published n other ∙ is)
       by_file n other (Some file) is = gone_after n ns published ((are.each n).1 (ap is_some is, other))
 
@@ -91,9 +91,9 @@ written_as sum size x old new (ns, others, places, from, is) =
 
 -- What the steps that write back made of the device.
 module _ (sum : List ℕ → ℕ) (model : SnapshotModel) (file : List ℕ) (number : ℤ) (is_file : file ≡ short_file sum model) (is_number : number ≡ snapshot_number_of model) (old : Trace) where
-  same_calls : (ns : List ℤ) → publishing_file file number ++ removing ns ≡ publishing sum model ns
+  same_calls : (ns : List ℤ) → publishing_file file number ++ removing_snapshots ns ≡ publishing sum model ns
   same_calls ns =
-      ap (λ (b : List ℕ). publishing_file b number ++ removing ns) is_file ∙ ap (λ (n : ℤ). publishing_file (short_file sum model) n ++ removing ns) is_number
+      ap (λ (b : List ℕ). publishing_file b number ++ removing_snapshots ns) is_file ∙ ap (λ (n : ℤ). publishing_file (short_file sum model) n ++ removing_snapshots ns) is_number
 
   module _ (mid new : Trace) (came : mid ≡ after_all (publishing_file file number) old) where
     others_before : (ns : List ℤ) → AreOthers (file_at mid) number ns → AreOthers (file_at old) (snapshot_number_of model) ns
@@ -102,14 +102,14 @@ module _ (sum : List ℕ → ℕ) (model : SnapshotModel) (file : List ℕ) (num
         (same_others (file_at mid) (file_at old) number ns (λ n other. ap (λ (h : Trace). file_at h n) came ∙ others_published file number old n other) are)
 
     -- then the others were removed
-    pub has_published : (numbers : List ℤ) × AreOthers (file_at mid) number numbers × (new ≡ after_all (removing numbers) mid) → HasPublished sum model old new
+    pub has_published : (numbers : List ℤ) × AreOthers (file_at mid) number numbers × (new ≡ after_all (removing_snapshots numbers) mid) → HasPublished sum model old new
     has_published (ns, are, is) =
-        (ns, others_before ns are, is ∙ ap (after_all (removing ns)) came ∙ ap (λ (es : List Event). after_all es old) (same_calls ns))
+        (ns, others_before ns are, is ∙ ap (after_all (removing_snapshots ns)) came ∙ ap (λ (es : List Event). after_all es old) (same_calls ns))
 
     -- as far as that came
-    pub publishes : FitsSnapshot model → (numbers : List ℤ) × MayBeRemoved (file_at mid) number numbers × Performs (removing numbers) mid new → Publishes sum model old new
+    pub publishes : FitsSnapshot model → (numbers : List ℤ) × MayBeRemoved (file_at mid) number numbers × Performs (removing_snapshots numbers) mid new → Publishes sum model old new
     publishes fits (ns, may, calls) =
-        inr (fits, ns, before may, subst (λ (es : List Event). Performs es old new) (same_calls ns) (performs_behind (publishing_file file number) (removing ns) old mid new came calls))
+        inr (fits, ns, before may, subst (λ (es : List Event). Performs es old new) (same_calls ns) (performs_behind (publishing_file file number) (removing_snapshots ns) old mid new came calls))
       where
         before : MayBeRemoved (file_at mid) number ns → MayBeRemoved (file_at old) (snapshot_number_of model) ns
         before (inl none) = inl none

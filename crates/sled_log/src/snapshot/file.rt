@@ -12,7 +12,7 @@ ghost use Rattle.sled_store.specs.Causes.{DeviceAnswers};
 ghost use Rattle.sled_core.specs.Keeps.{OnlyReads};
 ghost use Rattle.sled_store.specs.SnapshotFiles.{IsSnapshotFile, BeginsFrom};
 ghost use Rattle.sled_store.specs.SnapshotFiles.{IsDamagedSnapshot};
-ghost use Rattle.sled_log.specs.WritesBack.{publishing_file, removing, others, AreOthers, MayBeRemoved};
+ghost use Rattle.sled_log.specs.WritesBack.{publishing_file, removing_snapshots, others, AreOthers, MayBeRemoved};
 
 use sled_codec::result::{Error, Result};
 use sled_codec::serialization::{Checksum, Snapshot};
@@ -95,9 +95,9 @@ pub(crate) fn publish<D: Device>(device: &mut D, bytes: &[u8], number: i64) -> R
 /// Removes all snapshots but the one of a number. After a failure some of them may be left.
 pub(crate) fn remove_others<D: Device>(device: &mut D, kept: i64) -> Result<()>
     ensures done { OnOk result ((numbers : List ℤ) × AreOthers (state_of (D.trace device.old)).snapshots.file kept numbers
-        × (D.trace device.new ≡ after_all (removing numbers) (D.trace device.old))) }
+        × (D.trace device.new ≡ after_all (removing_snapshots numbers) (D.trace device.old))) }
     ensures calls { (numbers : List ℤ) × MayBeRemoved (state_of (D.trace device.old)).snapshots.file kept numbers
-        × Performs (removing numbers) (D.trace device.old) (D.trace device.new) }
+        × Performs (removing_snapshots numbers) (D.trace device.old) (D.trace device.new) }
     ensures answers { DeviceAnswers result (D.faults device.old) (D.faults device.new) }
     ensures readable { IsCorruption result → ⊥ }
 {
@@ -107,8 +107,8 @@ pub(crate) fn remove_others<D: Device>(device: &mut D, kept: i64) -> Result<()>
 
 /// Removes the snapshots of these numbers, but the one that is kept.
 fn remove_listed<D: Device>(device: &mut D, numbers: &[i64], kept: i64) -> Result<()>
-    ensures done { OnOk result (D.trace device.new ≡ after_all (removing (others kept numbers.now)) (D.trace device.old)) }
-    ensures calls { Performs (removing (others kept numbers.now)) (D.trace device.old) (D.trace device.new) }
+    ensures done { OnOk result (D.trace device.new ≡ after_all (removing_snapshots (others kept numbers.now)) (D.trace device.old)) }
+    ensures calls { Performs (removing_snapshots (others kept numbers.now)) (D.trace device.old) (D.trace device.new) }
     ensures answers { DeviceAnswers result (D.faults device.old) (D.faults device.new) }
     ensures readable { IsCorruption result → ⊥ }
 {
@@ -120,8 +120,8 @@ fn remove_listed<D: Device>(device: &mut D, numbers: &[i64], kept: i64) -> Resul
 
 /// Removes the snapshot of a number, unless that is the one that is kept.
 fn remove_other<D: Device>(device: &mut D, number: &i64, kept: i64) -> Result<()>
-    ensures done { OnOk result (D.trace device.new ≡ after_all (removing (others kept (number.now ∷ []))) (D.trace device.old)) }
-    ensures calls { Performs (removing (others kept (number.now ∷ []))) (D.trace device.old) (D.trace device.new) }
+    ensures done { OnOk result (D.trace device.new ≡ after_all (removing_snapshots (others kept (number.now ∷ []))) (D.trace device.old)) }
+    ensures calls { Performs (removing_snapshots (others kept (number.now ∷ []))) (D.trace device.old) (D.trace device.new) }
     ensures answers { DeviceAnswers result (D.faults device.old) (D.faults device.new) }
     ensures readable { IsCorruption result → ⊥ }
 {

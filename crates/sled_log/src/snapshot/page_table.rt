@@ -3,7 +3,7 @@ ghost use Rattle.std.specs.Prelude.{◌≡◌, ◌+◌, ◌-◌, ◌^◌, ◌≤
 ghost use Rattle.std.specs.List.{All};
 ghost use Rattle.sled_codec.specs.Errors.{IsCorruption, IsDecodeError};
 ghost use Rattle.sled_codec.specs.Snapshots.{Entry, Page, Uninitialized, page_of};
-ghost use Rattle.sled_log.specs.Recovery.{table_with, table_of, applied_of, grown, linked, last_entry, given, before_open, open_at, has_no_table, are_whole, is_whole_page};
+ghost use Rattle.sled_log.specs.Recovery.{table_with, table_of, applied_of, grown, with_fragment, last_entry, given, before_open, open_at, has_no_table, are_whole, is_whole_page};
 
 use sled_codec::result::{Error, PageId, Result};
 use sled_codec::serialization::LogKind;
@@ -114,7 +114,7 @@ fn grow(pages: &mut Vec<PageState>, len: usize) -> Result<()>
 /// Puts a Link on a page, where it has one.
 fn link(pages: &mut Vec<PageState>, page: PageId, entry: Entry) -> Result<()>
     ensures table { OnOk result (map page_of pages.new.items ≡ grown
-        (set (map page_of pages.old.items) page (linked (get_or (map page_of pages.old.items) page Uninitialized) entry)) page) }
+        (set (map page_of pages.old.items) page (with_fragment (get_or (map page_of pages.old.items) page Uninitialized) entry)) page) }
     ensures err { IsOkUnless result Error.OutOfMemory }
 {
     match pages.get_mut(page as usize) {
@@ -125,7 +125,7 @@ fn link(pages: &mut Vec<PageState>, page: PageId, entry: Entry) -> Result<()>
 
 /// Puts a Link on a page, where it lies behind all that the page has.
 fn link_to(state: &mut PageState, entry: Entry) -> Result<()>
-    ensures table { OnOk result (page_of state.new ≡ linked (page_of state.old) entry) }
+    ensures table { OnOk result (page_of state.new ≡ with_fragment (page_of state.old) entry) }
     ensures err { IsOkUnless result Error.OutOfMemory }
 {
     match state {

@@ -8,7 +8,7 @@ ghost use Rattle.sled_store.specs.Blobs.{OnDamage};
 ghost use Rattle.sled_store.specs.Device.{state_of};
 ghost use Rattle.sled_core.specs.Causes.{ItemAnswersOver};
 ghost use Rattle.sled_core.specs.Keeps.{OnlyReads};
-ghost use Rattle.sled_log.specs.Recovery.{AreClosed, Scanned, begun_below, IsDamagedPass, Recovered, Damaged, outcome_of, NamesKind, MeetsBadBlob, NamesBadBlob, resolved_scan, before_open, slots_of};
+ghost use Rattle.sled_log.specs.Recovery.{AreClosed, Scanned, begun_below, IsDamagedPass, Recovered, Damaged, outcome_of, NamesKind, MeetsBadBlob, NamesBadBlob, resolved_scan, before_open, slots_in_order};
 ghost use Rattle.sled_log.specs.WritesBack.{result_of};
 ghost use Rattle.sled_log.specs.Passes.{CanAllBeRead, FitsStop, GetBlobs, GoesOnBehind, HasKinds, HasMade, IsBadPass, IsPass, IsReplay, IsSoFar, MeetsBadPass, NamesBadPass, pass_of, up_to_open};
 
@@ -280,9 +280,9 @@ pub(crate) fn outcome_of(
     requires stop { FitsStop size replay.stop }
     requires long { replay.count ≤ length segments.now }
     ensures ok { (end : ℕ) (first : SnapshotModel) (passes : List Scanned) → HasMade end first passes replay
-        → IfOk result (λ x. outcome_of size first end passes (slots_of (drop (length passes) segments.now)) ≡ Recovered (result_of x)) }
+        → IfOk result (λ x. outcome_of size first end passes (slots_in_order (drop (length passes) segments.now)) ≡ Recovered (result_of x)) }
     ensures corrupt { (end : ℕ) (first : SnapshotModel) (passes : List Scanned) → HasMade end first passes replay
-        → IsCorruption result → outcome_of size first end passes (slots_of (drop (length passes) segments.now)) ≡ Damaged None }
+        → IsCorruption result → outcome_of size first end passes (slots_in_order (drop (length passes) segments.now)) ≡ Damaged None }
     ensures errors { IfErr result IsDecodeError }
 {
     let unread = slots_of(alloc, &segments[replay.count..])?;
@@ -305,7 +305,7 @@ pub(crate) fn outcome_of(
 
 /// The slots of these segments.
 pub(crate) fn slots_of(alloc: Global, segments: &[Segment]) -> Result<Vec<LogOffset>>
-    ensures slots { IfOk result (λ v. v.items ≡ slots_of segments.now) }
+    ensures slots { IfOk result (λ v. v.items ≡ slots_in_order segments.now) }
     ensures err { IsOkUnless result Error.OutOfMemory }
 {
     let mut slots = Vec::new(alloc);

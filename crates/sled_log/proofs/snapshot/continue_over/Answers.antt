@@ -8,7 +8,7 @@ use Rattle.sled_store.specs.declared.config.Config.{Config}
 use Rattle.sled_store.specs.Device.{Trace, state_of}
 use Rattle.sled_log.specs.declared.snapshot.recovery.Recovery.{Recovery}
 use Rattle.sled_log.specs.declared.snapshot.tail.Tail.{Tail}
-use Rattle.sled_log.specs.Recovery.{Scanned, is_ascending, ContinuesFrom, unchanged, slots_of, greatest_mark, Recovered, Damaged, least_place}
+use Rattle.sled_log.specs.Recovery.{Scanned, is_ascending, ContinuesFrom, unchanged, slots_in_order, greatest_mark, Recovered, Damaged, least_place}
 use Rattle.sled_log.specs.Passes.{CanBeRead, ContinuesOn, NamesBadTail, PassesBehind, pass_of}
 use Rattle.sled_log.specs.WritesBack.{result_of}
 use Rattle.sled_log.proofs.Passes.Ascending.{ascends_behind}
@@ -105,7 +105,7 @@ returns-in_ok-slots_of-in-None-clause-ok g c =
     let blobs : ℤ → Option (List ℕ) = (state_of old).blobs.file in
     let ss : List Segment = c.args.segments.now in
     let first : SnapshotModel = model_of c.args.first in
-    let is : result_of c.unchanged.result ≡ unchanged first (slots_of ss) = c.unchanged.ensures ∙ ap (unchanged first) c.in_ok-slots_of-in-None.ensures.slots in
+    let is : result_of c.unchanged.result ≡ unchanged first (slots_in_order ss) = c.unchanged.ensures ∙ ap (unchanged first) c.in_ok-slots_of-in-None.ensures.slots in
     subst (λ x. ContinuesFrom sum size log blobs first (Recovered x)) (sym is)
     (behind_unchanged sum size log blobs first ss c.requires.ordering c.tail_begins-begin.ensures c.stable_place.ensures.place
     c.count_below-from.result (map pass_of c.in-Ok.tail.passes.items) c.count_below-from.ensures.below c.in-Ok.ensures.tail

@@ -4,7 +4,7 @@ use Rattle.std.specs.Int.{w64, cast_signed, cast_unsigned}
 use Rattle.std.proofs.lemmas.Int.{to_z-of_z}
 use Rattle.sled_store.specs.Device.{Trace}
 use Rattle.sled_store.specs.Script.{Performs, after_all}
-use Rattle.sled_log.specs.WritesBack.{removing, others}
+use Rattle.sled_log.specs.WritesBack.{removing_snapshots, others}
 use Rattle.sled_store.proofs.Traces.ScriptLemmas.{performs_whole}
 use Rattle.sled_log.proofs.SnapshotFile.RemovalLemmas.{removed_more, removals_begun}
 use Rattle.sled_log.proofs.snapshot.file.remove_listed.Goals as goal
@@ -14,7 +14,7 @@ returns-in_err-remove_other-clause-calls g c =
     let kept : ℤ = cast_signed w64 (cast_unsigned w64 c.args.kept) in
     let old : Trace = g.D.Device.trace c.args.device.now in
     let new : Trace = g.D.Device.trace c.remove_other.new.device in
-    subst (λ (k : ℤ). Performs (removing (others k c.args.numbers.now)) old new) (to_z-of_z w64 c.args.kept c.ranges.kept)
+    subst (λ (k : ℤ). Performs (removing_snapshots (others k c.args.numbers.now)) old new) (to_z-of_z w64 c.args.kept c.ranges.kept)
     (removals_begun kept c.args.numbers.now c.loop-number.number-index (pos 0) c.loop-number-test.true old (g.D.Device.trace c.loop-number.device) new c.loop-number.invariant.removed c.remove_other.ensures.calls)
 
 pub loop-number-preserved : goal.loop-number-preserved
@@ -31,6 +31,6 @@ returns-clause-calls g c =
     let old : Trace = g.D.Device.trace c.args.device.now in
     let new : Trace = g.D.Device.trace c.loop-number.device in
     let whole : take c.loop-number.number-index ns ≡ ns = take_all c.loop-number.number-index ns c.loop-number-test.false in
-    subst (λ (k : ℤ). Performs (removing (others k ns)) old new) (to_z-of_z w64 c.args.kept c.ranges.kept)
-    (performs_whole (removing (others (cast_signed w64 (cast_unsigned w64 c.args.kept)) ns)) old new
-    (subst (λ (l : List ℤ). new ≡ after_all (removing (others (cast_signed w64 (cast_unsigned w64 c.args.kept)) l)) old) whole c.loop-number.invariant.removed))
+    subst (λ (k : ℤ). Performs (removing_snapshots (others k ns)) old new) (to_z-of_z w64 c.args.kept c.ranges.kept)
+    (performs_whole (removing_snapshots (others (cast_signed w64 (cast_unsigned w64 c.args.kept)) ns)) old new
+    (subst (λ (l : List ℤ). new ≡ after_all (removing_snapshots (others (cast_signed w64 (cast_unsigned w64 c.args.kept)) l)) old) whole c.loop-number.invariant.removed))

@@ -6,7 +6,7 @@ use Rattle.sled_codec.specs.Snapshots.{SnapshotModel, model_of}
 use Rattle.sled_store.specs.declared.config.Config.{Config}
 use Rattle.sled_store.specs.Device.{Trace, state_of}
 use Rattle.sled_log.specs.declared.snapshot.recovery.Recovery.{Recovery}
-use Rattle.sled_log.specs.Recovery.{ContinuesFrom, unchanged, slots_of, IsTail, IsDamagedTail, Passes, Recovered, Damaged, least_place}
+use Rattle.sled_log.specs.Recovery.{ContinuesFrom, unchanged, slots_in_order, IsTail, IsDamagedTail, Passes, Recovered, Damaged, least_place}
 use Rattle.sled_log.specs.Passes.{CanBeRead}
 use Rattle.sled_log.specs.WritesBack.{result_of}
 use Rattle.sled_log.proofs.Passes.DamageNames.{damage_as, damage_so}
@@ -73,7 +73,7 @@ returns-in_ok-slots_of-in-Ok-None-clause-ok g c =
     let first : SnapshotModel = model_of c.args.first in
     let begins = begins_there size c.stable_place.result c.tail_begins.result first ss c.tail_begins.ensures c.stable_place.ensures.place in
     let tail = c.in-Ok-None.ensures.end in
-    let is : result_of c.unchanged.result ≡ unchanged first (slots_of ss) = c.unchanged.ensures ∙ ap (unchanged first) c.in_ok-slots_of-in-Ok-None.ensures.slots in
+    let is : result_of c.unchanged.result ≡ unchanged first (slots_in_order ss) = c.unchanged.ensures ∙ ap (unchanged first) c.in_ok-slots_of-in-Ok-None.ensures.slots in
     subst (λ x. ContinuesFrom g.C.Checksum.sum_of size log blobs first (Recovered x)) (sym is)
     (comes_unchanged g.C.Checksum.sum_of size log blobs first ss c.requires.ordering tail.0 (subst (λ n. IsTail g.C.Checksum.sum_of size log ss n tail.0) begins tail.1) tail.2 (tail.3 ∙ c.in-Ok-None.field-0-is))
 
