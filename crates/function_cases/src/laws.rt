@@ -102,6 +102,7 @@ fn laws_of_logs() {
     log_laws::a_history_can_be_split_by_pages();
     log_laws::histories_stay_orderly();
     log_laws::what_a_crash_leaves_can_be_gone_on_from::<PlaceSum>();
+    log_laws::what_a_step_means::<MemDevice, PlaceSum>();
 }
 
 // The laws of the segments that come back.
