@@ -172,7 +172,8 @@ fn require_startable<D: Device, C: Checksum>(
     config: &mut RunningConfig<D, C>,
     snapshot: &Snapshot,
 ) -> Result<()>
-    ensures startable { OnOk result (IsStartable config.old.config.segment_size (length (state_of (D.trace config.old.device)).log.bytes) (model_of snapshot.now)) }
+    ensures startable { let len = length (state_of (D.trace config.old.device)).log.bytes in
+        OnOk result (IsStartable config.old.config.segment_size len (model_of snapshot.now)) }
     ensures corrupt { let len = length (state_of (D.trace config.old.device)).log.bytes in
         IsCorruption result → IsStartable config.old.config.segment_size len (model_of snapshot.now) → ⊥ }
     ensures answers { DeviceAnswers result (D.faults config.old.device) (D.faults config.new.device) }
